@@ -29,6 +29,7 @@ from worked import examples_of
 
 REPLAYS = "the history replays"
 UNREADABLE = "not PHASE NUMBER WORKER INDEX TEXT and a line feed"
+READ_AT_ONCE = 1 << 16
 LARGE = Options(workers=16, joined=4096, split=4096, threshold=64)
 FEW = Options(workers=2, users=10, categories=2)
 SMALL_ENGINE = [sys.executable, "-B", EXAMPLES / "small_engine.py"]
@@ -244,6 +245,21 @@ def malformed_lines(tester: Tester) -> None:
     tester.finds("a byte after the last line", SCRIPTS, whole + b"0", f"line 21: {UNREADABLE}")
 
 
+def across_reads(tester: Tester) -> None:
+    """lines across the end of what is read at once, right ones and changed ones"""
+    views = 4_000
+    right = [f"0 0 0 {index} latest" for index in range(views)]
+    at = next(number for number in range(views) if len(lines(right[:number])) > READ_AT_ONCE - 36)
+    start, line, scripts = len(lines(right[:at])), right[at], b"0,viewcategory,0\n" * views
+    for before in range(len(line) + 2):
+        # Longer numbers in the line before this one let it begin so many bytes before the end.
+        more = READ_AT_ONCE - before - start
+        longer = f"{10 ** min(more, 19)} {10 ** max(more - 19, 0)} 0 {at - 1} latest"
+        for text, found in ((line, REPLAYS), (line + " 1:0.0", f"line {at + 1}: 0,{at} latest 1:0.0 but latest was due")):
+            history = lines([*right[: at - 1], longer, text, *right[at + 1 :]])
+            tester.finds(f"{before} bytes of a line before the end of a read, {text!r}", scripts, history, found)
+
+
 def orders(tester: Tester) -> None:
     """what may stand in any order, with stores first, and in the order of scripts"""
     contended = (EXAMPLES / "contended.csv").read_bytes()
@@ -417,6 +433,7 @@ CHECKS = (
     worked_examples,
     by_hand,
     malformed_lines,
+    across_reads,
     orders,
     opening_rows,
     faults,

@@ -1,6 +1,6 @@
 #!/usr/bin/env python3
 """Shows what the built program does where its ends fail, as docs/FORMATS.md says: output that cannot be written, input that cannot be read, threads
-that do not start.
+that do not start, a small stack.
 
     tests/ends.py [PROGRAM]
 
@@ -194,11 +194,19 @@ def require_no_fork() -> None:
     raise OSError("the limit does not hold")
 
 
+def small_stacks(tester: Tester) -> None:
+    """a stack of 128 KB"""
+    options = Options(workers=2, split=2)
+    got = tester.run(tester.example, options, preexec_fn=lambda: resource.setrlimit(resource.RLIMIT_STACK, (128 << 10, 128 << 10)))
+    tester.same("a stack of 128 KB", got, expected(tester.example, options))
+
+
 CHECKS = (
     full_disks,
     closed_ends,
     full_pipes,
     file_size_limits,
+    small_stacks,
     cut_writes,
     unreadable_inputs,
     cut_reads,

@@ -253,6 +253,29 @@ def options_are_refused(tester: Tester, *words: str | bytes, why: bytes = b"") -
     tester.tally.check(bool(right), f"options {str(words):.60} are refused: {described(got)}")
 
 
+def numbers_without_words(tester: Tester) -> None:
+    """what each option is without its word"""
+    rows = b"".join(b"0,+item,0,0,Vase%d,1,100,1\n" % item for item in range(12))
+    bids = b"".join(b"0,bid,0,0.%d,%d,5\n" % (item, bid + 1) for item in range(12) for bid in range(item))
+    views = b"0,viewuser,99\n0,viewuser,100\n0,viewcategory,9\n0,viewcategory,10\n"
+    for joined, option in product((3, 66), OPTION_LIMITS):
+        others = Options(joined=joined, split=70, threshold=1, hot=64, users=5, categories=2, history=True, report=True)
+        words = [word for word in others.words() if not word.startswith(f"--{option}=")]
+        wanted = expected(rows + bids + views, replace(others, **{option: getattr(Options(), option)}))
+        tester.same(f"no --{option} beside {words}", run([tester.program, *words], rows + bids + views), wanted)
+
+
+def words_in_both_forms(tester: Tester) -> None:
+    """numbers after an equals sign and after a space, a flag, and the name of a log"""
+    replies = b"15,0,refused 1 NoSuchUser\n15,1,latest\n"
+    report = b"phases 1\nrequests 2\nrefused 1\n" + b"".join(b"category %d latest\n" % number for number in range(10))
+    for words, text in ((["--report"], replies + report), (["--log", "rows.csv"], replies)):
+        words = ["--workers", "16", "--users=0", *words]
+        got = run([tester.program, *words], b"15,viewuser,0\n15,viewcategory,9\n", cwd=tester.folder)
+        tester.same(f"{words}", got, Outcome(0, text, b""))
+    tester.tally.check((tester.folder / "rows.csv").read_bytes() == b"", "a log of no rows")
+
+
 def reasons_of_options(tester: Tester) -> None:
     """why options are refused"""
     options_are_refused(tester, "--workers=17", why=b"17 is not in 1..=16")
@@ -444,6 +467,8 @@ CHECKS = (
     numbers_in_fields,
     stars,
     numbers_in_options,
+    numbers_without_words,
+    words_in_both_forms,
     reasons_of_options,
     odd_words,
     help_and_version,

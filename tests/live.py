@@ -105,14 +105,14 @@ def faulty_lines(tester: Tester) -> None:
         data = f"0,viewuser,0\n{line}\n0,viewuser,0\n".encode()
         first, answer, last = f"0,0,{SEEN}\n", f"0,1,fault record 2: {words}\n", f"0,1,{SEEN}\n"
         told = f"rubis_auction: record 2: {words}\n"
-        for options in (("--live", "1"), ("--live", "1000"), ("--live", "1000", "--faults", "answer")):
+        for options in (("--live", "1"), ("--live", "1", "--faults", "answer"), ("--live", "1000"), ("--live", "1000", "--faults", "answer")):
             got = run([tester.program, *options], data)
             wanted = (first + answer + last, "") if is_named else (first + last, told)
             tester.tally.check((got.status, got.stdout.decode(), got.stderr.decode()) == (0, *wanted), f"{line[:40]!r} with {options}: {described(got)}")
         got = run([tester.program, "--live", "1000", "--history"], data)
         tester.tally.check((got.status, got.stdout.count(b"\n"), got.stderr.decode()) == (0, 2, told), f"{line[:40]!r} with --history: {described(got)}")
         log = tester.folder / "ended"
-        for ends in (["--live", "1000", *ENDS], ["--log", log], ["--log", log, *ENDS]):
+        for ends in (["--live", "1", *ENDS], ["--live", "1000", *ENDS], ["--log", log], ["--log", log, *ENDS]):
             log.unlink(missing_ok=True)
             got = run([tester.program, *ends], data)
             tester.tally.check((got.status, got.stdout.decode(), got.stderr.decode()) == (2, first, told), f"{line[:40]!r} with {ends}: {described(got)}")

@@ -214,8 +214,9 @@ def quick_starts(tester: Tester) -> None:
 
 @with_shim
 def failing_logs(tester: Tester) -> None:
-    """a write, a sync, or a write and its cut of the log that fails, at each place: the fault, no reply of that part, and nothing answered is lost"""
-    for cause, limits in (("write", ("LOG_WRITE_FAILS",)), ("sync", ("LOG_SYNC_FAILS",)), ("write and cut", ("LOG_WRITE_FAILS", "LOG_CUT_FAILS"))):
+    """a write, a sync, or one of them and its cut of the log that fails, at each place: the fault, no reply of that part, and nothing answered is lost"""
+    causes = {"write": ("LOG_WRITE_FAILS",), "sync": ("LOG_SYNC_FAILS",), "write and cut": ("LOG_WRITE_FAILS", "LOG_CUT_FAILS"), "sync and cut": ("LOG_SYNC_FAILS", "LOG_CUT_FAILS")}
+    for cause, limits in causes.items():
         for number in range(1, 9):
             # The first cut and the first sync are those of the log's opening.
             limited = {name: str(2 if name == "LOG_CUT_FAILS" else number) for name in limits}
@@ -224,7 +225,7 @@ def failing_logs(tester: Tester) -> None:
             answered, fault = until_refused(auction, [FIRST[0], *(f"comment,{at},{at},0.0,1" for at in range(9))])
             what = f"{cause} {number} fails"
             tester.tally.check(fault == UNWRITTEN, f"{what}: {fault}")
-            lost_nothing(tester, what, log, answered, at_most=len(answered) + (cause == "write and cut"))
+            lost_nothing(tester, what, log, answered, at_most=len(answered) + cause.endswith("and cut"))
 
 
 @with_shim

@@ -18,8 +18,8 @@ use Rattle.program_opening.specs.Options.{commits_text, opening_asked, policy_of
 use Rattle.auction_program.specs.Execution.{added_text, Answers, IsAllowed, IsCausedBy, IsNotPerformed, IsNotRun, IsRefused, OfInput, Performs}
 use Rattle.auction_run.specs.Beginning.{HaveWorkers, HasShards, HasQuotas, AreShort}
 use Rattle.auction_run.specs.Phases.{HaveMetLastNumber, hot_sets}
-use Rattle.auction_run.specs.declared.checks.RunFault.{RunFault}
-use Rattle.auction_run.specs.declared.checks.RunFault.TheVariants as run
+use Rattle.auction_run.specs.RunFault.{RunFault}
+use Rattle.auction_run.specs.RunFault.TheVariants as run
 use Rattle.program_opening.specs.declared.faults.Fault.{Fault}
 use Rattle.program_opening.specs.declared.faults.Fault.TheVariants.{Usage, Read, Resume, Row, Make, Run, Limit, Write, Report, OpenLog, Log}
 use Rattle.program_opening.specs.declared.options.Options.{Options}

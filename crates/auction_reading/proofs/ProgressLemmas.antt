@@ -1,20 +1,21 @@
 -- How far an input is read, line by line.
-use Rattle.std.proofs.Common.{arith, ◌≡◌, ◌==◌, ◌&&◌, ◌<◌, ◌≤◌, ◌+◌, ◌∷◌, ◌++◌, ◌∙◌, [], ℕ, List, Bool, Option, Result, Ok, Err, true, false, drop, length, refl, sym, ap, append_assoc, if◌then◌else◌}
-use Rattle.std.proofs.lemmas.List.{append-nil, get_or-replicate, length-replicate}
+use Rattle.std.proofs.Common.{arith, ◌≡◌, ◌==◌, ◌&&◌, ◌<◌, ◌≤◌, ◌+◌, ◌∷◌, ◌++◌, ◌∙◌, [], ℕ, List, Bool, Option, Some, Result, Ok, Err, true, false, drop, length, refl, sym, ap, subst, append_assoc, if◌then◌else◌}
+use Rattle.std.proofs.lemmas.List.{append-nil}
 use Rattle.csv.specs.Reading.{default_config, records, strip_bom}
 use Rattle.csv.specs.declared.reader.Reader.{Reader}
 use Rattle.auction_reading.specs.declared.plain_text.Progress.{Progress}
-use Rattle.auction_reading.specs.declared.record.Record.{Record}
-use Rattle.auction_reading.specs.declared.inputs.CompactInput.{CompactInput}
-use Rattle.auction_reading.specs.declared.inputs.ReadFault.{ReadFault}
-use Rattle.auction_reading.specs.declared.inputs.TheConstants.{MOST_RECORDS}
-use Rattle.auction_reading.specs.Lines.{IsLine}
-use Rattle.auction_reading.specs.Progress.{HasAdded, IsReadUpTo, ReadsOn, unmarked}
-use Rattle.auction_reading.specs.Reading.{IsAtStart, nothing_asked}
-use Rattle.auction_reading.specs.Records.{and_then}
-use Rattle.auction_reading.specs.Scripts.{asked_of, input_of, read_records, records_of}
-use Rattle.auction_reading.proofs.LineLemmas.{feed_no_bom, none_in_none, records_after_feed}
-use Rattle.auction_reading.proofs.RecordsLeft.{left_all}
+use Rattle.record_reading.specs.declared.record.Record.{Record}
+use Rattle.record_reading.specs.declared.inputs.CompactInput.{CompactInput}
+use Rattle.record_reading.specs.declared.inputs.ReadFault.{ReadFault}
+use Rattle.record_reading.specs.declared.inputs.TheConstants.{MOST_RECORDS}
+use Rattle.record_reading.specs.Lines.{IsLine}
+use Rattle.auction_reading.specs.Progress.{HasAdded, IsAtStart, IsReadUpTo, ReadsOn, unmarked}
+use Rattle.record_reading.specs.Asking.{asked_of, nothing_asked}
+use Rattle.record_reading.specs.Records.{and_then}
+use Rattle.auction_reading.specs.Scripts.{input_of, read_records, records_of}
+use Rattle.record_reading.proofs.AskingLemmas.{ask_none}
+use Rattle.record_reading.proofs.LineLemmas.{feed_no_bom, none_in_none, records_after_feed}
+use Rattle.record_reading.proofs.RecordsLeft.{left_all}
 use Rattle.auction_reading.proofs.SoFar.{IsReading, so_far_all, so_far_more}
 
 -- before the first record
@@ -27,9 +28,7 @@ pub nothing_read : (workers : ℕ) (bytes : List ℕ) (input : CompactInput) →
 nothing_read workers bytes input empty = rw empty (record {
   said = [];
   read = then_all (read_records workers 1 false (records_of bytes));
-  rows_are = refl;
-  workers_are = length-replicate workers [];
-  script_of = λ w below. sym (get_or-replicate workers w [] [] below);
+  asks = ask_none workers;
 })
 
 -- where nothing is read, nothing changes
@@ -52,6 +51,16 @@ reads_on_before old new x y tail read = record {
   reads = λ workers bytes more up_to. rw append_assoc (read.reads workers bytes (tail ++ more) (rw append_assoc at up_to));
 }
 
+-- what is read once a buffer was filled on from a reader, and lines that it held are read
+pub reads_on_further : (first old new : Progress) (all before held to : List ℕ) (known next : Option (List ℕ))
+    → (left : List ℕ) × (known ≡ Some left) × ReadsOn first all old (before ++ left)
+    → ((left : List ℕ) → known ≡ Some left → (rest : List ℕ) × (next ≡ Some rest) × (before ++ left ≡ held ++ rest))
+    → ReadsOn old held new to → (rest : List ℕ) × (next ≡ Some rest) × ReadsOn first all new (to ++ rest)
+reads_on_further first old new all before held to known next (left, are, so_far) more read =
+    let (rest, now, same) = more left are in
+    let on : ReadsOn old (before ++ left) new (to ++ rest) = subst (λ (xs : List ℕ). ReadsOn old xs new (to ++ rest)) (sym same) (reads_on_before old new held to rest read) in
+    (rest, now, reads_on_then first old new all (before ++ left) (to ++ rest) so_far on)
+
 -- what is read up to all bytes of an input
 pub read_on_alone : (workers : ℕ) (bytes : List ℕ) (old new : Progress) (from to : List ℕ) → ReadsOn old from new to → IsReadUpTo workers bytes old from → IsReadUpTo workers bytes new to
 read_on_alone workers bytes old new from to read up_to = rw (append-nil to) at (read.reads workers bytes [] (rw (append-nil from) up_to))
@@ -70,7 +79,7 @@ reads_on_line old new text at said next line added room below early = record {
       let source = drop at text ++ more in
       let is : unmarked old.count source ≡ source = same_if (old.count == 0) (strip_bom source) source (line.unmarked more) in
       let some : (old.count + 1 == 0) ≡ false = grind arith in
-      let many : length old.input.scripts.items ≡ workers = up_to.workers_are in
+      let many : length old.input.scripts.items ≡ workers = up_to.asks.workers_are in
       let few : said.worker < workers = omega arith in
       let one = so_far_more workers (records_of bytes) old.count old.begun line.fields (records default_config (drop next text ++ more)) (asked_of old.input) said (rw (is, line.reads more) at up_to) room
       (line.says workers (old.count + 1) old.begun few early) few in

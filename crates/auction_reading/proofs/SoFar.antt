@@ -1,23 +1,20 @@
 -- What the records that were read ask for, and the records that are left.
-use Rattle.std.proofs.Common.{◌≡◌, ◌<◌, ◌≤◌, ◌+◌, ◌∷◌, ◌∙◌, ◌++◌, ◌||◌, not, ℕ, Bool, true, false, List, [], Option, Some, None, Result, Ok, Err, length, map, IfSome, refl, sym, ap, arith, ◌==◌, nat_lt, get_or, append_assoc, ◌≢◌, inl, inr, get_or-set_other, get_or-set_same}
+use Rattle.std.proofs.Common.{◌≡◌, ◌<◌, ◌≤◌, ◌+◌, ◌∷◌, ◌∙◌, ◌++◌, ◌||◌, not, ℕ, Bool, true, false, List, [], Option, Some, Result, Ok, Err, refl, sym, ap, arith, nat_lt, append_assoc}
 use Rattle.std.proofs.lemmas.Grind.{common_steps}
-use Rattle.std.proofs.lemmas.Bool.{cases_Bool, eqb-true, eq-eqb, false≢true}
-use Rattle.std.proofs.lemmas.List.{append-nil, ext_get_or, length-set}
-use Rattle.std.proofs.lemmas.List.Elements.{filter_map-append}
-use Rattle.std.proofs.lemmas.List.FromFn.{get_or-map-range_with_len, length-map-range_with_len}
-use Rattle.std.specs.List.{range_with_len}
+use Rattle.std.proofs.lemmas.List.{append-nil}
 use Rattle.csv.specs.Reading.{ReadRecord, default_config, source_of}
 use Rattle.csv.specs.declared.reader.Reader.{Reader}
-use Rattle.auction_reading.specs.declared.inputs.TheConstants.{MOST_RECORDS}
-use Rattle.auction_reading.specs.declared.inputs.ReadFault.{ReadFault}
-use Rattle.auction_reading.specs.declared.inputs.ReadFault.TheVariants as fault
-use Rattle.auction_reading.specs.declared.record.Record.{Record}
-use Rattle.auction_reading.specs.Reading.{with_record}
-use Rattle.auction_reading.specs.Records.{and_then, read_record}
-use Rattle.auction_reading.specs.Scripts.{Asked, asked_in, input_of, read_records, records_of, request_by, row_in, rows, script}
+use Rattle.record_reading.specs.declared.inputs.TheConstants.{MOST_RECORDS}
+use Rattle.record_reading.specs.declared.inputs.ReadFault.{ReadFault}
+use Rattle.record_reading.specs.declared.inputs.ReadFault.TheVariants as fault
+use Rattle.record_reading.specs.declared.record.Record.{Record}
+use Rattle.record_reading.specs.Asking.{Asked, asked_in, with_record}
+use Rattle.record_reading.specs.Records.{and_then, read_record}
+use Rattle.auction_reading.specs.Scripts.{input_of, read_records, records_of}
 use Rattle.auction_reading.specs.Progress.{SoFar}
-use Rattle.auction_reading.specs.RecordsLeft.{Left}
-use Rattle.auction_reading.proofs.RecordsLeft.{read_end, read_more}
+use Rattle.record_reading.specs.RecordsLeft.{Left}
+use Rattle.record_reading.proofs.AskingLemmas.{ask_is, ask_more}
+use Rattle.record_reading.proofs.RecordsLeft.{read_end, read_more}
 
 one_before : (r : Result (List Record) ReadFault) (said : List Record) (first : Record)
     → and_then (and_then r (λ others. Ok (first ∷ others))) (λ others. Ok (said ++ others)) ≡ and_then r (λ others. Ok ((said ++ (first ∷ [])) ++ others))
@@ -27,48 +24,17 @@ one_before (Err f) said first = refl
 not_past : (m n : ℕ) → n ≤ m → nat_lt m n ≡ false
 not_past m n h = grind (arith, common_steps)
 
--- one more record adds its row
-pub rows_more : (said : List Record) (first : Record) (asked : Asked) → rows said ≡ asked.rows → rows (said ++ (first ∷ [])) ≡ (with_record first asked).rows
-rows_more said first asked are = elim (cases_Bool first.is_row) [
-  | inl row ↦ rw (filter_map-append row_in said (first ∷ []), row, are) refl
-  | inr request ↦ rw (filter_map-append row_in said (first ∷ []), request, are, append-nil asked.rows) refl
-]
-
--- and its request to its own worker's script
-pub script_more : (said : List Record) (first : Record) (asked : Asked) (w : ℕ) → first.worker < length asked.scripts
-    → script w said ≡ get_or asked.scripts w [] → script w (said ++ (first ∷ [])) ≡ get_or (with_record first asked).scripts w []
-script_more said first asked w within are = elim (cases_Bool first.is_row) [
-  | inl row ↦ rw (filter_map-append (request_by w) said (first ∷ []), row, are, append-nil (get_or asked.scripts w [])) refl
-  | inr request ↦ elim (cases_Bool (first.worker == w)) [
-    | inl same ↦
-        let at : first.worker ≡ w = eqb-true first.worker w same in
-        rw (filter_map-append (request_by w) said (first ∷ []), request, same, are, ← at, get_or-set_same asked.scripts first.worker (get_or asked.scripts first.worker [] ++ (first.request ∷ [])) [] within) refl
-    | inr other ↦
-        let not_at : w ≢ first.worker = λ e. false≢true (sym other ∙ eq-eqb first.worker w (sym e)) in
-        rw (filter_map-append (request_by w) said (first ∷ []), request, other, are, append-nil (get_or asked.scripts w []), get_or-set_other asked.scripts first.worker w (get_or asked.scripts first.worker [] ++ (first.request ∷ [])) [] not_at) refl
-  ]
-]
-
-pub count_more : (first : Record) (asked : Asked) → length (with_record first asked).scripts ≡ length asked.scripts
-count_more first asked = elim (cases_Bool first.is_row) [
-  | inl row ↦ rw row refl
-  | inr request ↦ rw request (length-set asked.scripts first.worker _)
-]
-
 -- a record without a fault
 pub so_far_more : (workers : ℕ) (all : List (List (List ℕ))) (count : ℕ) (begun : Bool) (fields : List (List ℕ)) (rest : List (List (List ℕ))) (asked : Asked) (first : Record)
     → SoFar workers all count begun (fields ∷ rest) asked → count < MOST_RECORDS → read_record workers (count + 1) begun fields ≡ Ok first → first.worker < workers
     → SoFar workers all (count + 1) (begun || not first.is_row) rest (with_record first asked)
 unfolding read_records
 so_far_more workers all count begun fields rest asked first so_far room e below =
-    let fits : first.worker < length asked.scripts = rw so_far.workers_are below in
     let in_room : nat_lt MOST_RECORDS (count + 1) ≡ false = not_past MOST_RECORDS (count + 1) (omega arith) in
     record {
       said = so_far.said ++ (first ∷ []);
       read = so_far.read ∙ (rw (in_room, e) (one_before (read_records workers (count + 1 + 1) (begun || not first.is_row) rest) so_far.said first));
-      rows_are = rows_more so_far.said first asked so_far.rows_are;
-      workers_are = count_more first asked ∙ so_far.workers_are;
-      script_of = λ w inside. script_more so_far.said first asked w fits (so_far.script_of w inside);
+      asks = ask_more workers so_far.said first asked so_far.asks below;
     }
 
 -- the first record with a fault
@@ -93,11 +59,7 @@ unfolding read_records
 so_far_all workers all count begun asked so_far =
     let said = so_far.said in
     let read : read_records workers 1 false all ≡ Ok said = so_far.read ∙ ap Ok (append-nil said) in
-    let counts : length (map (λ w. script w said) (range_with_len 0 workers)) ≡ length asked.scripts = length-map-range_with_len (λ w. script w said) 0 workers ∙ sym so_far.workers_are in
-    let scripts : map (λ w. script w said) (range_with_len 0 workers) ≡ asked.scripts = ext_get_or [] _ _ counts (λ i h.
-    let below : i < workers = rw (length-map-range_with_len (λ w. script w said) 0 workers) at h in
-    get_or-map-range_with_len (λ w. script w said) 0 workers i i [] below (omega arith) ∙ so_far.script_of i below) in
-    let same : asked_in workers said ≡ asked = rw (so_far.rows_are, scripts) refl in
+    let same : asked_in workers said ≡ asked = sym (ask_is workers said asked so_far.asks) in
     rw (read, same) refl
 
 -- the reader's bytes from here on hold the records that are left
@@ -107,10 +69,6 @@ pub record IsReading {R : Type 0} (rem : R → Option (List ℕ)) (workers : ℕ
   pub rest : List (List (List ℕ))
   pub left : Left reader.state source rest
   pub so_far : SoFar workers (records_of bytes) count begun rest asked
-
-pub known_all : {Q : List ℕ → Type 0} (o : Option (List ℕ)) → ((bytes : List ℕ) → o ≡ Some bytes → Q bytes) → IfSome o Q
-known_all None f = tt
-known_all (Some bytes) f = f bytes refl
 
 -- a record without a fault
 pub reading_more : {R : Type 0} (rem : R → Option (List ℕ)) (workers : ℕ) (bytes : List ℕ) (count : ℕ) (begun : Bool) (a b : Reader R) (asked : Asked) (fields : List (List ℕ)) (said : Record)

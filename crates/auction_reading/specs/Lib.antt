@@ -1,15 +1,5 @@
-pub mod Fields
-pub mod Kinds
-pub mod LineBuffers
-pub mod Lines
-pub mod LiveLines
-pub mod LiveParts
-pub mod LiveReading
 pub mod Progress
-pub mod QuotedFields
-pub mod Reading
-pub mod Records
-pub mod RecordsLeft
 pub mod Scripts
-pub mod Taking
 pub mod UntilEnd
+pub use Rattle.record_reading.specs.Reading
+pub use Rattle.record_reading.specs.declared.record.Record

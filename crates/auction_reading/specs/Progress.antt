@@ -1,12 +1,14 @@
 -- How far an input is read.
-use Rattle.std.specs.Prelude.{ℕ, ◌≡◌, ◌≤◌, ◌<◌, ◌+◌, ◌++◌, ◌==◌, ◌||◌, Bool, false, not, List, [], Ok, get_or, length, vec_len, if◌then◌else◌}
-use Rattle.csv.specs.Reading.{default_config, records, strip_bom}
+use Rattle.std.specs.Prelude.{ℕ, ◌≡◌, ◌≤◌, ◌+◌, ◌++◌, ◌==◌, ◌||◌, Bool, false, not, List, Ok, Option, Some, vec_len, if◌then◌else◌}
+use Rattle.csv.specs.Reading.{default_config, reader_state, records, source_of, strip_bom}
+use Rattle.csv.specs.declared.parser.State.TheVariants as st
+use Rattle.csv.specs.declared.reader.Reader.{Reader}
 use Rattle.auction_reading.specs.declared.plain_text.Progress.{Progress}
-use Rattle.auction_reading.specs.declared.record.Record.{Record}
-use Rattle.auction_reading.specs.declared.inputs.TheConstants.{MOST_RECORDS}
-use Rattle.auction_reading.specs.Reading.{with_record}
-use Rattle.auction_reading.specs.Records.{and_then}
-use Rattle.auction_reading.specs.Scripts.{Asked, asked_of, read_records, records_of, rows, script}
+use Rattle.record_reading.specs.declared.record.Record.{Record}
+use Rattle.record_reading.specs.declared.inputs.TheConstants.{MOST_RECORDS}
+use Rattle.record_reading.specs.Asking.{AskFor, Asked, asked_of, with_record}
+use Rattle.record_reading.specs.Records.{and_then}
+use Rattle.auction_reading.specs.Scripts.{read_records, records_of}
 
 -- What was asked so far is asked by the records before `rest`, which have no fault.
 pub record SoFar (workers : ℕ) (all : List (List (List ℕ))) (count : ℕ) (begun : Bool)
@@ -14,9 +16,13 @@ pub record SoFar (workers : ℕ) (all : List (List (List ℕ))) (count : ℕ) (b
   pub said : List Record
   pub read : read_records workers 1 false all
       ≡ and_then (read_records workers (count + 1) begun rest) (λ others. Ok (said ++ others))
-  pub rows_are : rows said ≡ asked.rows
-  pub workers_are : length asked.scripts ≡ workers
-  pub script_of : (w : ℕ) → w < workers → script w said ≡ get_or asked.scripts w []
+  pub asks : AskFor workers said asked
+
+-- A reader has yet to read the first record of these bytes.
+pub record IsAtStart {R : Type 0} (rem : R → Option (List ℕ)) (bytes : List ℕ)
+    (reader : Reader R) : Type 0 where
+  pub source : source_of rem reader ≡ Some (strip_bom bytes)
+  pub begins : reader_state reader ≡ st.StartRecord
 
 -- the bytes that are left of an input, without a byte order mark if they are all of it
 abbrev pub unmarked : ℕ → List ℕ → List ℕ

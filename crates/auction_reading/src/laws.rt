@@ -1,7 +1,7 @@
 //! What holds of inputs.
 ghost use Rattle.std.specs.Prelude.{◌≡◌, List, ℕ, false};
 ghost use Rattle.auction_reading.specs.Scripts.{RowsComeFirst, read_records, records_of};
-ghost use Rattle.auction_reading.specs.declared.record.Record.{Record};
+ghost use Rattle.record_reading.specs.declared.record.Record.{Record};
 
 /// In an input without a fault the rows stand before all requests.
 pub fn rows_come_first()

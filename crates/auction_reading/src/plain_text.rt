@@ -1,15 +1,14 @@
 //! The plain lines at the front of an input, read where they lie.
 ghost use Rattle.std.specs.Prelude.{ℕ, ◌≡◌, ◌<◌, ◌≤◌, ◌++◌, ◌⊎◌, drop, false, length, take, Some, vec_len, IfOk, IfErr, List, OnOk};
 ghost use Rattle.std.specs.Io.KnownBytes.{IsAtEnd};
-ghost use Rattle.auction_reading.specs.Lines.{EndsLine, IsLine};
+ghost use Rattle.record_reading.specs.Lines.{EndsLine, IsLine};
 ghost use Rattle.auction_reading.specs.Progress.{HasAdded, ReadsOn};
-ghost use Rattle.auction_reading.specs.Reading.{IsInputFault};
-ghost use Rattle.auction_reading.specs.declared.inputs.TheConstants.{MOST_RECORDS};
+ghost use Rattle.record_reading.specs.Reading.{IsInputFault};
+ghost use Rattle.record_reading.specs.declared.inputs.TheConstants.{MOST_RECORDS};
 
-use crate::inputs::{CompactInput, MOST_RECORDS, ReadFault, add_record};
-use crate::plain_lines::{bid_at, line_at};
-use crate::record::Record;
-use memchr::memrchr;
+use record_reading::{
+    CompactInput, MOST_RECORDS, ReadFault, Record, bid_at, line_at, lines_end, read_more,
+};
 use std::io::Read;
 
 /// What was read of an input so far.
@@ -31,7 +30,7 @@ pub fn add(progress: &mut Progress, said: &Record) -> Result<(), ReadFault>
     ensures adds { OnOk result (HasAdded progress.old said.now progress.new) }
     ensures fails { IfErr result (λ fault. IsInputFault fault → ⊥) }
 {
-    add_record(&mut progress.input, said)?;
+    progress.input.add(said)?;
     progress.count += 1;
     progress.begun |= !said.is_row;
     Ok(())
@@ -119,45 +118,6 @@ fn read_plain(progress: &mut Progress, text: &[u8]) -> Result<usize, ReadFault>
         at = next;
     }
     Ok(at)
-}
-
-/// The place after the last end of a line in a text: 0 if it has none.
-pub fn lines_end(text: &[u8]) -> usize
-    ensures within { result ≤ length text.now }
-    ensures ends { 0 < result → EndsLine (take result text.now) }
-{
-    match memrchr(b'\n', text) {
-        Some(place) => place + 1,
-        None => 0,
-    }
-}
-
-/// How many bytes are read at a time.
-pub const ROOM_TO_READ: usize = 65536;
-
-/// Fills a buffer on from a place, and returns the place after what was read: the same if nothing
-/// is left, or no room.
-pub fn read_more<R: Read>(
-    buffer: &mut [u8],
-    filled: usize,
-    reader: &mut R,
-) -> Result<usize, ReadFault>
-    requires filled { filled ≤ length buffer.old }
-    ensures len { length buffer.new ≡ length buffer.old }
-    ensures more { IfOk result (λ now. filled ≤ now) }
-    ensures within { IfOk result (λ now. now ≤ length buffer.new) }
-    ensures reads { IfOk result (λ now. (all : List ℕ) → R.remaining reader.old ≡ Some all →
-        (left : List ℕ) × (R.remaining reader.new ≡ Some left)
-        × (take filled buffer.old ++ all ≡ take now buffer.new ++ left)) }
-    ensures keeps { OnOk result (take filled buffer.new ≡ take filled buffer.old) }
-    ensures end { IfOk result (λ now. now ≡ filled → filled < length buffer.old →
-        IsAtEnd (R.remaining reader.new)) }
-    ensures fails { IfErr result (λ fault. IsInputFault fault → ⊥) }
-{
-    match reader.read(&mut buffer[filled..]) {
-        Ok(given) => Ok(filled + given),
-        Err(_) => Err(ReadFault::Read),
-    }
 }
 
 // Reads the plain lines at the front of what a buffer holds, if a line ends in its part from a

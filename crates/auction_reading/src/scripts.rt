@@ -1,19 +1,31 @@
 //! The rows and scripts of a whole input.
 ghost use Rattle.std.specs.Prelude.{◌<◌, vec_len, IfErr, OnOk, ℕ, ◌≡◌, ◌≤◌, ◌++◌, true, length, map, IfOk, List, IfSome};
 ghost use Rattle.csv.specs.Reading.{strip_bom};
-ghost use Rattle.auction_reading.specs.Progress.{IsReadUpTo, unmarked};
-ghost use Rattle.auction_reading.specs.Reading.{IsInputFault, IsAtStart, IsPlain};
-ghost use Rattle.auction_reading.specs.declared.inputs.TheConstants.{MOST_RECORDS};
-ghost use Rattle.auction_reading.specs.Scripts.{asked_by, asked_of, input_of};
+ghost use Rattle.auction_reading.specs.Progress.{IsAtStart, IsReadUpTo, unmarked};
+ghost use Rattle.record_reading.specs.Reading.{IsInputFault, IsPlain};
+ghost use Rattle.record_reading.specs.declared.inputs.TheConstants.{MOST_RECORDS};
+ghost use Rattle.auction_reading.specs.Scripts.{asked_by, input_of};
+ghost use Rattle.record_reading.specs.Asking.{asked_of};
 
-use crate::inputs::{CompactInput, Input, MOST_RECORDS, ReadFault, empty_input};
-use crate::plain_text::{Progress, ROOM_TO_READ, add, read_lines};
-use crate::record::{front_of, read_next, read_record};
+use crate::plain_text::{Progress, add, read_lines};
 use auction_rows::Request;
 use csv::{ByteRecord, Reader, ReaderBuilder};
+use item_shards::Opened;
+use record_reading::{
+    CompactInput, MOST_RECORDS, ROOM_TO_READ, ReadFault, front_of, read_next, read_record,
+};
 use std::alloc::{AllocError, Global};
 use std::io::Read;
 use worker_journals::Script;
+
+/// What an input asks for: the rows that the auction is opened with, and each worker's script.
+#[derive(Drop)]
+pub struct Input {
+    /// The rows, in their order.
+    pub rows: Vec<Opened>,
+    /// The script of each worker, by the worker's number.
+    pub scripts: Vec<Vec<Request>>,
+}
 
 // Reads the records that a reader of the rest of an input has, and adds each.
 fn read_all<R: Read>(
@@ -180,7 +192,7 @@ pub fn read_compact_scripts<R: Read + Drop>(
     ensures fault { IfErr result (λ fault. IsInputFault fault →
         IfSome (R.remaining reader) (λ bytes. input_of workers bytes ≡ Err fault)) }
 {
-    let input = empty_input(alloc, workers)?;
+    let input = CompactInput::new(alloc, workers)?;
     let mut progress = Progress {
         input,
         count: 0,

@@ -9,15 +9,17 @@ use Rattle.auction_rows.specs.declared.values.Opening.{Opening}
 use Rattle.auction_rows.specs.Book.{Book}
 use Rattle.auction_rows.specs.History.{IsBook, book_after}
 use Rattle.phase_floor.specs.States.{JoinedState, IsBookOf}
-use Rattle.auction_run.specs.declared.checks.RunFault.{RunFault}
-use Rattle.auction_run.specs.declared.checks.RunFault.TheVariants.{Workers, Shards, Quota, TooLong, Spawn, Memory, NumberFull}
+use Rattle.run_phases.specs.declared.faults.RunFault.{RunFault}
+use Rattle.run_phases.specs.declared.faults.RunFault.TheVariants.{Workers, Shards, Quota, TooLong, Spawn, Memory, NumberFull}
 use Rattle.auction_run.specs.declared.checks.Stopped.{Stopped}
 use Rattle.auction_run.specs.declared.checks.Stopped.TheVariants.{Failed, Refused}
-use Rattle.auction_run.specs.declared.runs.Outcome.{Outcome}
-use Rattle.auction_run.specs.Beginning.{AreShort, HasQuotas, HasShards, HaveWorkers, IsFirstToFail, IsFoundFirst, IsRefusedInOrder}
+use Rattle.run_phases.specs.declared.course.Outcome.{Outcome}
+use Rattle.run_phases.specs.Beginning.{AreShort, HasQuotas, HasShards, HaveWorkers}
+use Rattle.auction_run.specs.Checks.{IsFirstToFail, IsFoundFirst, IsRefusedInOrder}
 use Rattle.auction_run.specs.GoingOn.{AnswersNextRun, GivesBack, IsCheckedOn, IsReadyFor, IsStopped}
-use Rattle.auction_run.specs.Outcomes.{AnswersRun, IsOutcome}
-use Rattle.auction_run.specs.Phases.{IsMet}
+use Rattle.auction_run.specs.Runs.{AnswersRun}
+use Rattle.run_phases.specs.Outcomes.{IsOutcome}
+use Rattle.run_phases.specs.Phases.{IsMet}
 use Rattle.auction_run.proofs.GoingOnLemmas.{left_book}
 
 -- two facts that are both so, or neither

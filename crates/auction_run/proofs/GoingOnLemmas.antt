@@ -23,15 +23,11 @@ use Rattle.phase_floor.proofs.BookSize.{one_more}
 use Rattle.auction_rows.specs.declared.limits.Policy.{Policy}
 use Rattle.run_laws.specs.Serving.{script_of}
 use Rattle.run_laws.proofs.ScriptLemmas.{past_end}
-use Rattle.auction_run.specs.declared.runs.Outcome.{Outcome}
-use Rattle.auction_run.specs.declared.phase.Running.{Running}
-use Rattle.auction_run.specs.Beginning.{AreShort, AreShortFor, HaveWorkers}
-use Rattle.auction_run.specs.GoingOn.{BeginsWith, CannotBegin, IsReadyFor}
-use Rattle.auction_run.specs.Outcomes.{IsOutcome}
-use Rattle.auction_run.specs.Running.{IsRunning, CanGoOn}
-use Rattle.auction_run.proofs.BoardLemmas.{rows_workers}
-use Rattle.auction_run.proofs.RunLemmas.{few_phases_so_far, goes_on}
-use Rattle.auction_run.proofs.StableLemmas.{at_most, same}
+use Rattle.run_phases.specs.declared.course.Outcome.{Outcome}
+use Rattle.run_phases.specs.Beginning.{AreShort, HaveWorkers, BeginsWith}
+use Rattle.auction_run.specs.GoingOn.{IsReadyFor}
+use Rattle.run_phases.specs.Outcomes.{IsOutcome}
+use Rattle.run_phases.proofs.BoardLemmas.{rows_workers}
 
 -- what follows of a value from two facts
 pub of_both : {X E : Type 0} (r : Result X E) (P Q S : X → Type 0) → ((x : X) → P x → Q x → S x) → IfOk r P → IfOk r Q → IfOk r S
@@ -96,23 +92,6 @@ begins_resumed opening rows policy scripts state workers opening_is limit phase 
   workers_are = many ∙ sym as_many;
   commits = λ w known. ap (λ cs. cs.commits) (counters w (omega (arith, known, as_many)));
 }
-
--- ---- what is so of a run from whatever book
-
-module _ (state : JoinedState) (policy : Policy) (scripts : List (List Request)) (begins : ¬ CannotBegin state policy scripts) (p : ℕ) (running : Running)
-    (runs : (rows : Book) → BeginsWith state rows policy scripts → IsRunning state.opening rows policy scripts p running) where
-  pub phase_now : running.state.phase ≡ p
-  phase_now = same running.state.phase p (λ never. begins (λ rows from. never (runs rows from).phase_is))
-
-  pub stashes_now : length running.stashes.items ≡ length scripts
-  stashes_now = same (length running.stashes.items) (length scripts) (λ never. begins (λ rows from. never (runs rows from).stashes_are))
-
-  pub few_phases_now : 0 < policy.joined_quota + policy.split_quota → p ≤ 2000002
-  few_phases_now some = at_most p 2000002 (λ never. begins (λ rows from. never (few_phases_so_far state.opening rows policy some scripts state.limit from.short p running (runs rows from))))
-
-  pub still_goes_on : running.state.limit ≡ state.limit → {own_policy : Policy} → own_policy ≡ policy → {own_scripts : List (List Request)} → own_scripts ≡ scripts → ¬ ¬ CanGoOn own_policy own_scripts running
-  still_goes_on lasts same_policy same_scripts = λ never. begins (λ rows from.
-      never (goes_on from.is_book same_policy same_scripts (subst (λ limit. AreShortFor limit rows scripts) (sym lasts) from.short) (runs rows from)))
 
 -- ---- what a run leaves
 

@@ -1,15 +1,5 @@
-pub mod HeatLemmas
-pub mod RankLemmas
-pub mod ChoiceLemmas
-pub mod ChosenLemmas
-pub mod FirstLemmas
-pub mod QuotaLemmas
-pub mod PhaseLemmas
-pub mod HotThere
-pub mod ScriptLemmas
-pub mod StableLemmas
-pub mod RunLemmas
-pub mod BoardLemmas
+pub mod CheckLemmas
 pub mod GoingOnLemmas
 pub mod AnswerLemmas
 pub mod PartLemmas
+pub use Rattle.run_phases.proofs.BoardLemmas

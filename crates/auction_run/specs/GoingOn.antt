@@ -1,24 +1,21 @@
--- What a run that goes on from a state begins with, what it answers, and why it stops.
-use Rattle.std.specs.Prelude.{ℕ, ◌+◌, ◌<◌, ◌≤◌, ◌≡◌, List, All, Result, Err, length, IfOk, IfErr, OnOk}
-use Rattle.auction_rows.specs.declared.limits.TheConstants.{MOST_OF_A_WORKER, MOST_WORKERS}
+-- What is checked before a run goes on from a state, what it answers, and why it stops.
+use Rattle.std.specs.Prelude.{ℕ, ◌+◌, ◌<◌, ◌≤◌, ◌≡◌, List, Result, Err, length, IfOk, IfErr, OnOk}
+use Rattle.auction_rows.specs.declared.limits.TheConstants.{MOST_OF_A_WORKER}
 use Rattle.auction_rows.specs.declared.requests.Request.{Request}
-use Rattle.auction_rows.specs.declared.rows.Row.{Row}
-use Rattle.auction_rows.specs.declared.values.Opening.{Opening}
-use Rattle.auction_rows.specs.Book.{Book, worker_of}
-use Rattle.auction_rows.specs.History.{IsBook, book_after}
-use Rattle.auction_window.specs.Published.{book_of}
-use Rattle.item_shards.specs.OpeningRows.{rows_by}
+use Rattle.auction_rows.specs.Book.{Book}
+use Rattle.auction_rows.specs.History.{book_after}
 use Rattle.closing_laws.specs.Standing.{counters_at, stores}
-use Rattle.phase_floor.specs.States.{JoinedState, StandsFor, IsBookOf}
+use Rattle.phase_floor.specs.States.{JoinedState, IsBookOf}
 use Rattle.auction_rows.specs.declared.limits.Policy.{Policy}
 use Rattle.run_laws.specs.Serving.{script_of}
-use Rattle.auction_run.specs.Beginning.{AreShortFor, HasQuotas, IsFirstToFail}
-use Rattle.auction_run.specs.Outcomes.{IsOutcome}
-use Rattle.auction_run.specs.Phases.{IsMet}
-use Rattle.auction_run.specs.declared.checks.RunFault.{RunFault}
+use Rattle.run_phases.specs.Beginning.{HasQuotas}
+use Rattle.auction_run.specs.Checks.{IsFirstToFail}
+use Rattle.run_phases.specs.Outcomes.{IsOutcome}
+use Rattle.run_phases.specs.Phases.{IsMet}
+use Rattle.run_phases.specs.declared.faults.RunFault.{RunFault}
 use Rattle.auction_run.specs.declared.checks.Stopped.{Stopped}
 use Rattle.auction_run.specs.declared.checks.Stopped.TheVariants.{Refused, Failed}
-use Rattle.auction_run.specs.declared.runs.Outcome.{Outcome}
+use Rattle.run_phases.specs.declared.course.Outcome.{Outcome}
 
 -- there is a script for each worker of the state
 abbrev pub HasScripts : JoinedState → List (List Request) → Type 0
@@ -84,34 +81,3 @@ pub record AnswersNextRun (state : JoinedState) (policy : Policy) (scripts : Lis
   pub limit : IfOk result (λ outcome. outcome.state.limit ≡ state.limit)
   -- or it says why it stopped
   pub stopped : IfErr result (IsStopped state policy scripts)
-
--- A run of scripts begins with a state, from a book: it is one of their workers' rows, which were
--- all their commits, and short together with the scripts; the state stands for it, before a phase
--- 0, over the policy's shards.
-pub record BeginsWith (state : JoinedState) (rows : Book) (policy : Policy)
-    (scripts : List (List Request)) : Type 0 where
-  pub is_book : IsBook state.opening rows
-  pub few : length scripts ≤ MOST_WORKERS
-  pub own : All (λ row. worker_of row < length scripts) rows
-  pub short : AreShortFor state.limit rows scripts
-  pub stands : StandsFor state rows
-  pub phase_is : state.phase ≡ 0
-  pub shards_are : length state.shards ≡ policy.shards
-  pub workers_are : length state.counters ≡ length scripts
-  pub commits : (worker : ℕ) → worker < length scripts →
-      (counters_at state.counters worker).commits ≡ rows_by rows worker
-
--- there is no book from which it begins
-abbrev pub CannotBegin : JoinedState → Policy → List (List Request) → Type 0
-CannotBegin state policy scripts = (rows : Book) → BeginsWith state rows policy scripts → ⊥
-
--- A board can be shown such a run: it begins from the book of the phases that the board has, and its
--- state is not a lasting one.
-pub record CanShowRun {B : Type 0} (has : B → Opening → Book → List (List Row) → Type 0)
-    (board : B) (state : JoinedState) (policy : Policy) (scripts : List (List Request))
-    : Type 0 where
-  pub rows : Book
-  pub before : List (List Row)
-  pub begins : BeginsWith state (book_of rows before) policy scripts
-  pub has_them : has board state.opening rows before
-  pub few : state.limit ≤ MOST_OF_A_WORKER

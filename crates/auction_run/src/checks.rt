@@ -1,93 +1,17 @@
-//! What is checked before a run begins, why it is refused, and why a run that goes on stops.
+//! What is checked before a run begins, and why a run that goes on stops.
 ghost use Rattle.std.specs.Prelude.{◌≡◌, ◌↔◌, ◌<◌, ◌≤◌, ℕ, length, map, slice_index, IsTrue, OnOk};
 ghost use Rattle.item_shards.specs.OpeningBooks.{rows_of_book};
 ghost use Rattle.item_shards.specs.OpeningRows.{rows_by};
-ghost use Rattle.auction_run.specs.Beginning.{HaveWorkers, HasShards, HasQuotas, AreShort, IsFirstToFail};
+ghost use Rattle.run_phases.specs.Beginning.{HaveWorkers, HasShards, HasQuotas, AreShort};
+ghost use Rattle.auction_run.specs.Checks.{IsFirstToFail};
 ghost use Rattle.auction_run.specs.GoingOn.{AreShortOn, HasScripts, IsCheckedOn, IsShortOn};
 
 use auction_rows::{MOST_HOT, MOST_OF_A_WORKER, MOST_SHARDS, MOST_WORKERS, Policy, Request, Row};
 use item_shards::OpeningBook;
-use phase_floor::{FloorFault, Joined};
-use phase_permits::PermitFault;
-use phase_workers::ServingFault;
-use std::alloc::{AllocError, AllocFailed};
-use thiserror::Error;
+use phase_floor::Joined;
+use run_phases::RunFault;
+use std::alloc::AllocError;
 use worker_journals::Script;
-
-/// Why a run gives no outcome. The first four are found before it begins, in this order; after any
-/// fault every worker that was started has ended, and no part of a history is given.
-#[derive(Clone, Copy, Debug, PartialEq, Eq, Drop, Error)]
-pub enum RunFault {
-    /// There are not 1 to 16 scripts, or a row of the opening book is of a worker without one.
-    #[error("number of workers")]
-    Workers,
-    /// There are not 1 to 64 shards.
-    #[error("number of shards")]
-    Shards,
-    /// A quota or the threshold is 0, or more than 64 objects may be hot.
-    #[error("quota, threshold or hot limit")]
-    Quota,
-    /// A worker's script and its rows in the opening book have more than 1,000,000 together; or, of
-    /// a run that goes on from a lasting state, the script has more, or both have more than the
-    /// state's limit.
-    #[error("more than 1000000 requests for a worker")]
-    TooLong,
-    /// A worker's thread could not be started, whatever the cause.
-    #[error("thread not started")]
-    Spawn,
-    /// No memory was left.
-    #[error("no memory")]
-    Memory,
-    /// A worker found the end of commit numbers, 2^59.
-    #[error("commit numbers used up")]
-    NumberFull,
-}
-
-impl From<AllocError> for RunFault {
-    ghost use Rattle.auction_run.specs.declared.checks.RunFault.TheVariants.{Memory};
-
-    ghost from_gives = { λ _ fault. fault ≡ Memory };
-
-    fn from(_refused: AllocError) -> RunFault {
-        RunFault::Memory
-    }
-}
-
-impl<T: Drop> From<AllocFailed<T>> for RunFault {
-    ghost use Rattle.auction_run.specs.declared.checks.RunFault.TheVariants.{Memory};
-
-    ghost from_gives = { λ _ fault. fault ≡ Memory };
-
-    fn from(_refused: AllocFailed<T>) -> RunFault {
-        RunFault::Memory
-    }
-}
-
-impl From<ServingFault> for RunFault {
-    ghost use Rattle.auction_run.specs.Phases.{told};
-
-    ghost from_gives = { λ fault run. run ≡ told fault };
-
-    fn from(fault: ServingFault) -> RunFault {
-        match fault {
-            ServingFault::Spawn => RunFault::Spawn,
-            ServingFault::Memory | ServingFault::Worker(PermitFault::Memory) => RunFault::Memory,
-            ServingFault::Worker(PermitFault::NumberFull) => RunFault::NumberFull,
-        }
-    }
-}
-
-impl From<FloorFault> for RunFault {
-    ghost use Rattle.auction_run.specs.declared.checks.RunFault.TheVariants.{Memory};
-
-    ghost from_gives = { λ _ fault. fault ≡ Memory };
-
-    fn from(fault: FloorFault) -> RunFault {
-        match fault {
-            FloorFault::Memory => RunFault::Memory,
-        }
-    }
-}
 
 /// Why a run that goes on from a state gives no outcome.
 #[derive(Drop)]
@@ -100,7 +24,7 @@ pub enum Stopped {
 
 impl From<AllocError> for Stopped {
     ghost use Rattle.std.specs.Prelude.{◌≡◌};
-    ghost use Rattle.auction_run.specs.declared.checks.RunFault.TheVariants.{Memory};
+    ghost use Rattle.run_phases.specs.declared.faults.RunFault.TheVariants.{Memory};
     ghost use Rattle.auction_run.specs.declared.checks.Stopped.TheVariants.{Failed};
 
     ghost from_gives = { λ _ stopped. stopped ≡ Failed Memory };

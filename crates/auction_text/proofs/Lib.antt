@@ -11,9 +11,9 @@ pub mod ReplyOrder
 pub mod SortLemmas
 pub mod TurnLemmas
 pub mod WorkerReplies
-pub use Rattle.auction_reading.proofs.BufferLemmas
-pub use Rattle.auction_reading.proofs.DigitLemmas
-pub use Rattle.auction_reading.proofs.LineLemmas
-pub use Rattle.auction_reading.proofs.LivePartLemmas
-pub use Rattle.auction_reading.proofs.NameLemmas
-pub use Rattle.auction_reading.proofs.PlainFieldLemmas
+pub use Rattle.live_reading.proofs.LivePartLemmas
+pub use Rattle.record_reading.proofs.BufferLemmas
+pub use Rattle.record_reading.proofs.DigitLemmas
+pub use Rattle.record_reading.proofs.LineLemmas
+pub use Rattle.record_reading.proofs.NameLemmas
+pub use Rattle.record_reading.proofs.PlainFieldLemmas

@@ -1,5 +1,5 @@
 -- The entries of one worker in turn, by their indexes.
-use Rattle.std.proofs.Common.{arith, ◌≡◌, ◌∙◌, ◌+◌, ◌==◌, ◌∷◌, ℕ, true, false, not, List, [], Option, Some, None, IfSome, nat_lt, ap, refl, sym, inl, inr}
+use Rattle.std.proofs.Common.{arith, ◌≡◌, ◌∙◌, ◌+◌, ◌==◌, ◌∷◌, ◌++◌, ℕ, true, false, not, List, [], Option, Some, None, IfSome, nat_lt, ap, refl, subst, sym, inl, inr}
 use Rattle.std.specs.Cmp.{nat_cmp_is}
 use Rattle.std.specs.List.{AllByRecursion}
 use Rattle.std.specs.Ordering.{is_lt, nat_cmp, ordering_then}
@@ -10,7 +10,9 @@ use Rattle.phase_laws.specs.Order.{part}
 use Rattle.auction_rows.specs.declared.rows.Entry.{Entry}
 use Rattle.worker_journals.specs.Journals.{entry_worker}
 use Rattle.auction_text.specs.Order.{comes_before}
-use Rattle.auction_text.specs.Turns.{is_late}
+use Rattle.worker_journals.specs.Rising.{EntriesRiseTo, HasPassed}
+use Rattle.auction_text.specs.Turns.{is_late, late}
+use Rattle.auction_text.proofs.TurnLemmas.{late-in_turn}
 
 -- the first index that comes after an entry's
 abbrev pub next_after : Option Entry → ℕ
@@ -60,3 +62,36 @@ pub late_by_index : (worker next : ℕ) (last : Option Entry) (e : Entry) → ne
 late_by_index worker next None e is own here = let no : nat_lt e.index next ≡ false = grind (arith, nat_tests) in sym no
 late_by_index worker next (Some last) e is own here =
     ap not (by_index last e (own ∙ sym here)) ∙ not_less last.index e.index ∙ ap (nat_lt e.index) (sym is)
+
+-- entries whose indexes rise stand in turn
+late_passed : (worker next after : ℕ) (last : Option Entry) (passed left : List Entry) → next ≡ next_after last → IfSome last (λ entry. entry.worker ≡ worker) → AreOf worker passed → EntriesRiseTo next passed after
+    → HasLast worker after (λ now. late comes_before last (passed ++ left) ≡ late comes_before now left)
+late_passed worker next after last [] left is own of rise = record { last = last; next_is = rise ∙ is; own = own; holds = refl }
+late_passed worker next after last (e ∷ es) left is own of rise =
+    let no : nat_lt e.index next ≡ false = grind (arith, nat_tests, rise.0) in
+    let more = late_passed worker (e.index + 1) after (Some e) es left refl of.0 of.1 rise.1 in
+    record {
+      last = more.last;
+      next_is = more.next_is;
+      own = more.own;
+      holds = late-in_turn comes_before last e (es ++ left) (late_by_index worker next last e is own of.0 ∙ no) ∙ more.holds;
+    }
+
+own_parts : (worker : ℕ) (passed left : List Entry) → AreOf worker (passed ++ left) → AreOf worker passed × AreOf worker left
+own_parts worker [] left of = (tt, of)
+own_parts worker (e ∷ es) left of = let more = own_parts worker es left of.1 in ((of.0, more.0), more.1)
+
+-- so the late ones of a worker's entries are among those that are left once such were passed
+pub pass_on : (worker next after : ℕ) (so_far all left rest : List Entry) → AreOf worker left → HasLast worker next (λ last. so_far ++ late comes_before last left ≡ all) → HasPassed next left rest after
+    → AreOf worker rest × HasLast worker after (λ last. so_far ++ late comes_before last rest ≡ all)
+pass_on worker next after so_far all left rest of turn gone =
+    let own = own_parts worker gone.passed rest (subst (AreOf worker) gone.parts of) in
+    let more = late_passed worker next after turn.last gone.passed rest turn.next_is turn.own own.0 gone.rise in (
+      own.1,
+      record {
+        last = more.last;
+        next_is = more.next_is;
+        own = more.own;
+        holds = ap (λ es. so_far ++ es) (sym (ap (late comes_before turn.last) gone.parts ∙ more.holds)) ∙ turn.holds;
+      },
+    )

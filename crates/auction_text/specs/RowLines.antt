@@ -11,7 +11,7 @@ use Rattle.auction_rows.specs.declared.rows.ItemRow.{ItemRow}
 use Rattle.auction_rows.specs.declared.rows.Row.{Row}
 use Rattle.auction_rows.specs.declared.rows.Row.TheVariants.{Item, Bid, Comment, Buy}
 use Rattle.auction_rows.specs.History.{rows_of}
-use Rattle.auction_reading.specs.Lines.{quote}
+use Rattle.record_reading.specs.Lines.{quote}
 use Rattle.auction_text.specs.Replies.{labelled, labelled_id, lines}
 
 -- a byte between quotes: a quote is doubled

@@ -6,18 +6,19 @@ use Rattle.auction_rows.specs.declared.requests.Object.{Object}
 use Rattle.auction_rows.specs.declared.requests.Object.TheVariants.{Item, User, Category}
 use Rattle.auction_rows.specs.declared.requests.Facts.{Facts}
 use Rattle.auction_rows.specs.declared.rows.Entry.{Entry}
-use Rattle.auction_rows.specs.Requests.{same_object, shard_of}
-use Rattle.item_shards.specs.Values.{Value, stock}
+use Rattle.auction_rows.specs.Requests.{same_object}
+use Rattle.item_shards.specs.Values.{stock}
 use Rattle.worker_journals.specs.Journals.{JournalView, entry_number, entry_worker, empty_journal}
 use Rattle.worker_journals.specs.Merged.{entries_of}
 use Rattle.shard_boxes.specs.Closed.{AreClosed}
 use Rattle.shard_boxes.specs.Keys.{KeyState, no_key}
-use Rattle.shard_boxes.specs.States.{ShardState, state_at}
+use Rattle.shard_boxes.specs.States.{ShardState}
 use Rattle.phase_permits.specs.declared.worker.Counters.{Counters}
 use Rattle.phase_permits.specs.Txns.{Setting, hot_of}
 use Rattle.phase_permits.specs.Workers.{WorkerState, IsExplained, no_counters, new_worker, setting_of}
 use Rattle.phase_permits.specs.Slicing.{IsStocked}
 use Rattle.closing_laws.specs.Standing.{counters_at}
+pub use Rattle.auction_shards.specs.Shards.{value_on}
 
 -- a phase that has closed
 pub record Phase : Type 0 where
@@ -55,10 +56,6 @@ journal_of receipt = receipt.journal
 -- a receipt's counters after the phase
 abbrev pub counters_of : WorkerState → Counters
 counters_of receipt = receipt.counters
-
--- the value of an object on the shard in which it lies
-abbrev pub value_on : List ShardState → Object → Value
-value_on states object = (state_at states (shard_of object (length states))).contents object
 
 -- what is fixed of a hot item was read from its shard
 abbrev pub IsReadFrom : List ShardState → Object × Option (Facts × ℕ) → Type 0

@@ -4,11 +4,11 @@ use Rattle.std.specs.List.{AllByRecursion}
 use Rattle.auction_rows.specs.declared.requests.Object.{Object}
 use Rattle.auction_rows.specs.Book.{Book}
 use Rattle.item_shards.specs.Counting.{worker_of}
-use Rattle.item_shards.specs.Standing.{ContentsStandsFor}
-use Rattle.shard_boxes.specs.States.{ShardState, state_at}
+use Rattle.shard_boxes.specs.States.{ShardState}
 use Rattle.phase_permits.specs.declared.worker.Counters.{Counters}
 use Rattle.phase_permits.specs.Workers.{no_counters}
 use Rattle.phase_permits.specs.Replying.{CountsOf}
+pub use Rattle.auction_shards.specs.Shards.{ShardsStandFor}
 
 -- the counters of a worker
 abbrev pub counters_at : List Counters → ℕ → Counters
@@ -17,11 +17,6 @@ counters_at counters worker = slice_index_or counters worker no_counters
 -- the accepted stores of all kinds that are counted
 abbrev pub stores : Counters → ℕ
 stores counters = counters.items + counters.bids + counters.comments + counters.buys
-
--- each shard has the values that a book gives its objects, but for hot ones
-abbrev pub ShardsStandFor : List ShardState → Book → List Object → Type 0
-ShardsStandFor states book hot = (s : ℕ) → s < length states →
-    ContentsStandsFor s (length states) (state_at states s).contents book hot
 
 -- each worker's counters count its rows of a book
 abbrev pub AreCountersOf : List Counters → Book → Type 0

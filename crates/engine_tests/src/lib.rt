@@ -14,5 +14,3 @@ mod runs;
 mod testing;
 #[cfg(test)]
 mod windows;
-#[cfg(test)]
-mod workers;

@@ -1,6 +1,6 @@
 //! What tests hand in: ten users, two categories, and an item.
 use auction_rows::{Facts, ItemId, Name, Opening, Quantity, Reply, Request};
-use std::test::Fail;
+use std::process::Abort;
 
 /// Ten users and two categories.
 pub const OPENING: Opening = Opening {
@@ -14,16 +14,22 @@ pub const FIRST: ItemId = ItemId {
     serial: 0,
 };
 
+/// A view of it.
+pub const VIEW: Request = Request::ViewItem { item: FIRST };
+
+/// A view of a user.
+pub const LOOK: Request = Request::ViewUser { user: 0 };
+
 /// Vases, put up by user 0 in category 0 from 10 on, until time 100.
-pub fn vases(quantity: u64) -> Result<Facts, Fail> {
-    Ok(Facts {
+pub fn vases(rt: &impl Abort, quantity: u64) -> Facts {
+    Facts {
         seller: 0,
         category: 0,
-        name: Name::new(b"Vase").ok_or("a name")?,
+        name: Name::new(b"Vase").expect(rt, "a name"),
         start: 10,
         closes: 100,
-        quantity: Quantity::new(quantity).ok_or("a quantity")?,
-    })
+        quantity: Quantity::new(quantity).expect(rt, "a quantity"),
+    }
 }
 
 /// A store of the vases, at time 1.
@@ -42,26 +48,27 @@ pub fn bid(bidder: u32, amount: u64, time: u64) -> Request {
 }
 
 /// A purchase of so many of the first item.
-pub fn purchase(buyer: u32, quantity: u64, time: u64) -> Result<Request, Fail> {
-    Ok(Request::BuyNow {
+pub fn purchase(rt: &impl Abort, buyer: u32, quantity: u64, time: u64) -> Request {
+    Request::BuyNow {
         buyer,
         item: FIRST,
-        quantity: Quantity::new(quantity).ok_or("a quantity")?,
+        quantity: Quantity::new(quantity).expect(rt, "a quantity"),
         time,
-    })
+    }
 }
 
 /// The view of an item of which so many are left, with so many bids, the greatest of which is this
 /// amount of this bidder.
 pub fn item_seen(facts: &Facts, greatest: Option<(u64, u32)>, bids: u64, left: u32) -> Reply {
+    let (highest, bidder) = greatest.unzip();
     Reply::ItemSeen {
         seller: facts.seller,
         category: facts.category,
         name: facts.name,
         start: facts.start,
         closes: facts.closes,
-        highest: greatest.map(|bid| bid.0),
-        bidder: greatest.map(|bid| bid.1),
+        highest,
+        bidder,
         bids,
         left,
     }

@@ -1,2 +1,2 @@
 //! Tests of `auction_window`: what windows show, of which phases.
-mod view_tests;
+pub(crate) mod view_tests;

@@ -1,13 +1,14 @@
 -- The lines of texts.
-use Rattle.std.proofs.Common.{◌≡◌, ℕ, suc, ◌<◌, ◌≤◌, ◌==◌, Bool, true, false, cond, List, [], ◌∷◌, ◌++◌, Option, Some, None, length, take, append_assoc, refl, sym, ap, ◌∙◌, arith}
-use Rattle.std.specs.Prelude.{decimal, codes, IfSome}
+use Rattle.std.proofs.Common.{◌≡◌, ℕ, zero, suc, ◌+◌, ◌<◌, ◌≤◌, ◌==◌, Bool, true, false, cond, List, [], ◌∷◌, ◌++◌, Option, Some, None, length, take, get_or, append_assoc, refl, subst, sym, ap, ◌∙◌, arith}
+use Rattle.std.specs.Prelude.{decimal, codes, ⊤, IfSome}
 use Rattle.std.specs.Io.BufRead.{take_through, drop_through, DropsThrough}
+use Rattle.std.specs.Io.KnownBytes.{Consumes, IsAtEnd, Keeps}
 use Rattle.std.proofs.lemmas.List.{length-append}
 use Rattle.auction_rows.specs.declared.rows.Entry.{Entry}
 use Rattle.auction_text.specs.Replies.{history_line, reply_text}
 use Rattle.history_check.specs.declared.lines.CommitId.{CommitId}
 use Rattle.history_check.specs.CommitIds.{line_at, Fits, commit_id_of}
-use Rattle.history_check.specs.Texts.{with_byte, lines_of, history_lines, ReadsLine, HasRead}
+use Rattle.history_check.specs.Texts.{with_byte, lines_of, history_lines, ReadsLine}
 use Rattle.history_check.proofs.NumberLemmas.{numbers_apart, take_front}
 
 -- ---- the first line of a text
@@ -46,7 +47,48 @@ next_read old new cleared line empty takes drops some = line_read old new line (
   at None takes = tt
   at (Some text) takes = takes ∙ ap (λ xs. xs ++ take_through 10 text) empty
 
+-- ---- a line in what a reader holds
+
+not_true : (b : Bool) → (b ≡ true → ⊥) → b ≡ false
+not_true true never = absurd (never refl)
+not_true false never = refl
+
+-- what stands up to the first line feed is the first line
+front_line : (shown rest : List ℕ) (place : ℕ) → place < length shown → (get_or shown place 0 == 10) ≡ true → ((k : ℕ) → k < place → (get_or shown k 0 == 10) ≡ true → ⊥)
+    → lines_of (take (place + 1) shown ++ rest) ≡ take (place + 1) shown ∷ lines_of rest
+front_line [] rest place within here before = absurd (omega (arith, within))
+front_line (byte ∷ shown) rest zero within here before = ap (λ b. cond b ((byte ∷ []) ∷ lines_of rest) (with_byte byte (lines_of rest))) here
+front_line (byte ∷ shown) rest (suc place) within here before =
+    let more = front_line shown rest place (omega (arith, within)) here (λ k less. before (suc k) (omega (arith, less))) in
+    let next : suc place + 1 ≡ suc (place + 1) = omega arith in
+    let left = take (place + 1) shown ++ rest in
+    subst (λ n. lines_of (take n (byte ∷ shown) ++ rest) ≡ take n (byte ∷ shown) ∷ lines_of rest) (sym next)
+    (ap (λ b. cond b ((byte ∷ []) ∷ lines_of left) (with_byte byte (lines_of left))) (not_true (byte == 10) (before 0 (omega arith))) ∙ ap (with_byte byte) more)
+
+pub held_line : (old new : Option (List ℕ)) (shown : List ℕ) (place : ℕ) → place < length shown → (get_or shown place 0 == 10) ≡ true → ((k : ℕ) → k < place → (get_or shown k 0 == 10) ≡ true → ⊥)
+    → Consumes old new (take (place + 1) shown) → ReadsLine old new true (take (place + 1) shown)
+held_line None new shown place within here before gone = tt
+held_line (Some text) None shown place within here before gone = absurd gone
+held_line (Some text) (Some rest) shown place within here before gone = (rest, refl, ap lines_of gone ∙ front_line shown rest place within here before)
+
+-- at the end there is no line
+pub none_read : (old new : Option (List ℕ)) (line : List ℕ) → IsAtEnd old → ReadsLine old new false line
+none_read None new line ended = tt
+none_read (Some text) new line ended = ap lines_of ended
+
+-- the next line of a text that was kept
+pub kept_line : (old now new : Option (List ℕ)) (found : Bool) (line : List ℕ) → Keeps old now → ReadsLine now new found line → ReadsLine old new found line
+kept_line None now new found line kept next = tt
+kept_line (Some text) None new found line kept next = absurd kept
+kept_line (Some text) (Some same) new found line kept next = subst (λ xs. ReadsLine (Some xs) new found line) kept next
+
 -- ---- the lines that were read
+
+-- the lines of a history were read of a text, if that is known
+abbrev pub HasRead : Option (List ℕ) → Option (List ℕ) → List Entry → Type 0
+HasRead None new history = ⊤
+HasRead (Some text) new history = (rest : List ℕ) × (new ≡ Some rest)
+    × (lines_of text ≡ history_lines history ++ lines_of rest)
 
 pub one_read : (first old new : Option (List ℕ)) (history : List Entry) (e : Entry) (line : List ℕ) → HasRead first old history
     → ReadsLine old new true line → history_line e ≡ line → HasRead first new (history ++ e ∷ [])

@@ -1,6 +1,7 @@
 -- What is found while a text is read.
-use Rattle.std.proofs.Common.{◌≡◌, ℕ, ◌+◌, ◌<◌, ◌≤◌, true, false, cond, List, [], ◌∷◌, ◌++◌, Option, Some, None, length, refl, sym, ap, ◌∙◌, arith}
-use Rattle.std.specs.Prelude.{Result, Ok, Err, IfOk, IsErrAnd, IsErrOf, IfNone, IfSome}
+use Rattle.std.proofs.Common.{◌≡◌, ℕ, ◌+◌, ◌<◌, ◌≤◌, Bool, true, false, cond, List, [], ◌∷◌, ◌++◌, Option, Some, None, length, refl, subst, sym, ap, ◌∙◌, arith}
+use Rattle.std.specs.Bool.{OnFalse, OnTrue}
+use Rattle.std.specs.Prelude.{Result, Ok, Err, IfOk, IsErrAnd, IsErrOf, IsSome, IsSomeAnd, IfSome}
 use Rattle.std.proofs.lemmas.List.{length-append}
 use Rattle.auction_rows.specs.declared.values.Opening.{Opening}
 use Rattle.auction_rows.specs.declared.requests.Request.{Request}
@@ -15,27 +16,54 @@ use Rattle.history_check.specs.declared.lines.Wrong.{Wrong}
 use Rattle.history_check.specs.declared.lines.CommitId.{CommitId}
 use Rattle.history_check.specs.declared.replay.Replay.{Replay}
 use Rattle.history_check.specs.CommitIds.{IsLineOf, line_at, commit_id_of}
-use Rattle.history_check.specs.Texts.{history_lines, lines_of, ReadsLine, HasRead}
+use Rattle.history_check.specs.Texts.{history_lines, lines_of, ReadsLine}
 use Rattle.history_check.specs.Checking.{IsAccepted, IsWrong, IsVerdict}
-use Rattle.history_check.specs.Taking.{HasTaken, IsReading, AreMarked, IsUnmarked}
+use Rattle.history_check.specs.Taking.{HasTaken, AreMarked, IsUnmarked}
 use Rattle.history_check.proofs.ScriptLemmas.{worker_within}
-use Rattle.history_check.proofs.LineLemmas.{entry_line, one_read, left_read, all_read, long_read, history_lines_length}
+use Rattle.history_check.proofs.LineLemmas.{HasRead, entry_line, one_read, left_read, all_read, long_read, history_lines_length}
 use Rattle.history_check.proofs.VerdictLemmas.{accepted, found}
+
+-- A replay has performed the entries whose lines were read of a text, so many, if the text is
+-- known.
+pub record IsReading (opening : Opening) (start : Book) (scripts : List (List Request))
+    (order : Order) (first now : Option (List ℕ)) (replay : Replay) (number : ℕ) : Type 0 where
+  pub history : List Entry
+  pub taken : HasTaken opening start scripts order history replay
+  pub has_read : HasRead first now history
+  pub number_is : number ≡ length history
 
 -- what holds of an entry at the place of a line, with the line's text as its reply's, holds of the line
 module _ (scripts : List (List Request)) (old new : Replay) (line text : List ℕ) (commit_id : CommitId) (read : IsLineOf line commit_id text) where
   line_is : (e : Entry) → commit_id_of e ≡ commit_id → text ≡ reply_text e.reply → history_line e ≡ line
   line_is e at_place told = entry_line e ∙ (λ k. line_at (at_place k) (sym told k)) ∙ sym read.line_is
 
-  pub right_line : (result : Result (Option Wrong) CheckFault)
-      → IfOk result (λ found. IfNone found ((opening : Opening) (start : Book) (order : Order) (history : List Entry) → HasTaken opening start scripts order history old
+  pub right_line : (result : Result Bool CheckFault)
+      → IfOk result (λ is_right. OnTrue is_right ((opening : Opening) (start : Book) (order : Order) (history : List Entry) → HasTaken opening start scripts order history old
       → (entry : Entry) × (commit_id_of entry ≡ commit_id) × (text ≡ reply_text entry.reply) × HasTaken opening start scripts order (history ++ entry ∷ []) new))
-      → IfOk result (λ found. IfNone found ((opening : Opening) (start : Book) (order : Order) (history : List Entry) → HasTaken opening start scripts order history old
+      → IfOk result (λ is_right. OnTrue is_right ((opening : Opening) (start : Book) (order : Order) (history : List Entry) → HasTaken opening start scripts order history old
       → (entry : Entry) × (history_line entry ≡ line) × HasTaken opening start scripts order (history ++ entry ∷ []) new))
   right_line (Err fault) right = tt
-  right_line (Ok (Some why)) right = tt
-  right_line (Ok None) right = λ opening start order history taken.
+  right_line (Ok false) right = tt
+  right_line (Ok true) right = λ opening start order history taken.
       let told = right opening start order history taken in (told.0, line_is told.0 told.1 told.2, told.3)
+
+  pub wrong_line : (result : Result Bool CheckFault)
+      → IfOk result (λ is_right. OnFalse is_right ((line : List ℕ) → IsLineOf line commit_id text
+      → (opening : Opening) (start : Book) (order : Order) (history : List Entry) → HasTaken opening start scripts order history old
+      → IsSomeAnd new.wrong (IsWrong opening start scripts order history line)))
+      → IfOk result (λ is_right. OnFalse is_right ((opening : Opening) (start : Book) (order : Order) (history : List Entry) → HasTaken opening start scripts order history old
+      → IsSomeAnd new.wrong (IsWrong opening start scripts order history line)))
+  wrong_line (Err fault) wrong = tt
+  wrong_line (Ok true) wrong = tt
+  wrong_line (Ok false) wrong = wrong line read
+
+-- what holds of what a value is, if there is one
+pub some_there : {X : Type 0} (o : Option X) (P : X → Type 0) → IsSomeAnd o P → IsSome o
+some_there None P holds = absurd holds
+some_there (Some x) P holds = refl
+
+pub some_and : {X : Type 0} (o : Option X) (x : X) (P : X → Type 0) → o ≡ Some x → IsSomeAnd o P → P x
+some_and o x P is holds = subst (λ one. IsSomeAnd one P) is holds
 
 -- a fault that is handed on is that fault
 pub fault_is : {T U : Type 0} (result : Result T CheckFault) (fault other : CheckFault) → IsErrAnd result (λ e. e ≡ fault) → IsErrOf result other → IsErrOf {T = U} (Err fault) other

@@ -1,20 +1,22 @@
 -- A replay that has performed the entries of a history so far.
-use Rattle.std.specs.Prelude.{ℕ, ◌+◌, ◌≡◌, ◌<◌, ◌≤◌, Bool, if◌then◌else◌, true, false, List, Option, length, count_by, get_or}
+use Rattle.std.specs.Prelude.{ℕ, ◌+◌, ◌≡◌, ◌<◌, ◌≤◌, Bool, if◌then◌else◌, true, false, List, Some, length, count_by, get_or}
 use Rattle.auction_rows.specs.declared.limits.TheConstants.{MOST_WORKERS}
 use Rattle.auction_rows.specs.declared.values.Opening.{Opening}
+use Rattle.auction_rows.specs.declared.replies.Reply.{Reply}
 use Rattle.auction_rows.specs.declared.requests.Request.{Request}
 use Rattle.auction_rows.specs.declared.rows.Entry.{Entry}
 use Rattle.auction_rows.specs.Book.{Book}
 use Rattle.auction_rows.specs.History.{book_after}
+use Rattle.auction_text.specs.Replies.{reply_text}
 use Rattle.item_shards.specs.Serial.{HoldsBook, serial_opening}
 use Rattle.run_laws.specs.Serving.{script_of}
 use Rattle.history_check.specs.declared.lines.Order.{Order}
+use Rattle.history_check.specs.declared.lines.Wrong.TheVariants.{Due}
 use Rattle.history_check.specs.declared.replay.Replay.{Replay}
 use Rattle.history_check.specs.Scripts.{is_of}
 use Rattle.history_check.specs.Marks.{is_marked, HasPlaces}
 use Rattle.history_check.specs.Orders.{turn_after}
 use Rattle.history_check.specs.Checking.{GoWell}
-use Rattle.history_check.specs.Texts.{HasRead}
 
 -- Nothing is wrong with the entries, the auction holds the book after them, each request that
 -- stands in one has a mark, and each worker its turn.
@@ -47,6 +49,11 @@ ForEachTaken scripts replay IsSo =
     (opening : Opening) (start : Book) (order : Order) (history : List Entry) →
     HasTaken opening start scripts order history replay → IsSo opening start order history
 
+-- a text is that of the reply that was due; or it is not, and the replay keeps which one was due
+abbrev pub HasCompared : Bool → Reply → List ℕ → Replay → Type 0
+HasCompared true due text replay = text ≡ reply_text due
+HasCompared false due text replay = (replay.wrong ≡ Some (Due due)) × ¬ (text ≡ reply_text due)
+
 -- each request of each script has a mark
 abbrev pub AreMarked : List (List Request) → List (List Bool) → Type 0
 AreMarked scripts rows = (worker index : ℕ) → index < length (script_of scripts worker) →
@@ -58,19 +65,3 @@ pub record IsUnmarked (scripts : List (List Request)) (rows : List (List Bool))
   pub has_request : index < length (script_of scripts worker)
   pub worker_below : worker < MOST_WORKERS
   pub no_mark : is_marked rows worker index ≡ false
-
--- A replay has performed the entries whose lines were read of a text, so many, if the text is
--- known.
-pub record IsReading (opening : Opening) (start : Book) (scripts : List (List Request))
-    (order : Order) (first now : Option (List ℕ)) (replay : Replay) (number : ℕ) : Type 0 where
-  pub history : List Entry
-  pub taken : HasTaken opening start scripts order history replay
-  pub has_read : HasRead first now history
-  pub number_is : number ≡ length history
-
--- it is so with each reading of a text that this replay may be at, after so many lines
-abbrev pub ForEachReading : List (List Request) → Option (List ℕ) → Replay → ℕ →
-    (Opening → Book → Order → Option (List ℕ) → Type 0) → Type 0
-ForEachReading scripts now replay number IsSo =
-    (opening : Opening) (start : Book) (order : Order) (first : Option (List ℕ)) →
-    IsReading opening start scripts order first now replay number → IsSo opening start order first

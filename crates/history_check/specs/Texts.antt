@@ -1,5 +1,5 @@
 -- The lines of a text.
-use Rattle.std.specs.Prelude.{ℕ, ◌==◌, ◌≡◌, Bool, true, false, List, [], ◌∷◌, ◌++◌, Option, None, Some, ⊤, map, if◌then◌else◌}
+use Rattle.std.specs.Prelude.{ℕ, ◌==◌, ◌≡◌, Bool, true, false, List, [], ◌∷◌, Option, None, Some, ⊤, map, if◌then◌else◌}
 use Rattle.auction_rows.specs.declared.replies.Reply.{Reply}
 use Rattle.auction_rows.specs.declared.replies.Reply.TheVariants.{ItemStored, BidStored, CommentStored, Bought, ItemSeen, BidsSeen, CategorySeen, UserSeen, Refused}
 use Rattle.auction_rows.specs.declared.rows.Entry.{Entry}
@@ -27,12 +27,6 @@ ReadsLine None new found line = ⊤
 ReadsLine (Some text) new true line = (rest : List ℕ) × (new ≡ Some rest)
     × (lines_of text ≡ line ∷ lines_of rest)
 ReadsLine (Some text) new false line = lines_of text ≡ []
-
--- the lines of a history were read of a text, if that is known
-abbrev pub HasRead : Option (List ℕ) → Option (List ℕ) → List Entry → Type 0
-HasRead None new history = ⊤
-HasRead (Some text) new history = (rest : List ℕ) × (new ≡ Some rest)
-    × (lines_of text ≡ history_lines history ++ lines_of rest)
 
 -- the name that a reply shows is a name
 abbrev pub ShowsName : Reply → Type 0

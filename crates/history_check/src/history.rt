@@ -1,6 +1,8 @@
 //! The check of a whole history, line by line, and what holds of the lines of the product's
 //! histories.
-ghost use Rattle.std.specs.Prelude.{◌≡◌, ◌<◌, ◌≤◌, ◌+◌, length, IfNone, IfOk, IfSome, IsErrOf, ℕ, List};
+ghost use Rattle.std.specs.Prelude.{◌≡◌, ◌<◌, ◌≤◌, ◌+◌, [], true, length, IfOk, IfSome, IsErrOf, ℕ, List};
+ghost use Rattle.std.specs.Bool.{OnFalse, OnTrue};
+ghost use Rattle.std.specs.Io.KnownBytes.{Keeps};
 ghost use Rattle.std.specs.List.{AllByRecursion};
 ghost use Rattle.auction_rows.specs.declared.rows.Entry.{Entry};
 ghost use Rattle.item_shards.specs.OpeningBooks.{opening_of, rows_of_book};
@@ -9,13 +11,13 @@ ghost use Rattle.history_check.specs.declared.lines.CheckFault.TheVariants.{TooL
 ghost use Rattle.history_check.specs.declared.lines.Verdict.TheVariants.{Replays};
 ghost use Rattle.history_check.specs.Texts.{lines_of, ReadsLine, ShowsName, history_lines};
 ghost use Rattle.history_check.specs.Checking.{IsAccepted, IsVerdict};
-ghost use Rattle.history_check.specs.Taking.{CanTake, ForEachReading, IsReading};
 ghost use Rattle.history_check.specs.CommitIds.{line_at, commit_id_of};
 
 use crate::lines::{CheckFault, Order, Verdict};
 use crate::replay::Replay;
 use auction_rows::{MOST_ROWS, MOST_WORKERS};
 use item_shards::OpeningBook;
+use memchr::memchr;
 use std::alloc::Global;
 use std::io::{BufRead, Error, ErrorKind};
 use worker_journals::Script;
@@ -31,6 +33,33 @@ fn fault_of(error: &Error) -> CheckFault
     }
 }
 
+// Takes the next line with its line feed, if the reader holds the whole of it.
+fn take_held<R: BufRead>(reader: &mut R, line: &mut Vec<u8>) -> Result<bool, CheckFault>
+    requires { line.old.items ≡ [] }
+    ensures line { IfOk result (λ found. OnTrue found (
+        ReadsLine (R.remaining reader.old) (R.remaining reader.new) true line.new.items)) }
+    ensures none { IfOk result (λ found. OnFalse found (
+        Keeps (R.remaining reader.old) (R.remaining reader.new) × (line.new.items ≡ []))) }
+    ensures fault { IsErrOf result TooLong → ⊥ }
+{
+    let held = match reader.fill_buf() {
+        Ok(held) => held,
+        Err(error) => {
+            return if error.kind() == ErrorKind::Interrupted {
+                Ok(false)
+            } else {
+                Err(fault_of(&error))
+            };
+        }
+    };
+    let Some(place) = memchr(b'\n', held) else {
+        return Ok(false);
+    };
+    line.extend_from_slice(&held[..place + 1])?;
+    reader.consume(place + 1);
+    Ok(true)
+}
+
 // Reads the next line with its line feed, if there is one.
 fn read_next<R: BufRead>(reader: &mut R, line: &mut Vec<u8>) -> Result<bool, CheckFault>
     ensures line { IfOk result (λ found.
@@ -38,47 +67,13 @@ fn read_next<R: BufRead>(reader: &mut R, line: &mut Vec<u8>) -> Result<bool, Che
     ensures fault { IsErrOf result TooLong → ⊥ }
 {
     line.clear();
+    if take_held(reader, line)? {
+        return Ok(true);
+    }
     match reader.read_until(b'\n', line) {
         Ok(0) => Ok(false),
         Ok(_) => Ok(true),
         Err(error) => Err(fault_of(&error)),
-    }
-}
-
-// Reads the next line and performs it. What is found is known if there is no next line, or if it
-// is wrong; `line` holds it then.
-fn find_next<R: BufRead>(
-    replay: &mut Replay,
-    scripts: &[Script],
-    number: usize,
-    reader: &mut R,
-    line: &mut Vec<u8>,
-) -> Result<Option<Verdict>, CheckFault>
-    requires workers { length scripts.now ≤ MOST_WORKERS }
-    requires number { number ≤ MOST_ROWS }
-    requires taken { CanTake scripts.now replay.old }
-    ensures goes_on { IfOk result (λ found. IfNone found (
-        ForEachReading scripts.now (R.remaining reader.old) replay.old number
-        (λ opening start order first. IsReading opening start scripts.now order first
-        (R.remaining reader.new) replay.new (number + 1)))) }
-    ensures verdict { IfOk result (λ found. IfSome found (λ verdict.
-        ForEachReading scripts.now (R.remaining reader.old) replay.old number
-        (λ opening start order first. IfSome first (λ text.
-        IsVerdict opening start scripts.now order text line.new.items verdict)))) }
-    ensures too_long { IsErrOf result TooLong →
-        ForEachReading scripts.now (R.remaining reader.old) replay.old number
-        (λ opening start order first. IfSome first (λ text.
-        MOST_ROWS < length start + length (lines_of text))) }
-{
-    if !read_next(reader, line)? {
-        if let Some((worker, index)) = replay.lacks(scripts) {
-            return Ok(Some(Verdict::Lacks(worker, index)));
-        }
-        return Ok(Some(Verdict::Replays));
-    }
-    match replay.perform(scripts, line)? {
-        Some(wrong) => Ok(Some(Verdict::WrongAt(number + 1, wrong))),
-        None => Ok(None),
     }
 }
 
@@ -107,8 +102,14 @@ pub fn check_history<R: BufRead>(
 {
     let mut replay = Replay::new(alloc, book, scripts, order)?;
     for number in 0..MOST_ROWS + 1 {
-        if let Some(verdict) = find_next(&mut replay, scripts, number, reader, line)? {
-            return Ok(verdict);
+        if !read_next(reader, line)? {
+            if let Some((worker, index)) = replay.lacks(scripts) {
+                return Ok(Verdict::Lacks(worker, index));
+            }
+            return Ok(Verdict::Replays);
+        }
+        if !replay.perform(scripts, line)? {
+            return Ok(Verdict::WrongAt(number + 1, replay.wrong()));
         }
     }
     Err(CheckFault::TooLong)

@@ -1,9 +1,14 @@
 //! Which requests of the scripts have stood in a line, how far each worker's entries have come in
 //! its script, and an auction of one thread on which a history is replayed.
-ghost use Rattle.std.specs.Prelude.{◌≡◌, ◌<◌, ◌≤◌, ℕ, true, false, length, IfOk, IfNone, IfSome, ◌==◌, ◌&&◌, if◌then◌else◌, Some, ◌^◌, suc, max, nat_lt, get_or, ◌↔◌, ◌++◌, ◌∷◌, [], List, IsTrue, IsErrOf};
+ghost use Rattle.std.specs.Prelude.{◌≡◌, ◌<◌, ◌≤◌, ℕ, true, false, length, IfOk, IfNone, IfSome, ◌==◌, ◌&&◌, if◌then◌else◌, Some, suc, max, nat_lt, get_or, ◌++◌, ◌∷◌, [], List, IsErrOf, IsSome, IsSomeAnd, OnOk};
+ghost use Rattle.std.specs.Bool.{OnFalse, OnTrue};
 ghost use Rattle.run_laws.specs.Serving.{script_of};
 ghost use Rattle.auction_rows.specs.declared.rows.Entry.{Entry};
+ghost use Rattle.auction_rows.specs.Book.{Book};
+ghost use Rattle.auction_rows.specs.Replies.{next, reply};
+ghost use Rattle.auction_rows.specs.StoreReplies.{reply_of};
 ghost use Rattle.item_shards.specs.OpeningBooks.{opening_of, rows_of_book};
+ghost use Rattle.item_shards.specs.Serial.{CanGrow, HoldsBook, IsNotFull, serial_opening};
 ghost use Rattle.auction_text.specs.Replies.{reply_text, history_line};
 ghost use Rattle.history_check.specs.Scripts.{request_at};
 ghost use Rattle.history_check.specs.Marks.{is_marked, HasPlaces, AreWide};
@@ -13,8 +18,8 @@ ghost use Rattle.history_check.specs.CommitIds.{Fits, IsLineOf, commit_id_of};
 ghost use Rattle.history_check.specs.Checking.{IsWrong};
 
 use crate::lines::{CheckFault, CommitId, Order, Wrong, read_line};
-use auction_rows::{MOST_ROWS, MOST_WORKERS, Reply, Request, is_splittable};
-use auction_text::push_reply;
+use auction_rows::{MOST_ROWS, MOST_WORKERS, Reply, Request, StoreReply, is_splittable};
+use auction_text::ReplyText;
 use item_shards::{OpeningBook, SerialAuction};
 use std::alloc::{AllocError, Global};
 use worker_journals::Script;
@@ -163,20 +168,26 @@ pub struct Replay {
     // How many rows it was opened with, and how many lines it has performed.
     pub(crate) rows: usize,
     // The text of the last reply that was due.
-    due: Vec<u8>,
+    due: ReplyText,
+    // Why the last line is wrong, if it is. To return this for each line would copy a whole reply.
+    pub(crate) wrong: Option<Wrong>,
 }
 
-// Whether a text is that of a reply, which is written for it.
-fn is_text_of(written: &mut Vec<u8>, reply: &Reply, text: &[u8]) -> Result<bool, AllocError>
-    ensures { IfOk result (λ same. IsTrue same ↔ (text.now ≡ reply_text reply.now)) }
+// The reply to a store, as a reply.
+fn reply_of(reply: StoreReply) -> Reply
+    ensures { result ≡ reply_of reply }
 {
-    written.clear();
-    push_reply(written, reply)?;
-    Ok(written.as_slice() == text)
+    match reply {
+        StoreReply::ItemStored(id) => Reply::ItemStored(id),
+        StoreReply::BidStored(id) => Reply::BidStored(id),
+        StoreReply::CommentStored(id) => Reply::CommentStored(id),
+        StoreReply::Bought(id) => Reply::Bought(id),
+        StoreReply::Refused(reason) => Reply::Refused(reason),
+    }
 }
 
 impl Replay {
-    ghost use Rattle.history_check.specs.Taking.{HasTaken, CanTake, ForEachTaken, AreMarked, IsUnmarked};
+    ghost use Rattle.history_check.specs.Taking.{HasTaken, CanTake, ForEachTaken, HasCompared, AreMarked, IsUnmarked};
 
     /// The auction of an opening book, before the first line.
     pub fn new(
@@ -194,28 +205,50 @@ impl Replay {
             marks: Marks::new(alloc, scripts)?,
             turns: Turns::new(),
             rows: book.rows().len(),
-            due: Vec::new(alloc),
+            due: ReplyText::new(),
+            wrong: None,
         })
     }
 
-    /// Performs the request of one line more, and says what is wrong with the line. After what is
-    /// wrong, or a fault, the replay is to be dropped.
-    pub fn perform(&mut self, scripts: &[Script], line: &[u8]) -> Result<Option<Wrong>, CheckFault>
+    /// Performs the request of one line more, and returns whether the line is right. If it is not,
+    /// `wrong` says why. After such a line, or a fault, the replay is to be dropped.
+    pub fn perform(&mut self, scripts: &[Script], line: &[u8]) -> Result<bool, CheckFault>
         requires workers { length scripts.now ≤ MOST_WORKERS }
         requires taken { CanTake scripts.now self.old }
-        ensures right { IfOk result (λ found. IfNone found (
+        ensures right { IfOk result (λ is_right. OnTrue is_right (
             ForEachTaken scripts.now self.old (λ opening start order history.
             (entry : Entry) × (history_line entry ≡ line.now)
             × HasTaken opening start scripts.now order (history ++ entry ∷ []) self.new))) }
-        ensures wrong { IfOk result (λ found. IfSome found (λ why.
+        ensures wrong { IfOk result (λ is_right. OnFalse is_right (
             ForEachTaken scripts.now self.old (λ opening start order history.
-            IsWrong opening start scripts.now order history line.now why))) }
+            IsSomeAnd self.new.wrong (IsWrong opening start scripts.now order history line.now)))) }
         ensures too_long { IsErrOf result TooLong → MOST_ROWS ≤ self.old.rows }
     {
         match read_line(line) {
             Some((commit_id, text)) => self.perform_at(scripts, commit_id, text),
-            None => Ok(Some(Wrong::Unreadable)),
+            None => Ok(self.refuse(Wrong::Unreadable)),
         }
+    }
+
+    /// Why the last line is wrong.
+    pub fn wrong(&self) -> Wrong
+        requires { IsSome self.now.wrong }
+        ensures { self.now.wrong ≡ Some result }
+    {
+        match self.wrong {
+            Some(wrong) => wrong,
+            None => unreachable!(),
+        }
+    }
+
+    // Keeps why a line is wrong, and returns that it is not right.
+    #[cold]
+    fn refuse(&mut self, wrong: Wrong) -> bool
+        ensures refused { result ≡ false }
+        ensures kept { self.new ≡ record self.old { wrong = Some wrong } }
+    {
+        self.wrong = Some(wrong);
+        false
     }
 
     // Whether a line of a later request of the script stands before the request of a commit, and
@@ -231,6 +264,56 @@ impl Replay {
                 .is_late(commit_id.worker as usize, commit_id.index)
     }
 
+    // Whether a text is that of the reply to a store. If not, it is kept that this reply was due.
+    fn is_stored(&mut self, reply: StoreReply, text: &[u8]) -> bool
+        ensures compared { HasCompared result (reply_of reply) text.now self.new }
+        ensures others { self.new ≡ record self.old { due = self.new.due; wrong = self.new.wrong } }
+    {
+        if self.due.is_of_store(reply, text) {
+            return true;
+        }
+        self.refuse(Wrong::Due(reply_of(reply)))
+    }
+
+    // Whether a text is that of the reply to a view. If not, it is kept that this reply was due.
+    #[inline(never)]
+    fn is_seen(&mut self, worker: u32, request: &Request, text: &[u8]) -> bool
+        requires { worker < MOST_WORKERS }
+        ensures compared { (book : Book) → HoldsBook self.old.auction book → HasCompared result
+            (reply (serial_opening self.old.auction) book worker request.now) text.now self.new }
+        ensures others { self.new ≡ record self.old { due = self.new.due; wrong = self.new.wrong } }
+    {
+        let reply = self.auction.reply_to(worker, *request);
+        if self.due.is_of(&reply, text) {
+            return true;
+        }
+        self.refuse(Wrong::Due(reply))
+    }
+
+    // Performs a request, and returns whether a text is that of the reply. If not, it is kept that
+    // this reply was due.
+    fn is_due(&mut self, worker: u32, request: &Request, text: &[u8]) -> Result<bool, AllocError>
+        requires worker { worker < MOST_WORKERS }
+        requires room { CanGrow self.old.auction }
+        ensures compared { IfOk result (λ is_right.
+            (book : Book) → HoldsBook self.old.auction book → HasCompared is_right
+            (reply (serial_opening self.old.auction) book worker request.now) text.now self.new) }
+        ensures book { OnOk result ((book : Book) → HoldsBook self.old.auction book →
+            IsNotFull book → HoldsBook self.new.auction
+            (next (serial_opening self.old.auction) book worker request.now)) }
+        ensures opening { serial_opening self.new.auction ≡ serial_opening self.old.auction }
+        ensures others { self.new ≡ record self.old {
+          auction = self.new.auction;
+          due = self.new.due;
+          wrong = self.new.wrong;
+        } }
+    {
+        match self.auction.perform_store(worker, request)? {
+            Some(reply) => Ok(self.is_stored(reply, text)),
+            None => Ok(self.is_seen(worker, request, text)),
+        }
+    }
+
     // Performs the request of a commit, if a line tells of it in its turn, and compares the reply
     // with a text.
     fn perform_at(
@@ -238,44 +321,41 @@ impl Replay {
         scripts: &[Script],
         commit_id: CommitId,
         text: &[u8],
-    ) -> Result<Option<Wrong>, CheckFault>
+    ) -> Result<bool, CheckFault>
         requires workers { length scripts.now ≤ MOST_WORKERS }
         requires taken { CanTake scripts.now self.old }
         requires fits { Fits commit_id }
-        ensures right { IfOk result (λ found. IfNone found (
+        ensures right { IfOk result (λ is_right. OnTrue is_right (
             ForEachTaken scripts.now self.old (λ opening start order history.
             (entry : Entry) × (commit_id_of entry ≡ commit_id) × (text.now ≡ reply_text entry.reply)
             × HasTaken opening start scripts.now order (history ++ entry ∷ []) self.new))) }
-        ensures wrong { IfOk result (λ found. IfSome found (λ why.
+        ensures wrong { IfOk result (λ is_right. OnFalse is_right (
             (line : List ℕ) → IsLineOf line commit_id text.now →
             ForEachTaken scripts.now self.old (λ opening start order history.
-            IsWrong opening start scripts.now order history line why))) }
+            IsSomeAnd self.new.wrong (IsWrong opening start scripts.now order history line)))) }
         ensures too_long { IsErrOf result TooLong → MOST_ROWS ≤ self.old.rows }
     {
         let Some(request) = request_of(scripts, commit_id.worker, commit_id.index) else {
-            return Ok(Some(Wrong::NoRequest));
+            return Ok(self.refuse(Wrong::NoRequest));
         };
         if self
             .marks
             .has(commit_id.worker as usize, commit_id.index as usize)
         {
-            return Ok(Some(Wrong::Again));
+            return Ok(self.refuse(Wrong::Again));
         }
         if self.is_late(commit_id, request) {
-            return Ok(Some(Wrong::Late));
+            return Ok(self.refuse(Wrong::Late));
         }
         if self.rows >= MOST_ROWS {
             return Err(CheckFault::TooLong);
-        }
-        let due = self.auction.perform(commit_id.worker, request)?;
-        if !is_text_of(&mut self.due, &due, text)? {
-            return Ok(Some(Wrong::Due(due)));
         }
         self.marks
             .mark(commit_id.worker as usize, commit_id.index as usize);
         self.turns.pass(commit_id.worker as usize, commit_id.index);
         self.rows += 1;
-        Ok(None)
+        let is_right = self.is_due(commit_id.worker, &request, text)?;
+        Ok(is_right)
     }
 
     /// A request that has stood in no line, if there is one: its worker and its index.

@@ -232,7 +232,7 @@ abbrev pub none_counted : StoreCounts
 none_counted = record { items = 0; bids = 0; comments = 0; buys = 0 }
 
 -- a worker's counts are those of the book
-counted_in : (auction : SerialAuction) (b : Book) (worker : ℕ) → HoldsBook auction b → worker < 16 → get_or auction.stored worker none_counted ≡ stored_by b worker
+pub counted_in : (auction : SerialAuction) (b : Book) (worker : ℕ) → HoldsBook auction b → worker < 16 → get_or auction.stored worker none_counted ≡ stored_by b worker
 counted_in auction b worker holds below = get_or_from_slice_get auction.stored worker (stored_by b worker) none_counted (holds.counts worker below)
 
 -- a store that is not refused is answered by the count of its worker's stores of its kind

@@ -1,10 +1,12 @@
 -- Why an item refuses a request.
 use Rattle.std.specs.Prelude.{◌≡◌, ℕ, Option, Some, option_map, option_and_then, unwrap_or}
 use Rattle.auction_rows.specs.declared.replies.Refusal.{Refusal}
+use Rattle.auction_rows.specs.declared.requests.BidEntry.{BidEntry}
 use Rattle.auction_rows.specs.declared.requests.Facts.{Facts}
 use Rattle.auction_rows.specs.declared.requests.ItemId.{ItemId}
 use Rattle.auction_rows.specs.declared.requests.Object.TheVariants.{Item}
 use Rattle.auction_rows.specs.declared.requests.Request.{Request}
+use Rattle.auction_rows.specs.declared.requests.Request.TheVariants.{StoreBid}
 use Rattle.auction_rows.specs.Refusals.{item_refusal}
 use Rattle.auction_rows.specs.Requests.{item_of}
 use Rattle.item_shards.specs.declared.shard.Shard.{Shard}
@@ -16,6 +18,10 @@ use Rattle.item_shards.specs.Values.{stock, stock_facts, stock_left}
 abbrev pub refusal_with : Option (Facts × ℕ) → Request → Option Refusal
 refusal_with found request =
     item_refusal request (option_map stock_facts found) (unwrap_or (option_map stock_left found) 0)
+
+-- the request to store a bid on an item
+abbrev pub bid_request : ItemId → BidEntry → Request
+bid_request item bid = StoreBid bid.bidder item bid.amount bid.time
 
 -- the item that a request needs, if it needs one, lies in the shard
 abbrev pub HasItemOf : Shard → Request → Type 0

@@ -1,14 +1,17 @@
 //! The auction of one thread: every object in one shard.
-ghost use Rattle.std.specs.Prelude.{◌≡◌, ◌+◌, ◌<◌, ◌++◌, ◌∷◌, [], IfOk, OnOk, OnErr, All};
+ghost use Rattle.std.specs.Prelude.{◌≡◌, ◌+◌, ◌<◌, ◌++◌, ◌∷◌, [], None, IfOk, OnOk, OnErr, IfSome, IfNone, All, slice_get};
+ghost use Rattle.auction_rows.specs.StoreReplies.{reply_of};
+ghost use Rattle.auction_rows.specs.declared.replies.Reply.{Reply as Answer};
 ghost use Rattle.auction_rows.specs.declared.requests.Object.{Object as Thing};
+ghost use Rattle.item_shards.specs.Answering.{bid_request};
 ghost use Rattle.item_shards.specs.ShardContents.{LiesIn};
 
 use crate::openings::StoreCounts;
 use crate::shard::Shard;
 use crate::shard::answers::refusal_with;
 use auction_rows::{
-    BidId, BuyId, CommentId, ItemId, MOST_WORKERS, Opening, Refusal, Reply, Request, Row, item_of,
-    number_refusal, row_of,
+    BidEntry, BidId, BuyId, CommentId, ItemId, MOST_WORKERS, Opening, Refusal, Reply, Request, Row,
+    StoreReply, item_of, number_refusal, row_of, row_of_store,
 };
 use std::alloc::{AllocError, Global};
 
@@ -24,7 +27,7 @@ pub struct SerialAuction {
 impl SerialAuction {
     ghost use Rattle.auction_rows.specs.Book.{Book};
     ghost use Rattle.auction_rows.specs.Refusals.{refusal};
-    ghost use Rattle.auction_rows.specs.Replies.{reply, next, answer_unless};
+    ghost use Rattle.auction_rows.specs.Replies.{reply, next, answer_unless, row_of};
     ghost use Rattle.auction_rows.specs.History.{IsBook};
     ghost use Rattle.item_shards.specs.Counting.{worker_of};
     ghost use Rattle.item_shards.specs.Limits.{IsWithinLimits};
@@ -135,6 +138,54 @@ impl SerialAuction {
         refusal_with(&self.shard.stock(item), request)
     }
 
+    // The reply to the store of a worker below 16. A view has none, and adds no row.
+    fn reply_to_store(&self, worker: u32, request: &Request) -> Option<StoreReply>
+        requires { worker < MOST_WORKERS }
+        ensures reply { IfSome result (λ answered. (book : Book) → HoldsBook self.now book →
+            reply_of answered ≡ reply (serial_opening self.now) book worker request.now) }
+        ensures view { IfNone result (
+            (answered : Answer) → row_of worker request.now answered ≡ None) }
+    {
+        let stored = self.stored[worker as usize];
+        match *request {
+            Request::StoreItem { .. } => {
+                let serial = stored.items;
+                let id = ItemId { worker, serial };
+                Some(self.stored_unless_refused(request, StoreReply::ItemStored(id)))
+            }
+            Request::StoreBid { .. } => {
+                let serial = stored.bids;
+                let id = BidId { worker, serial };
+                Some(self.stored_unless_refused(request, StoreReply::BidStored(id)))
+            }
+            Request::StoreComment { .. } => {
+                let serial = stored.comments;
+                let id = CommentId { worker, serial };
+                Some(self.stored_unless_refused(request, StoreReply::CommentStored(id)))
+            }
+            Request::BuyNow { .. } => {
+                let serial = stored.buys;
+                let id = BuyId { worker, serial };
+                Some(self.stored_unless_refused(request, StoreReply::Bought(id)))
+            }
+            Request::ViewItem { .. } => None,
+            Request::ViewBids { .. } => None,
+            Request::ViewCategory { .. } => None,
+            Request::ViewUser { .. } => None,
+        }
+    }
+
+    // The refusal of a store, or else the reply.
+    fn stored_unless_refused(&self, request: &Request, reply: StoreReply) -> StoreReply
+        ensures { (book : Book) → HoldsBook self.now book → reply_of result
+            ≡ answer_unless (refusal (serial_opening self.now) book request.now) (reply_of reply) }
+    {
+        match self.refusal(request) {
+            Some(reason) => StoreReply::Refused(reason),
+            None => reply,
+        }
+    }
+
     // Stores a row. Without memory the auction holds the books that it held.
     fn store(&mut self, row: &Row) -> Result<(), AllocError>
         requires { CanStore self.old row.now }
@@ -150,6 +201,104 @@ impl SerialAuction {
         counts.count(row);
         self.stored[worker] = counts;
         Ok(())
+    }
+
+    // Commits a store by its reply and its row. A view has none of these, and changes nothing.
+    fn perform_row(
+        &mut self,
+        worker: u32,
+        request: &Request,
+    ) -> Result<Option<StoreReply>, AllocError>
+        requires worker { worker < MOST_WORKERS }
+        requires room { CanGrow self.old }
+        ensures reply { IfOk result (λ performed. IfSome performed (λ answered.
+            (book : Book) → HoldsBook self.old book →
+            reply_of answered ≡ reply (serial_opening self.old) book worker request.now)) }
+        ensures view { IfOk result (λ performed. IfNone performed (self.new ≡ self.old)) }
+        ensures book { OnOk result ((book : Book) → HoldsBook self.old book → IsNotFull book →
+            HoldsBook self.new (next (serial_opening self.old) book worker request.now)) }
+        ensures refused { OnErr result (
+            (book : Book) → HoldsBook self.old book → HoldsBook self.new book) }
+        ensures opening { serial_opening self.new ≡ serial_opening self.old }
+    {
+        let Some(reply) = self.reply_to_store(worker, request) else {
+            return Ok(None);
+        };
+        if let Some(row) = row_of_store(worker, *request, reply) {
+            self.store(&row)?;
+        }
+        Ok(Some(reply))
+    }
+
+    // Commits a bid by one look-up of its item, and gives the reply. It takes no memory.
+    fn perform_bid(&mut self, item: ItemId, bid: BidEntry) -> StoreReply
+        requires worker { bid.id.worker < MOST_WORKERS }
+        requires id { IfSome (slice_get self.old.stored bid.id.worker)
+            (λ counts. bid.id.serial ≡ counts.bids) }
+        requires room { CanGrow self.old }
+        ensures reply { (book : Book) → HoldsBook self.old book → reply_of result
+            ≡ reply (serial_opening self.old) book bid.id.worker (bid_request item bid) }
+        ensures book { (book : Book) → HoldsBook self.old book → IsNotFull book →
+            HoldsBook self.new
+            (next (serial_opening self.old) book bid.id.worker (bid_request item bid)) }
+        ensures opening { serial_opening self.new ≡ serial_opening self.old }
+    {
+        let request = Request::StoreBid {
+            bidder: bid.bidder,
+            item,
+            amount: bid.amount,
+            time: bid.time,
+        };
+        if let Some(reason) = number_refusal(self.shard.parts.opening, request) {
+            return StoreReply::Refused(reason);
+        }
+        if let Some(reason) = self.shard.try_bid(item, bid) {
+            return StoreReply::Refused(reason);
+        }
+        let worker = bid.id.worker as usize;
+        let mut counts = self.stored[worker];
+        counts.bids += 1;
+        self.stored[worker] = counts;
+        StoreReply::BidStored(bid.id)
+    }
+
+    /// Commits the store of a worker below 16 as `perform` does, with its reply in few bytes. A view
+    /// has none of these, and changes nothing.
+    pub fn perform_store(
+        &mut self,
+        worker: u32,
+        request: &Request,
+    ) -> Result<Option<StoreReply>, AllocError>
+        requires worker { worker < MOST_WORKERS }
+        requires room { CanGrow self.old }
+        ensures reply { IfOk result (λ performed. IfSome performed (λ answered.
+            (book : Book) → HoldsBook self.old book →
+            reply_of answered ≡ reply (serial_opening self.old) book worker request.now)) }
+        ensures view { IfOk result (λ performed. IfNone performed (self.new ≡ self.old)) }
+        ensures book { OnOk result ((book : Book) → HoldsBook self.old book → IsNotFull book →
+            HoldsBook self.new (next (serial_opening self.old) book worker request.now)) }
+        ensures refused { OnErr result (
+            (book : Book) → HoldsBook self.old book → HoldsBook self.new book) }
+        ensures opening { serial_opening self.new ≡ serial_opening self.old }
+    {
+        let Request::StoreBid {
+            bidder,
+            item,
+            amount,
+            time,
+        } = *request
+        else {
+            return self.perform_row(worker, request);
+        };
+        let serial = self.stored[worker as usize].bids;
+        let id = BidId { worker, serial };
+        let bid = BidEntry {
+            amount,
+            time,
+            id,
+            bidder,
+        };
+        Ok(Some(self.perform_bid(item, bid)))
     }
 
     /// Commits the request of a worker below 16, if the auction has fewer than 16,000,000 rows.

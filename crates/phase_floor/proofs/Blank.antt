@@ -5,7 +5,6 @@ use Rattle.std.proofs.lemmas.List.{length-map}
 use Rattle.auction_rows.specs.declared.requests.Object.TheVariants.{Item, User}
 use Rattle.auction_rows.specs.declared.values.Opening.{Opening}
 use Rattle.item_shards.specs.declared.shard.Shard.{Shard}
-use Rattle.item_shards.specs.ShardContents.{IsNewShard}
 use Rattle.item_shards.specs.Values.{Value}
 use Rattle.item_shards.proofs.StandingLemmas.{blank_of_none}
 use Rattle.shard_boxes.specs.declared.limits.TheConstants.{MOST_COMMITS, MOST_KEPT}
@@ -13,13 +12,9 @@ use Rattle.shard_boxes.specs.States.{ShardState, state_of, state_at, IsInitial}
 use Rattle.phase_permits.specs.declared.worker.Counters.{Counters}
 use Rattle.phase_permits.specs.Replying.{CountsOf}
 use Rattle.phase_permits.specs.Workers.{no_counters}
-use Rattle.phase_floor.specs.Making.{IsBlank, AreBlank}
+use Rattle.auction_shards.specs.Making.{IsBlank, AreBlank}
 use Rattle.closing_laws.specs.Standing.{counters_at}
 use Rattle.phase_floor.specs.States.{joined_of, StandsFor, IsWithinMost, IsKept}
-
-pub blank_of_new : (opening : Opening) (count n : ℕ) (shard : Shard) → IsNewShard n count opening shard → IsBlank opening count n (state_of shard)
-blank_of_new opening count n shard new =
-    record { number_is = new.number_is; shards_is = new.shards_is; opening_is = new.opening_is; clock_is = new.clock_is; nothing = new.nothing }
 
 -- a blank shard may open a phase
 opened_of_blank : (opening : Opening) (count n : ℕ) (state : ShardState) → IsBlank opening count n state → IsInitial count n state

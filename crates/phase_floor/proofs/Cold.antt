@@ -10,9 +10,11 @@ use Rattle.shard_boxes.specs.States.{ShardState}
 use Rattle.phase_permits.specs.declared.slices.Hot.{Hot}
 use Rattle.phase_permits.specs.Slicing.{stocks_of, slices_in}
 use Rattle.phase_permits.specs.Workers.{IsEmptyIf, WorkerState}
-use Rattle.closing_laws.specs.Merging.{after_merge, slices_left}
+use Rattle.auction_shards.specs.Merging.{after_merge}
+use Rattle.auction_shards.specs.Shards.{at_start}
+use Rattle.closing_laws.specs.Merging.{slices_left}
 use Rattle.closing_laws.specs.Phases.{no_receipt}
-use Rattle.phase_floor.specs.Closings.{AreReceiptsOf, HasSettled, HasReconciled, at_start, from_the_last, sliced_of, slices_kept}
+use Rattle.phase_floor.specs.Closings.{AreReceiptsOf, HasSettled, HasReconciled, from_the_last, sliced_of, slices_kept}
 use Rattle.phase_floor.specs.Floors.{FloorState}
 use Rattle.phase_laws.proofs.ListLemmas.{every_from}
 

@@ -7,12 +7,13 @@ use Rattle.auction_rows.specs.declared.rows.Entry.{Entry}
 use Rattle.auction_rows.specs.Requests.{shard_of}
 use Rattle.shard_boxes.specs.States.{ShardState, state_at, no_shard}
 use Rattle.phase_permits.specs.Workers.{WorkerState}
+use Rattle.auction_shards.specs.Shards.{at_start}
 use Rattle.closing_laws.specs.Lawful.{ClosesLawfully}
 use Rattle.closing_laws.specs.Merging.{after_merge}
 use Rattle.closing_laws.specs.Phases.{Phase, value_on}
 use Rattle.closing_laws.proofs.LawfulLemmas.{split_lawful}
 use Rattle.closing_laws.proofs.MergeLemmas.{as_many}
-use Rattle.phase_floor.specs.Closings.{HasReconciled, HasClosedLawfully, phase_of, at_start}
+use Rattle.phase_floor.specs.Closings.{HasReconciled, HasClosedLawfully, phase_of}
 use Rattle.phase_floor.specs.Floors.{FloorState}
 
 -- clocks don't matter to what shards show of an object

@@ -19,12 +19,13 @@ use Rattle.phase_permits.specs.declared.worker.Counters.{Counters}
 use Rattle.phase_permits.specs.declared.slices.Hot.{Hot}
 use Rattle.phase_permits.specs.Stashes.{StashState}
 use Rattle.phase_permits.specs.Workers.{WorkerState}
-use Rattle.closing_laws.specs.Merging.{CanMerge, after_merge}
+use Rattle.auction_shards.specs.Merging.{CanMerge, after_merge}
+use Rattle.auction_shards.specs.Shards.{AreOfOne, at_start}
 use Rattle.closing_laws.specs.Phases.{HasClosed, counters_of, journal_of, receipt_at}
 use Rattle.closing_laws.specs.Standing.{StandFor, counters_at}
 use Rattle.closing_laws.proofs.CommitLemmas.{commits_grow}
 use Rattle.closing_laws.proofs.ReplayLemmas.{entries_replay}
-use Rattle.phase_floor.specs.Closings.{AreReceiptsOf, AreKnown, AreOfOne, ArePartsOf, HasReconciled, IsFinished, Leaves, at_start, from_the_last, phase_of, sliced_of, stash_of}
+use Rattle.phase_floor.specs.Closings.{AreReceiptsOf, AreKnown, ArePartsOf, HasReconciled, IsFinished, Leaves, from_the_last, phase_of, sliced_of, stash_of}
 use Rattle.phase_floor.specs.Floors.{FloorState, IsOpen}
 use Rattle.phase_floor.specs.States.{IsKept, joined_of}
 use Rattle.phase_floor.proofs.Closings.{finished, has_closed, in_order}

@@ -1,6 +1,5 @@
 pub mod Blank
-pub mod Placed
-pub mod Views
+pub mod Shards
 pub mod Begins
 pub mod Every
 pub mod PartLemmas
@@ -10,12 +9,11 @@ pub mod Closings
 pub mod BookSize
 pub mod Kept
 pub mod Started
-pub mod Merges
 pub mod Turns
 pub mod Reconciled
 pub mod Receipts
 pub mod ResumeLemmas
-pub mod ResumeActs
+pub mod RowActs
 pub mod Lawfully
 pub mod Cold
 pub mod Leaving

@@ -20,12 +20,14 @@ use Rattle.phase_permits.specs.Slicing.{hot_objects, stocks_of, slices_in, HaveA
 use Rattle.phase_permits.specs.Workers.{WorkerState}
 use Rattle.closing_laws.specs.Phases.{HasClosed, receipt_at, no_receipt, counters_of}
 use Rattle.closing_laws.specs.Standing.{StandFor}
-use Rattle.closing_laws.specs.Merging.{after_merge, slices_left, CanMerge}
+use Rattle.auction_shards.specs.Merging.{after_merge, CanMerge}
+use Rattle.auction_shards.specs.Shards.{AreOfOne, IsKnown, at_start, opening_in}
+use Rattle.closing_laws.specs.Merging.{slices_left}
 use Rattle.closing_laws.proofs.MergeLemmas.{as_many as as_many_merged}
 use Rattle.closing_laws.proofs.ReconcileLemmas.{reconciled_stand}
 use Rattle.closing_laws.proofs.RoomLemmas.{merges_can_be_done}
 use Rattle.shard_boxes.specs.declared.limits.TheConstants.{MOST_COMMITS}
-use Rattle.phase_floor.specs.Closings.{AreReceiptsOf, AreOfOne, AreKnown, IsKnown, phase_of, at_start, sliced_of, opening_in, from_the_last}
+use Rattle.phase_floor.specs.Closings.{AreReceiptsOf, AreKnown, phase_of, sliced_of, from_the_last}
 use Rattle.phase_floor.specs.Floors.{FloorState, IsOpen}
 use Rattle.phase_floor.specs.Resuming.{AreReady}
 use Rattle.phase_floor.specs.States.{DoesExist, DoAllExist}
@@ -77,8 +79,8 @@ module _ (initial : List ShardState) (workers : ℕ) (floor : FloorState) (is_op
   given_one = record {
     some = omega (arith, closed.boxes.0, is_open.kept.some_shards);
     few = omega (arith, closed.boxes.0, is_open.kept.few_shards);
-    number_is = λ s below. (closed.boxes.1 s (omega (arith, below, closed.boxes.0))).history.number_is;
-    shards_is = λ s below. (closed.boxes.1 s (omega (arith, below, closed.boxes.0))).history.shards_is ∙ sym closed.boxes.0;
+    numbered = λ s below.
+        let history = (closed.boxes.1 s (omega (arith, below, closed.boxes.0))).history in (history.number_is, history.shards_is ∙ sym closed.boxes.0);
     opening_is = λ s below. given_opening s below ∙ sym first;
   }
 
@@ -112,8 +114,8 @@ module _ (initial : List ShardState) (workers : ℕ) (floor : FloorState) (is_op
         let one = one_after order given given_one in
         let at = started merged states states_are in record {
           numbered = λ s below. (
-            ap (λ (state : ShardState). state.number) (at s (known s below)) ∙ one.number_is s (known s below),
-            ap (λ (state : ShardState). state.shards) (at s (known s below)) ∙ one.shards_is s (known s below) ∙ sym (same_length merged states states_are),
+            ap (λ (state : ShardState). state.number) (at s (known s below)) ∙ (one.numbered s (known s below)).0,
+            ap (λ (state : ShardState). state.shards) (at s (known s below)) ∙ (one.numbered s (known s below)).1 ∙ sym (same_length merged states states_are),
           );
           opening_is = λ s below. ap (λ (state : ShardState). state.opening) (at s (known s below)) ∙ one.opening_is s (known s below) ∙ opening_after order given ∙ first;
           clock_is = λ s below. ap (λ (state : ShardState). state.clock) (at s (known s below));

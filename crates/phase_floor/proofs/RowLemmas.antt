@@ -22,16 +22,17 @@ use Rattle.item_shards.specs.Writing.{writes_of}
 use Rattle.item_shards.proofs.SerialLemmas.{stored_next}
 use Rattle.shard_boxes.specs.declared.limits.TheConstants.{MOST_COMMITS}
 use Rattle.shard_boxes.specs.States.{ShardState, state_of}
+use Rattle.auction_shards.specs.Writing.{CanWriteOn, HaveDone}
 use Rattle.phase_permits.specs.declared.worker.Counters.{Counters}
 use Rattle.phase_permits.specs.Replying.{CountsOf}
 use Rattle.phase_permits.specs.Workers.{no_counters}
 use Rattle.closing_laws.specs.Standing.{StandFor, AreCountersOf, AreOfWorkers, counters_at, stores}
 use Rattle.phase_floor.specs.Adding.{CanTake, KeepsBooks, with_counted}
-use Rattle.phase_floor.specs.Resuming.{AreReady, CanWriteOn, HaveDone, HaveRoom, with_row}
+use Rattle.phase_floor.specs.Resuming.{AreReady, HaveRoom, with_row}
 use Rattle.phase_floor.specs.States.{JoinedState, AreOfABook, AreWithinMost, IsBookOf, IsKept, IsWithinMost, joined_of, states_of}
 use Rattle.phase_floor.proofs.BookSize.{size_at_most}
 use Rattle.phase_floor.proofs.Kept.{are_opened}
-use Rattle.phase_floor.proofs.ResumeActs.{can_write, ready_next, stand_next}
+use Rattle.phase_floor.proofs.RowActs.{can_write, ready_next, stand_next}
 
 -- ---- counters
 

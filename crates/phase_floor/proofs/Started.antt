@@ -6,7 +6,7 @@ use Rattle.auction_rows.specs.Requests.{shard_of}
 use Rattle.shard_boxes.specs.States.{ShardState, state_at, no_shard}
 use Rattle.phase_permits.specs.declared.worker.Counters.{Counters}
 use Rattle.closing_laws.specs.Standing.{StandFor}
-use Rattle.phase_floor.specs.Closings.{at_start}
+use Rattle.auction_shards.specs.Shards.{at_start}
 
 module _ (given states : List ShardState) (states_are : states ≡ map at_start given) where
   pub same_length : length states ≡ length given

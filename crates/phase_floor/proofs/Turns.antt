@@ -10,9 +10,10 @@ use Rattle.item_shards.specs.declared.shard.slices.Slice.{Slice}
 use Rattle.shard_boxes.specs.States.{ShardState}
 use Rattle.phase_permits.specs.declared.slices.Hot.{Hot}
 use Rattle.phase_permits.specs.Slicing.{slices_in}
-use Rattle.closing_laws.specs.Merging.{after_merge, CanMerge}
-use Rattle.phase_floor.specs.Closings.{AreOfOne, AreKnown, IsKnown, opening_in, from_the_last}
-use Rattle.phase_floor.proofs.Merges.{still_of_one, one_opening}
+use Rattle.auction_shards.specs.Merging.{after_merge, CanMerge}
+use Rattle.auction_shards.specs.Shards.{AreOfOne, IsKnown, opening_in}
+use Rattle.auction_shards.proofs.Merges.{still_of_one, one_opening}
+use Rattle.phase_floor.specs.Closings.{AreKnown, from_the_last}
 
 saw_split : {D S : Type 0} (P : S → D → Type 0) (step : S → D → S) (xs ys : List D) (s : S) → SawInTurn P step s (xs ++ ys) → SawInTurn P step s xs × SawInTurn P step (fold step s xs) ys
 saw_split P step [] ys s h = (tt, h)
@@ -32,7 +33,6 @@ opening_after (pair ∷ pairs) states = opening_after pairs (after_merge states 
 
 -- Of the slices that there were, some are left; the others are merged.
 pub record AreToMerge (start now : List ShardState) (all left : List (Object × Slice)) : Type 0 where
-  pub one : AreOfOne now
   pub known : AreKnown now left
   pub can : SawInTurn CanMerge after_merge now left
   pub whole : fold after_merge now left ≡ fold after_merge start all
@@ -53,7 +53,6 @@ module _ (start now : List ShardState) (all left first rest : List (Object × Sl
   -- after the first are merged, the rest is left
   pub merged_next : (next : List ShardState) → next ≡ fold after_merge now first → AreToMerge start next all rest
   merged_next next merged = record {
-    one = subst AreOfOne (sym merged) (one_after first now was.one);
     known = subst (λ (o : Opening). AllByRecursion (λ (pair : Object × Slice). IsKnown o pair.0) rest) (sym (ap opening_in merged ∙ opening_after first now)) all_known.1;
     can = subst (λ (states : List ShardState). SawInTurn CanMerge after_merge states rest) (sym merged) all_can.1;
     whole = ap (λ (states : List ShardState). fold after_merge states rest) merged ∙ sym (fold-append after_merge now first rest) ∙ ap (fold after_merge now) (sym is) ∙ was.whole;

@@ -1,28 +1,26 @@
 -- How a phase closes.
-use Rattle.std.specs.Prelude.{◌≡◌, ℕ, ◌+◌, ◌<◌, ◌≤◌, Bool, true, false, List, [], map, fold, length, reverse, ⊤}
+use Rattle.std.specs.Prelude.{◌≡◌, ℕ, ◌+◌, ◌<◌, ◌≤◌, Bool, true, false, List, [], map, fold, length, reverse}
 use Rattle.std.specs.List.{AllByRecursion}
 use Rattle.std.specs.List.Sorted.{IsPermutation}
-use Rattle.auction_rows.specs.declared.limits.TheConstants.{MOST_SHARDS}
-use Rattle.auction_rows.specs.declared.values.Opening.{Opening}
 use Rattle.auction_rows.specs.declared.rows.Entry.{Entry}
 use Rattle.auction_rows.specs.declared.requests.Object.{Object}
-use Rattle.auction_rows.specs.declared.requests.Object.TheVariants.{Item, User, Category}
 use Rattle.auction_rows.specs.Book.{Book}
 use Rattle.auction_rows.specs.History.{ReplaysFrom, book_after}
 use Rattle.item_shards.specs.declared.shard.slices.Slice.{Slice}
 use Rattle.shard_boxes.specs.declared.limits.TheConstants.{MOST_COMMITS}
 use Rattle.shard_boxes.specs.Keys.{KeyState}
-use Rattle.shard_boxes.specs.States.{ShardState, state_at}
+use Rattle.shard_boxes.specs.States.{ShardState}
 use Rattle.worker_journals.specs.Journals.{JournalView}
 use Rattle.phase_permits.specs.declared.worker.Counters.{Counters}
 use Rattle.phase_permits.specs.declared.slices.Hot.{Hot}
 use Rattle.phase_permits.specs.Slicing.{stocks_of, slices_in, HaveAtMost}
 use Rattle.phase_permits.specs.Stashes.{StashState}
 use Rattle.phase_permits.specs.Workers.{WorkerState, IsExplained}
-use Rattle.phase_permits.specs.Performing.{HaveOpening}
 use Rattle.closing_laws.specs.Phases.{Phase, HasClosed, receipt_at, key_of, journal_of, counters_of}
 use Rattle.closing_laws.specs.Lawful.{ClosesLawfully}
-use Rattle.closing_laws.specs.Merging.{after_merge, slices_left}
+use Rattle.auction_shards.specs.Merging.{after_merge}
+use Rattle.auction_shards.specs.Shards.{IsKnown, at_start, opening_in}
+use Rattle.closing_laws.specs.Merging.{slices_left}
 use Rattle.closing_laws.specs.Standing.{StandFor, counters_at}
 use Rattle.phase_floor.specs.Floors.{FloorState}
 use Rattle.phase_floor.specs.States.{JoinedState, states_of, StandsFor}
@@ -79,10 +77,6 @@ phase_of initial floor receipts given entries = record {
   entries = entries;
 }
 
--- a shard with its clock at 0
-abbrev pub at_start : ShardState → ShardState
-at_start state = record state { clock = 0 }
-
 -- The phase has closed: the boxes gave back shards, and the states left are these with their clocks
 -- at 0.
 pub record HasSettled (initial : List ShardState) (floor : FloorState)
@@ -137,16 +131,6 @@ pub record Leaves (initial : List ShardState) (floor : FloorState) (receipts : L
   pub stands : (book : Book) → StandFor initial floor.counters book [] →
       StandsFor state (book_after floor.opening book entries)
 
--- the users and categories of shards
-abbrev pub opening_in : List ShardState → Opening
-opening_in states = (state_at states 0).opening
-
--- a user or category of the opening, or any item
-abbrev pub IsKnown : Opening → Object → Type 0
-IsKnown opening (Item id) = ⊤
-IsKnown opening (User user) = user < opening.users
-IsKnown opening (Category category) = category < opening.categories
-
 -- each slice is of an item, or of a user or category of the shards' opening
 abbrev pub AreKnown : List ShardState → List (Object × Slice) → Type 0
 AreKnown states pairs = AllByRecursion (λ pair. IsKnown (opening_in states) pair.0) pairs
@@ -154,14 +138,6 @@ AreKnown states pairs = AllByRecursion (λ pair. IsKnown (opening_in states) pai
 -- a worker's slices, the last first
 abbrev pub from_the_last : List (Object × Hot) → List (Object × Slice)
 from_the_last slices = reverse (slices_in slices)
-
--- shards of one auction, numbered from 0
-pub record AreOfOne (states : List ShardState) : Type 0 where
-  pub some : 0 < length states
-  pub few : length states ≤ MOST_SHARDS
-  pub number_is : (s : ℕ) → s < length states → (state_at states s).number ≡ s
-  pub shards_is : (s : ℕ) → s < length states → (state_at states s).shards ≡ length states
-  pub opening_is : HaveOpening states (opening_in states)
 
 -- the parts of receipts, each kind by itself
 pub record ArePartsOf (receipts : List WorkerState) (journals : List JournalView)

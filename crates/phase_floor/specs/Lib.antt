@@ -1,5 +1,4 @@
 pub mod States
-pub mod Making
 pub mod Floors
 pub mod Begins
 pub mod Closings

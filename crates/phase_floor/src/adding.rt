@@ -1,6 +1,6 @@
 //! How a row is added to an auction between two phases. The auction keeps no rows: only an item
 //! takes memory.
-ghost use Rattle.std.specs.Prelude.{◌≡◌, ◌<◌, ◌++◌, ◌∷◌, [], ◌↔◌, length, IfOk, OnOk, OnErr, IsErrOf, MatchOption, true, false};
+ghost use Rattle.std.specs.Prelude.{◌≡◌, ◌<◌, ◌≤◌, ◌++◌, ◌∷◌, [], ◌↔◌, length, IfOk, OnOk, OnErr, IsErrOf, IsTrue, MatchOption, true, false};
 ghost use Rattle.auction_rows.specs.Book.{Book};
 ghost use Rattle.auction_rows.specs.History.{GoOn};
 ghost use Rattle.auction_rows.specs.Refusals.{refusal};
@@ -9,11 +9,12 @@ ghost use Rattle.auction_rows.specs.Requests.{is_view};
 ghost use Rattle.auction_rows.specs.StoreReplies.{reply_of};
 ghost use Rattle.item_shards.specs.OpeningRows.{IsRow, with_opened};
 ghost use Rattle.phase_permits.specs.Replying.{CountsOf};
+ghost use Rattle.closing_laws.specs.Standing.{counters_at};
 ghost use Rattle.phase_floor.specs.Adding.{CanTake, HasBook, IsFull, IsOwn, IsSameAuction, IsStartOf, KeepsBooks, with_counted};
 ghost use Rattle.phase_floor.specs.States.{IsBookOf, StandsFor};
 
 use crate::joined::Joined;
-use crate::resumption::{count_row, write};
+use crate::resumption::count_row;
 use auction_rows::{
     BidId, BuyId, CommentId, ItemId, Object, Refusal, Request, Row, StoreReply, item_of,
     number_refusal, row_of_store,
@@ -70,10 +71,10 @@ impl Joined {
         ensures bad_row { IsErrOf result BadRow → (book : Book) → IsBookOf self.old book →
             ¬ (IsOwn self.old opened.now × IsRow self.old.opening book opened.now) }
     {
-        let Some(counters) = self.counters.get(opened.worker as usize) else {
+        if opened.worker >= self.workers() {
             return Err(AddFault::BadRow);
-        };
-        if counters.commits as u64 >= self.limit {
+        }
+        if self.is_full(opened.worker as usize) {
             return Err(AddFault::TooLong);
         }
         let Some(row) = self.row_at(opened) else {
@@ -81,6 +82,15 @@ impl Joined {
         };
         self.add_row(&row)?;
         Ok(row)
+    }
+
+    // Whether a worker may commit nothing more.
+    fn is_full(&self, worker: usize) -> bool
+        requires { worker < length self.now.counters }
+        ensures { IsTrue result
+            ↔ (self.now.limit ≤ (counters_at self.now.counters worker).commits) }
+    {
+        self.counters[worker].commits as u64 >= self.limit
     }
 
     // The row of a request at its place, if it is one.
@@ -121,8 +131,7 @@ impl Joined {
         ensures same { IsSameAuction self.old self.new }
         ensures kept { OnErr result (KeepsBooks self.old self.new) }
     {
-        let count = self.shards();
-        write(&mut self.shards, count, row)?;
+        self.shards.write(row)?;
         let worker = row.worker() as usize;
         count_row(&mut self.counters[worker], row);
         Ok(())

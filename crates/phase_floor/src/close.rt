@@ -1,19 +1,19 @@
-//! How a phase closes: its receipts and their parts; the slices of all workers, merged into the
-//! shards in which their objects lie; and the shards' clocks, which are at 0 between phases.
+//! How a phase closes: its receipts and their parts; and the slices of all workers, merged into the
+//! shards.
 ghost use Rattle.std.specs.Prelude.{length, IfOk, OnOk, ◌≡◌, ◌≤◌, ◌<◌, ◌+◌, [], ◌∷◌, map, fold, ◌++◌, true, false, OnErr, vec_len, vec_capacity};
 ghost use Rattle.std.specs.List.{AllByRecursion, flat_map};
 ghost use Rattle.phase_laws.specs.Replay.{SawInTurn};
-ghost use Rattle.closing_laws.specs.Merging.{CanMerge, CanMergeInto, after_merge, with_slice};
-ghost use Rattle.item_shards.specs.ShardContents.{LiesIn, contents, opening};
 ghost use Rattle.worker_journals.specs.Merged.{added, merged};
 ghost use Rattle.shard_boxes.specs.States.{state_of};
-ghost use Rattle.phase_floor.specs.Closings.{ArePartsOf, IsFinished, AreOfOne, AreKnown, IsKnown, opening_in, from_the_last, at_start, slices_kept, AreReceiptsOf, HasSettled, HasReconciled, Leaves};
+ghost use Rattle.auction_shards.specs.Merging.{CanMerge, after_merge};
+ghost use Rattle.auction_shards.specs.Shards.{AreOfOne, at_start};
+ghost use Rattle.phase_floor.specs.Closings.{ArePartsOf, IsFinished, AreKnown, from_the_last, slices_kept, AreReceiptsOf, HasSettled, HasReconciled, Leaves};
 ghost use Rattle.phase_floor.specs.States.{states_of};
 
 use crate::floor::{Floor, FloorFault};
 use crate::joined::Joined;
-use auction_rows::{Object, shard_of};
-use item_shards::{Shard, Slice};
+use auction_shards::Shards;
+use item_shards::Shard;
 use phase_permits::{Counters, Kind, Receipt, Slices, Stash};
 use shard_boxes::{Key, PhaseName};
 use std::alloc::{AllocError, Global};
@@ -92,71 +92,47 @@ fn keep_slices<K: Kind>(kept: &mut Vec<Slices>, own: Slices)
     }
 }
 
-// Merges a slice of an object into the shard in which it lies.
-pub(crate) fn merge(shards: &mut Vec<Shard>, object: Object, slice: Slice)
-    requires shards { AreOfOne (map state_of shards.old.items) }
-    requires known { IsKnown (opening_in (map state_of shards.old.items)) object }
-    requires can { CanMerge (map state_of shards.old.items) (object, slice) }
-    ensures { map state_of shards.new.items
-        ≡ after_merge (map state_of shards.old.items) (object, slice) }
-{
-    let place = shard_of(object, shards.len() as u32) as usize;
-    merge_into(&mut shards[place], object, slice);
-}
-
-// Merges a slice of an object into its shard.
-fn merge_into(shard: &mut Shard, object: Object, slice: Slice)
-    requires lies { LiesIn shard.old object }
-    requires known { IsKnown (opening shard.old) object }
-    requires can { CanMergeInto (contents shard.old object) (object, slice) }
-    ensures { state_of shard.new ≡ with_slice (state_of shard.old) (object, slice) }
-{
-    match (object, slice) {
-        (Object::Item(item), Slice::Item(slice)) => shard.merge_item(item, slice),
-        (Object::User(user), Slice::User(slice)) => shard.merge_user(user, slice),
-        (Object::Category(category), Slice::Category(slice)) => {
-            shard.merge_category(category, slice)
-        }
-        _ => unreachable!(),
-    }
-}
-
 // Merges the slices of a worker, from the last on.
-fn merge_own(shards: &mut Vec<Shard>, mut slices: Slices)
-    requires shards { AreOfOne (map state_of shards.old.items) }
-    requires known { AreKnown (map state_of shards.old.items) (from_the_last slices) }
-    requires can { SawInTurn CanMerge after_merge (map state_of shards.old.items)
+fn merge_own(shards: &mut Shards, mut slices: Slices)
+    requires known { AreKnown (map state_of shards.old) (from_the_last slices) }
+    requires can { SawInTurn CanMerge after_merge (map state_of shards.old)
         (from_the_last slices) }
-    ensures { map state_of shards.new.items
-        ≡ fold after_merge (map state_of shards.old.items) (from_the_last slices) }
+    ensures { map state_of shards.new
+        ≡ fold after_merge (map state_of shards.old) (from_the_last slices) }
 {
     while let Some((object, slice)) = slices.pop() {
-        merge(shards, object, slice);
+        shards.merge(object, slice);
     }
 }
 
 // Merges the slices of all workers, one worker's after the other.
-pub(crate) fn merge_all(shards: &mut Vec<Shard>, slices: Vec<Slices>)
-    requires shards { AreOfOne (map state_of shards.old.items) }
-    requires known { AreKnown (map state_of shards.old.items)
+fn merge_all(shards: &mut Shards, slices: Vec<Slices>)
+    requires known { AreKnown (map state_of shards.old) (flat_map from_the_last slices.items) }
+    requires can { SawInTurn CanMerge after_merge (map state_of shards.old)
         (flat_map from_the_last slices.items) }
-    requires can { SawInTurn CanMerge after_merge (map state_of shards.old.items)
-        (flat_map from_the_last slices.items) }
-    ensures { map state_of shards.new.items
-        ≡ fold after_merge (map state_of shards.old.items) (flat_map from_the_last slices.items) }
+    ensures { map state_of shards.new
+        ≡ fold after_merge (map state_of shards.old) (flat_map from_the_last slices.items) }
 {
     for own in slices {
         merge_own(shards, own);
     }
 }
 
-// Sets all clocks to 0: numbers are those of one phase.
-pub(crate) fn reset_clocks(shards: &mut Vec<Shard>)
-    ensures { map state_of shards.new.items ≡ map at_start (map state_of shards.old.items) }
+// The shards that the boxes gave back, with the slices of all workers merged and their clocks at 0:
+// numbers are those of one phase.
+fn reconciled(given: Vec<Shard>, slices: Vec<Slices>) -> Shards
+    requires shards { AreOfOne (map state_of given.items) }
+    requires known { AreKnown (map state_of given.items) (flat_map from_the_last slices.items) }
+    requires can { SawInTurn CanMerge after_merge (map state_of given.items)
+        (flat_map from_the_last slices.items) }
+    ensures { map state_of result
+        ≡ map at_start (fold after_merge (map state_of given.items)
+        (flat_map from_the_last slices.items)) }
 {
-    for s in 0..shards.len() {
-        shards[s].reset_clock();
-    }
+    let mut shards = Shards::from_vec(given);
+    merge_all(&mut shards, slices);
+    shards.reset_clocks();
+    shards
 }
 
 impl<N: PhaseName, K: Kind> Floor<N, K> {
@@ -203,9 +179,8 @@ impl<N: PhaseName, K: Kind> Floor<N, K> {
             slices,
         } = Parts::of(alloc, receipts, counters)?;
         history.add_phase(journals)?;
-        let (mut shards, spare) = boxes.close_kept(rt, keys);
-        merge_all(&mut shards, slices);
-        reset_clocks(&mut shards);
+        let (given, spare) = boxes.close_kept(rt, keys);
+        let shards = reconciled(given, slices);
         let state = Joined {
             opening,
             limit,

@@ -4,7 +4,8 @@ ghost use Rattle.std.specs.List.{AllByRecursion};
 ghost use Rattle.closing_laws.specs.Standing.{counters_at, stores};
 ghost use Rattle.phase_floor.specs.NextRun.{stores_as_commits};
 
-use auction_rows::{MOST_WORKERS, Object, Opening, Reply, Request, shard_of};
+use auction_rows::{MOST_WORKERS, Object, Opening, Reply, Request};
+use auction_shards::Shards;
 use item_shards::Shard;
 use phase_permits::Counters;
 use shard_boxes::{MOST_COMMITS, Spare};
@@ -17,7 +18,7 @@ pub struct Joined {
     pub(crate) opening: Opening,
     pub(crate) limit: u64,
     pub(crate) phase: u64,
-    pub(crate) shards: Vec<Shard>,
+    pub(crate) shards: Shards,
     pub(crate) spare: Spare,
     pub(crate) counters: Vec<Counters>,
 }
@@ -33,10 +34,10 @@ impl Model for Joined {
 
     ghost coded = { Prim.hlevel (codes, shard.the_row.coded) };
 
-    ghost view = { λ j. joined_of j.opening j.limit j.phase j.shards.items j.counters.items };
+    ghost view = { λ j. joined_of j.opening j.limit j.phase j.shards j.counters.items };
 
     ghost invariant = { λ j.
-        IsKept j.opening j.limit (map state_of j.shards.items) j.counters.items };
+        IsKept j.opening j.limit (map state_of j.shards) j.counters.items };
 }
 
 impl Joined {
@@ -62,18 +63,7 @@ impl Joined {
         ensures book { IfSome result (λ seen. (book : Book) (worker : ℕ) → StandsFor self.now book →
             seen ≡ reply self.now.opening book worker request.now) }
     {
-        match *request {
-            Request::ViewItem { item } => Some(self.shard(Object::Item(item)).view_item(item)),
-            Request::ViewBids { item } => Some(self.shard(Object::Item(item)).view_bids(item)),
-            Request::ViewCategory { category } => {
-                Some(
-                    self.shard(Object::Category(category))
-                        .view_category(category),
-                )
-            }
-            Request::ViewUser { user } => Some(self.shard(Object::User(user)).view_user(user)),
-            _ => None,
-        }
+        self.shards.view(request)
     }
 
     // The shard in which an object lies.
@@ -84,7 +74,7 @@ impl Joined {
         ensures books { (book : Book) →
             StandsFor self.now book → ShardStandsFor result.now book [] }
     {
-        &self.shards[shard_of(object, self.shards.len() as u32) as usize]
+        self.shards.of(object)
     }
 }
 
@@ -97,7 +87,7 @@ impl Joined {
     pub fn shards(&self) -> u32
         ensures { result ≡ length self.now.shards }
     {
-        self.shards.len() as u32
+        self.shards.count()
     }
 
     /// How many workers there are.

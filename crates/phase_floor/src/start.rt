@@ -12,6 +12,7 @@ ghost use Rattle.phase_floor.specs.Floors.{stash_at, AreBegun};
 use crate::floor::{BeginFault, Floor, JoinedFloor};
 use crate::joined::Joined;
 use auction_rows::{Facts, MOST_WORKERS, Object};
+use auction_shards::Shards;
 use phase_permits::{Counters, JoinedPermit, Kind, Permit, Slices, Stash, WorkerStart};
 use shard_boxes::{Boxes, Key, MOST_COMMITS, PhaseName, Spare};
 use std::alloc::{AllocError, Global};
@@ -149,7 +150,13 @@ impl Joined {
         let Ok(permits) = Vec::with_capacity(alloc, quotas.len()) else {
             return Err((self, stashes));
         };
-        match Boxes::open(rt, alloc, self.shards, quotas.len() as u32, self.spare) {
+        match Boxes::open(
+            rt,
+            alloc,
+            self.shards.into_vec(),
+            quotas.len() as u32,
+            self.spare,
+        ) {
             Ok((boxes, keys)) => {
                 let floor = Floor {
                     opening: self.opening,
@@ -166,7 +173,7 @@ impl Joined {
             Err((shards, _)) => {
                 permits.destroy_empty();
                 let state = Joined {
-                    shards,
+                    shards: Shards::from_vec(shards),
                     spare: Spare::none(alloc),
                     ..self
                 };

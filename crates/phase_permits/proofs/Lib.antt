@@ -1,6 +1,7 @@
 pub mod AnswerLemmas
 pub mod ArmLemmas
 pub mod BegunLemmas
+pub mod BidLemmas
 pub mod ChainLemmas
 pub mod WrittenLemmas
 pub mod DeedLemmas

@@ -1,6 +1,7 @@
 -- A worker in a phase.
 use Rattle.std.specs.Prelude.{◌≡◌, ℕ, suc, ◌+◌, ◌-◌, ◌<◌, ◌≤◌, Bool, true, false, List, [], ◌∷◌, ◌++◌, Option, None, length, option_map, slice_get, ⊤}
 use Rattle.phase_laws.specs.Numbers.{last_by}
+use Rattle.auction_rows.specs.declared.requests.BidId.{BidId}
 use Rattle.auction_rows.specs.declared.requests.ItemId.{ItemId}
 use Rattle.auction_rows.specs.declared.requests.Object.{Object}
 use Rattle.auction_rows.specs.declared.requests.Object.TheVariants.{Item}
@@ -55,6 +56,10 @@ IsHot w object = is_hot (hot_objects w.slices) object ≡ true
 -- the id of a worker's next item
 abbrev pub next_item : WorkerState → ItemId
 next_item w = record { worker = w.journal.worker; serial = w.counters.items }
+
+-- the id of a worker's next bid
+abbrev pub next_bid : WorkerState → BidId
+next_bid w = record { worker = w.journal.worker; serial = w.counters.bids }
 
 -- a worker's next entry
 abbrev pub next_entry : WorkerState → ℕ → ℕ → Request → Reply → Entry

@@ -21,7 +21,7 @@ ghost use Rattle.phase_permits.specs.Viewing.{IsShownBy};
 use crate::homes::{Home, Homes, Taken, refusal_in};
 use crate::worker::Worker;
 use auction_rows::{
-    BidId, BuyId, CommentId, Facts, ItemId, ItemView, Refusal, Reply, Request, StoreReply,
+    BuyId, CommentId, Facts, ItemId, ItemView, Refusal, Reply, Request, StoreReply,
 };
 use item_shards::{Look, Shard, refusal_with};
 use shard_boxes::PhaseName;
@@ -72,10 +72,7 @@ impl<N: PhaseName> Worker<N> {
         let worker = self.worker;
         match *request {
             Request::StoreItem { .. } => StoreReply::ItemStored(self.next_item()),
-            Request::StoreBid { .. } => StoreReply::BidStored(BidId {
-                worker,
-                serial: self.counters.bids,
-            }),
+            Request::StoreBid { .. } => StoreReply::BidStored(self.next_bid()),
             Request::StoreComment { .. } => StoreReply::CommentStored(CommentId {
                 worker,
                 serial: self.counters.comments,

@@ -6,10 +6,10 @@ ghost use Rattle.auction_rows.specs.StoreReplies.{reply_of};
 ghost use Rattle.phase_permits.specs.Begun.{AreGoodFor, AreOwedBy, HaveFootprint};
 ghost use Rattle.phase_permits.specs.Deeds.{written_of};
 ghost use Rattle.phase_permits.specs.Putting.{CanDo, written_acts, line_of, IsHeldFor, IsPutWith};
+ghost use Rattle.phase_permits.specs.Txns.{IsBid};
 
 use crate::homes::{Home, Homes};
-use crate::transaction::Stores;
-use auction_rows::{BidEntry, ItemEntry, Request, StoreReply};
+use auction_rows::{BidEntry, ItemEntry, ItemId, Request, StoreReply};
 use item_shards::{Act, Look};
 use shard_boxes::{Boxes, Held, Key, PhaseName};
 use std::sync::Wait;
@@ -19,6 +19,14 @@ use worker_journals::Answer;
 #[derive(Clone, Copy)]
 pub(crate) struct Call<'a> {
     pub(crate) request: &'a Request,
+    pub(crate) index: u32,
+}
+
+/// A bid of the quota: what it writes unless it is refused, and its index in the script.
+#[derive(Clone, Copy)]
+pub(crate) struct BidCall {
+    pub(crate) item: ItemId,
+    pub(crate) entry: BidEntry,
     pub(crate) index: u32,
 }
 
@@ -48,11 +56,11 @@ pub(crate) struct Deeds {
 }
 
 impl Deeds {
-    /// The acts of a store with this reply, whatever it saw of its item. `S` only gives each copy
-    /// of `store` a copy of this.
+    /// The acts of a store with this reply that is no bid, whatever it saw of its item.
     #[inline]
-    pub(crate) fn of<S: Stores>(request: &Request, reply: StoreReply, homes: &Homes) -> Deeds
+    pub(crate) fn of(request: &Request, reply: StoreReply, homes: &Homes) -> Deeds
         requires store { is_view request.now ≡ false }
+        requires no_bid { ¬ IsBid request.now }
         ensures owed { (seen : Option (FactsValue × ℕ)) →
             AreOwedBy request.now (reply_of reply) seen homes.now result }
         ensures good { (seen : Option (FactsValue × ℕ)) →
@@ -71,27 +79,6 @@ impl Deeds {
                     let category = facts.category;
                     deeds.first = Act::AddItem(id, facts);
                     deeds.second = Act::ListItem(category, ItemEntry { time, id });
-                }
-            }
-            Request::StoreBid {
-                bidder,
-                item,
-                amount,
-                time,
-            } => {
-                deeds.first = Act::Look(Look::Left(item));
-                // Both acts are on the item.
-                deeds.other = homes.item;
-                if let StoreReply::BidStored(id) = reply {
-                    deeds.second = Act::Bid(
-                        item,
-                        BidEntry {
-                            amount,
-                            time,
-                            id,
-                            bidder,
-                        },
-                    );
                 }
             }
             Request::StoreComment {

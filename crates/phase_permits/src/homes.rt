@@ -143,6 +143,22 @@ pub(crate) enum Taken<N: PhaseName> {
     Two(Held<N>, Held<N>),
 }
 
+impl<N: PhaseName> Taken<N> {
+    ghost use Rattle.phase_permits.specs.declared.homes.Taken.TheVariants.{One};
+
+    /// The shard of a transaction that has taken one.
+    #[inline(always)]
+    pub(crate) fn one(self) -> Held<N>
+        requires { length (held_in self) ≡ 1 }
+        ensures { self ≡ One result }
+    {
+        match self {
+            Taken::One(one) => one,
+            _ => unreachable!(),
+        }
+    }
+}
+
 /// A transaction that has taken its shards, with its number.
 pub(crate) struct Begun<N: PhaseName> {
     pub(crate) taken: Taken<N>,

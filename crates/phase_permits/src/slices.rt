@@ -86,11 +86,18 @@ const GUESSES: usize = 64;
 
 /// A worker's slices of the hot objects of a split phase, in the order handed in. Contracts see the
 /// list of the objects with what is held of each.
-#[derive(Drop)]
 pub struct Slices {
     hot: IndexMap<Object, Hot>,
     // Where an object may be: a guess, which is checked at its place.
     guesses: [u8; GUESSES],
+}
+
+// Not derived: a derived drop is made and proved anew in each crate that lets one go.
+impl Drop for Slices {
+    fn drop(self) {
+        let Self { hot, guesses: _ } = self;
+        drop(hot);
+    }
 }
 
 impl Model for Slices {

@@ -1,20 +1,20 @@
 //! What a worker does with a request that is not put off: what it finds, and how it answers.
 ghost use Rattle.std.specs.Prelude.{◌≡◌, ◌<◌, ◌≤◌, ◌↔◌, ℕ, suc, None, Some, IsNone, IfNone, IfSome, IfOk, IfErr, false, true, length};
 ghost use Rattle.std.specs.List.{AllByRecursion};
-ghost use Rattle.auction_rows.specs.declared.requests.Request.{Request as RequestValue};
 ghost use Rattle.auction_rows.specs.Refusals.{number_refusal};
 ghost use Rattle.auction_rows.specs.Requests.{is_view};
 ghost use Rattle.auction_rows.specs.StoreReplies.{reply_of};
+ghost use Rattle.item_shards.specs.Answering.{bid_request};
 ghost use Rattle.item_shards.specs.CommitNumbers.{last_number};
 ghost use Rattle.shard_boxes.specs.Keys.{KeyState};
 ghost use Rattle.phase_permits.specs.declared.transaction.PermitFault.TheVariants.{NumberFull};
 ghost use Rattle.phase_permits.specs.Txns.{IsBid};
 
 use crate::answers::{item_on, view_on};
-use crate::deeds::{Call, Deeds, Store, View, Written};
+use crate::deeds::{BidCall, Call, Deeds, Store, View, Written};
 use crate::homes::{Begun, Homes, make_room, number_on, put_all, put_back, take_all};
 use crate::worker::Worker;
-use auction_rows::{Refusal, Reply, Request, StoreReply, number_refusal};
+use auction_rows::{BidEntry, Refusal, Reply, Request, StoreReply, number_refusal};
 use item_shards::{Act, Look, next_number, refusal_with};
 use shard_boxes::{Boxes, PhaseName};
 use std::alloc::AllocError;
@@ -42,55 +42,6 @@ pub enum Done {
     Stashed,
 }
 
-/// Which stores a copy of the code is for: a type parameter, because in a proved build inlining
-/// makes no second copy of so large a function.
-pub(crate) trait Stores {
-    /// Whether a store is one of them.
-    ghost includes: { RequestValue → Type 0 };
-    /// The same store, as its copy of the code takes it.
-    fn known(request: &Request) -> Request
-        requires { includes request.now }
-        ensures { result ≡ request.now };
-}
-
-/// Bids: most requests of a busy auction.
-pub(crate) struct Bids;
-
-impl Stores for Bids {
-    ghost includes = { IsBid };
-
-    // The bid is made anew: then the compiler knows its kind.
-    #[inline(always)]
-    fn known(request: &Request) -> Request {
-        match *request {
-            Request::StoreBid {
-                bidder,
-                item,
-                amount,
-                time,
-            } => Request::StoreBid {
-                bidder,
-                item,
-                amount,
-                time,
-            },
-            _ => unreachable!(),
-        }
-    }
-}
-
-/// All stores: nothing is known of their kind.
-pub(crate) struct AnyStore;
-
-impl Stores for AnyStore {
-    ghost includes = { λ _. Unit {0} };
-
-    #[inline(always)]
-    fn known(request: &Request) -> Request {
-        *request
-    }
-}
-
 impl<N: PhaseName> Worker<N> {
     ghost use Rattle.phase_permits.specs.declared.homes.Homes.{Homes as HomesValue};
     ghost use Rattle.phase_permits.specs.Begun.{step_of, HasBegun, HasFirst, HasRoomFor, IsAnsweredBy, states_in};
@@ -100,6 +51,7 @@ impl<N: PhaseName> Worker<N> {
     ghost use Rattle.phase_permits.specs.Takens.{footprint_of, is_one_of, shard_at, IsReady};
     ghost use Rattle.phase_permits.specs.Txns.{is_put_off};
     ghost use Rattle.phase_permits.specs.Viewing.{IsShownBy};
+    ghost use Rattle.phase_permits.specs.Workers.{next_bid};
 
     /// Performs a request of the quota that is not put off. After a fault nothing has changed but
     /// what the key has seen of the shards of its footprint.
@@ -114,28 +66,79 @@ impl<N: PhaseName> Worker<N> {
         ensures { HasPerformed N.initial self.old self.new request.now index result }
     {
         match *request {
-            Request::StoreBid { .. } => self.store::<Bids, R>(rt, boxes, request, index),
+            Request::StoreBid {
+                bidder,
+                item,
+                amount,
+                time,
+            } => {
+                let entry = BidEntry {
+                    amount,
+                    time,
+                    id: self.next_bid(),
+                    bidder,
+                };
+                self.bid(rt, boxes, &BidCall { item, entry, index })
+            }
             Request::StoreItem { .. } | Request::StoreComment { .. } | Request::BuyNow { .. } => {
-                self.store::<AnyStore, R>(rt, boxes, request, index)
+                self.store(rt, boxes, request, index)
             }
             _ => self.show(rt, boxes, request, index),
         }
     }
 
-    // Performs a store, by a copy of the code for each `S`.
-    fn store<S: Stores, R: Wait>(
+    // Performs a bid. If its item lies in a shard, it is found there once.
+    fn bid<R: Wait>(&mut self, rt: &R, boxes: &Boxes<N>, bid: &BidCall) -> Result<(), PermitFault>
+        requires id { bid.now.entry.id ≡ next_bid self.old }
+        requires can { CanTransact N.initial boxes.now self.old
+            (bid_request bid.now.item bid.now.entry) }
+        ensures { HasPerformed N.initial self.old self.new
+            (bid_request bid.now.item bid.now.entry) bid.now.index result }
+    {
+        let BidCall { item, entry, index } = *bid;
+        // The request is made anew: then the compiler knows its kind.
+        let request = &Request::StoreBid {
+            bidder: entry.bidder,
+            item,
+            amount: entry.amount,
+            time: entry.time,
+        };
+        let call = Call { request, index };
+        if let Some(reason) = number_refusal(self.opening, *request) {
+            return self.refuse(call, reason);
+        }
+        let homes = self.homes(request);
+        if homes.item.shard().is_none() {
+            return self.store_hot(call, &homes);
+        }
+
+        let begun = self.begin(rt, boxes, request, &homes)?;
+        let Begun { taken, number } = begun;
+        let mut held = taken.one();
+        let (trace, refused) = held.bid(number, index, item, entry);
+        boxes.put_acted(rt, &mut self.key, held, trace);
+        let store = Store {
+            call,
+            homes: &homes,
+            reply: self.reply(refused, request),
+        };
+        self.add_store(number, &store);
+        Ok(())
+    }
+
+    // Performs a store that is no bid.
+    fn store<R: Wait>(
         &mut self,
         rt: &R,
         boxes: &Boxes<N>,
-        asked: &Request,
+        request: &Request,
         index: u32,
     ) -> Result<(), PermitFault>
-        requires kind { S.includes asked.now }
-        requires store { is_view asked.now ≡ false }
-        requires can { CanTransact N.initial boxes.now self.old asked.now }
-        ensures { HasPerformed N.initial self.old self.new asked.now index result }
+        requires store { is_view request.now ≡ false }
+        requires no_bid { ¬ IsBid request.now }
+        requires can { CanTransact N.initial boxes.now self.old request.now }
+        ensures { HasPerformed N.initial self.old self.new request.now index result }
     {
-        let request = &S::known(asked);
         let call = Call { request, index };
 
         // A store that the opening refuses takes no shard, nor does one on hot objects alone.
@@ -162,7 +165,7 @@ impl<N: PhaseName> Worker<N> {
             homes: &homes,
             reply,
         };
-        self.put_store::<S, R>(rt, boxes, begun, &store);
+        self.put_store(rt, boxes, begun, &store);
         Ok(())
     }
 
@@ -213,16 +216,10 @@ impl<N: PhaseName> Worker<N> {
     }
 
     // Does a store's acts on the shards that were taken, puts these back, and commits it.
-    // `S` only gives each copy of `store` a copy of this.
     #[inline]
-    fn put_store<S: Stores, R: Wait>(
-        &mut self,
-        rt: &R,
-        boxes: &Boxes<N>,
-        begun: Begun<N>,
-        store: &Store<'_>,
-    )
+    fn put_store<R: Wait>(&mut self, rt: &R, boxes: &Boxes<N>, begun: Begun<N>, store: &Store<'_>)
         requires store { is_view store.now.call.request.now ≡ false }
+        requires no_bid { ¬ IsBid store.now.call.request.now }
         requires opened { HaveOpening N.initial self.old.opening }
         requires begun { (key : KeyState) × HasBegun
             (step_of N.initial N.workers boxes.now key store.now.homes.now)
@@ -238,7 +235,7 @@ impl<N: PhaseName> Worker<N> {
             store.now.call.request.now store.now.call.index (reply_of store.now.reply) }
     {
         let Begun { taken, number } = begun;
-        let deeds = Deeds::of::<S>(store.call.request, store.reply, store.homes);
+        let deeds = Deeds::of(store.call.request, store.reply, store.homes);
         let written = deeds.written(number, store.call.index);
         put_all(rt, boxes, &mut self.key, taken, written);
         self.add_store(number, store);

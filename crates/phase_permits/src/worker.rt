@@ -7,12 +7,12 @@ ghost use Rattle.phase_permits.specs.Homes.{IsWrittenAt};
 ghost use Rattle.phase_permits.specs.Slicing.{hot_objects, HaveAtMost};
 ghost use Rattle.phase_permits.specs.Txns.{is_put_off, counters_after, IsOwn};
 ghost use Rattle.phase_permits.specs.WorkerFields.{state_in, AreLawful};
-ghost use Rattle.phase_permits.specs.Workers.{WorkerState, AreCounted, next_item, last_reply, with_try, after_putting_off, with_first_unstashed, with_entry, after_commit};
+ghost use Rattle.phase_permits.specs.Workers.{WorkerState, AreCounted, next_bid, next_item, last_reply, with_try, after_putting_off, with_first_unstashed, with_entry, after_commit};
 
 use crate::deeds::{Call, Store};
 use crate::slices::Slices;
 use crate::stash::Stash;
-use auction_rows::{ItemId, MOST_TRIES, Object, Opening, Reply, Request, StoreReply};
+use auction_rows::{BidId, ItemId, MOST_TRIES, Object, Opening, Reply, Request, StoreReply};
 use ghost_log::GhostList;
 use shard_boxes::{Key, MOST_COMMITS, PhaseName};
 use std::marker::Model;
@@ -77,6 +77,17 @@ impl<N: PhaseName> Worker<N> {
         ItemId {
             worker: self.worker,
             serial: self.counters.items,
+        }
+    }
+
+    /// The id of its next bid.
+    #[inline(always)]
+    pub(crate) fn next_bid(&self) -> BidId
+        ensures { result ≡ next_bid self.now }
+    {
+        BidId {
+            worker: self.worker,
+            serial: self.counters.bids,
         }
     }
 

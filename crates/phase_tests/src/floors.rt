@@ -3,6 +3,6 @@ mod adding_tests;
 mod begins;
 mod begins_tests;
 mod joined;
-mod one_permit;
+pub(crate) mod one_permit;
 mod sixteen_tests;
 mod split;

@@ -1,4 +1,4 @@
-//! Tests of records, shards, boxes, journals, permits and floors by their public calls.
+//! Tests of records, shards, boxes, journals, permits, workers and floors by their public calls.
 #![tactic(auto)]
 
 #[cfg(test)]
@@ -19,3 +19,5 @@ mod records;
 mod shards;
 #[cfg(test)]
 mod testing;
+#[cfg(test)]
+mod workers;

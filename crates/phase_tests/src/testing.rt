@@ -1,7 +1,7 @@
 //! What tests hand in: ten users, two categories, and an item.
 ghost use Rattle.std.specs.Prelude.{◌≡◌, ◌≤◌, [], vec_capacity};
 
-use auction_rows::{Facts, ItemId, Name, Object, Opening, Quantity, Request};
+use auction_rows::{Facts, ItemId, Name, Object, Opening, Quantity, Reply, Request};
 use indexmap::IndexSet;
 use std::alloc::Global;
 use std::process::Abort;
@@ -21,23 +21,45 @@ pub(crate) const FIRST: ItemId = ItemId {
 /// A view of it.
 pub(crate) const VIEW: Request = Request::ViewItem { item: FIRST };
 
-/// One vase, put up by user 0 in category 0 from this amount on, until time 100.
-pub(crate) fn vase(rt: &impl Abort, start: u64) -> Facts {
+/// So many vases, put up by user 0 in category 0 from this amount on, until time 100.
+pub(crate) fn vases(rt: &impl Abort, start: u64, quantity: u64) -> Facts {
     Facts {
         seller: 0,
         category: 0,
         name: Name::new(b"Vase").expect(rt, "a name"),
         start,
         closes: 100,
-        quantity: Quantity::new(1).expect(rt, "a quantity"),
+        quantity: Quantity::new(quantity).expect(rt, "a quantity"),
     }
 }
 
-/// The store of a vase from this amount on, at time 1.
-pub(crate) fn put_up(rt: &impl Abort, start: u64) -> Request {
-    Request::StoreItem {
-        facts: vase(rt, start),
-        time: 1,
+/// A store at time 1.
+pub(crate) fn put_up(facts: Facts) -> Request {
+    Request::StoreItem { facts, time: 1 }
+}
+
+/// A bid on the first item.
+pub(crate) fn bid(bidder: u32, amount: u64, time: u64) -> Request {
+    Request::StoreBid {
+        bidder,
+        item: FIRST,
+        amount,
+        time,
+    }
+}
+
+/// The view of an item with so many bids, the greatest of which is this amount of this bidder.
+pub(crate) fn item_seen(facts: &Facts, greatest: (u64, u32), bids: u64, left: u32) -> Reply {
+    Reply::ItemSeen {
+        seller: facts.seller,
+        category: facts.category,
+        name: facts.name,
+        start: facts.start,
+        closes: facts.closes,
+        highest: Some(greatest.0),
+        bidder: Some(greatest.1),
+        bids,
+        left,
     }
 }
 

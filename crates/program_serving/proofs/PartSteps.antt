@@ -7,7 +7,6 @@ use Rattle.auction_text.specs.Moved.{gone_by}
 use Rattle.auction_text.specs.Scripts.{Asked, script}
 use Rattle.auction_text.specs.Said.{Said}
 use Rattle.part_log.specs.declared.log.Teller.{Teller}
-use Rattle.program_opening.specs.Options.{opening_asked}
 use Rattle.program_opening.specs.declared.faults.Fault.{Fault}
 use Rattle.program_opening.specs.declared.options.Options.{Options}
 use Rattle.program_serving.specs.PartRuns.{AreDoneOf, BeginsAt, HasRoomForPart, IsSession, ServesPart, done_of}

@@ -1,5 +1,5 @@
 -- A part that is served, or is not.
-use Rattle.std.proofs.Common.{◌≡◌, ◌+◌, ◌≤◌, ◌++◌, ◌∙◌, ℕ, Bool, true, false, List, [], Option, None, Some, IfErr, IfNone, IfSome, Result, ap, arith, inl, inr, length, map, refl, sym, subst}
+use Rattle.std.proofs.Common.{◌≡◌, ◌≤◌, ◌++◌, ◌∙◌, ℕ, Bool, true, false, List, [], Option, None, Some, IfErr, IfNone, IfSome, Result, ap, arith, inl, inr, length, map, refl, sym, subst}
 use Rattle.std.proofs.lemmas.List.{length-map}
 use Rattle.std.specs.Result.{IsErr, IsErrAnd}
 use Rattle.auction_rows.specs.declared.limits.TheConstants.{MOST_WORKERS}
@@ -8,7 +8,7 @@ use Rattle.auction_rows.specs.declared.values.Opening.{Opening}
 use Rattle.auction_rows.specs.Book.{Book}
 use Rattle.auction_run.specs.Beginning.{AreShortFor}
 use Rattle.auction_run.specs.GoingOn.{AreShortOn, HasScripts}
-use Rattle.auction_run.specs.declared.checks.RunFault.TheVariants.{NumberFull}
+use Rattle.auction_run.specs.RunFault.TheVariants.{NumberFull}
 use Rattle.auction_text.specs.Moved.{BeforeView, CannotCount, Gone, gone_by}
 use Rattle.auction_text.specs.Scripts.{Asked}
 use Rattle.item_shards.specs.OpeningRows.{rows_by}

@@ -11,7 +11,7 @@ use Rattle.auction_text.specs.LiveParts.{GoesOnAfter, IsLivePart, KeepsLiveWorke
 use Rattle.auction_text.specs.LiveReading.{records_said}
 use Rattle.auction_text.specs.Moved.{Gone, gone_by}
 use Rattle.auction_text.specs.Reading.{IsInputFault}
-use Rattle.auction_text.specs.Scripts.{Asked, asked_in, asked_of, requests_in}
+use Rattle.auction_text.specs.Scripts.{Asked, asked_in, asked_of}
 use Rattle.auction_text.specs.ReadFault.{ReadFault}
 use Rattle.auction_text.specs.LineFault.{LineFault}
 use Rattle.auction_text.specs.Said.{Said}

@@ -9,10 +9,10 @@ use Rattle.auction_rows.specs.History.{book_after}
 use Rattle.auction_run.specs.Beginning.{AreShortFor}
 use Rattle.auction_run.specs.GoingOn.{AreShortOn, IsStopped}
 use Rattle.auction_run.specs.Outcomes.{IsOutcome}
-use Rattle.auction_run.specs.declared.checks.RunFault.TheVariants as run
+use Rattle.auction_run.specs.RunFault.TheVariants as run
 use Rattle.auction_run.specs.declared.checks.Stopped.{Stopped}
 use Rattle.auction_run.specs.declared.checks.Stopped.TheVariants.{Refused, Failed}
-use Rattle.auction_run.specs.declared.runs.Outcome.{Outcome}
+use Rattle.auction_run.specs.Outcome.{Outcome}
 use Rattle.closing_laws.specs.Standing.{counters_at, stores}
 use Rattle.item_shards.specs.OpeningRows.{rows_by}
 use Rattle.phase_floor.specs.Adding.{IsSameAuction, IsStartOf}

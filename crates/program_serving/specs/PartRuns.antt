@@ -8,7 +8,7 @@ use Rattle.auction_rows.specs.Book.{Book}
 use Rattle.auction_rows.specs.History.{book_after}
 use Rattle.auction_run.specs.GoingOn.{IsShortOn}
 use Rattle.auction_run.specs.Phases.{hot_sets}
-use Rattle.auction_run.specs.declared.runs.Outcome.{Outcome}
+use Rattle.auction_run.specs.Outcome.{Outcome}
 use Rattle.auction_text.specs.LiveParts.{HasToSay, live_workers, rows_said}
 use Rattle.auction_text.specs.Moved.{Gone, gone_by}
 use Rattle.auction_text.specs.Scripts.{Asked}

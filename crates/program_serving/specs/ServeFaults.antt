@@ -5,10 +5,10 @@ use Rattle.auction_rows.specs.declared.values.Opening.{Opening}
 use Rattle.auction_rows.specs.Book.{Book}
 use Rattle.auction_run.specs.Beginning.{AreShortFor, HasQuotas}
 use Rattle.auction_run.specs.Phases.{HaveMetLastNumber}
-use Rattle.auction_run.specs.declared.checks.RunFault.{RunFault}
+use Rattle.auction_run.specs.RunFault.{RunFault}
 use Rattle.auction_run.specs.declared.checks.Stopped.{Stopped}
 use Rattle.auction_run.specs.declared.checks.Stopped.TheVariants.{Failed, Refused}
-use Rattle.auction_run.specs.declared.checks.RunFault.TheVariants as run
+use Rattle.auction_run.specs.RunFault.TheVariants as run
 use Rattle.auction_text.specs.LiveReading.{records_said}
 use Rattle.auction_text.specs.Moved.{Gone, IsPastCount}
 use Rattle.auction_text.specs.Reading.{IsInputFault}

@@ -3,6 +3,6 @@ use std::fmt::Debug;
 use std::process::Abort;
 
 /// Ends the test where these are not the same.
-pub(crate) fn assert_same<T: PartialEq + Debug>(rt: &impl Abort, got: &T, wanted: &T) {
-    assert_eq!(rt; *got, *wanted);
+pub(crate) fn assert_same<T: PartialEq + Debug + Drop>(rt: &impl Abort, got: T, wanted: T) {
+    assert_eq!(rt; got, wanted);
 }

@@ -1,10 +1,15 @@
 -- The lines that transactions leave with a shard, and the shard that they make.
-use Rattle.std.specs.Prelude.{◌≡◌, ℕ, ◌<◌, List, [], ◌∷◌, ◌++◌, length, map}
+use Rattle.std.specs.Prelude.{◌≡◌, ℕ, ◌<◌, List, [], ◌∷◌, ◌++◌, length, map, Option, Some, None}
 use Rattle.std.specs.List.{AllByRecursion}
 use Rattle.phase_laws.specs.Numbers.{IsLinkedFrom}
 use Rattle.phase_laws.specs.Order.{IsAscendingByNumber, part}
 use Rattle.phase_laws.specs.Replay.{SawInTurn}
+use Rattle.auction_rows.specs.declared.replies.Refusal.{Refusal}
+use Rattle.auction_rows.specs.declared.requests.BidEntry.{BidEntry}
+use Rattle.auction_rows.specs.declared.requests.ItemId.{ItemId}
 use Rattle.item_shards.specs.declared.shard.acts.Act.{Act}
+use Rattle.item_shards.specs.declared.shard.acts.Act.TheVariants.{Bid, Look}
+use Rattle.item_shards.specs.declared.shard.acts.Look.TheVariants as look
 use Rattle.item_shards.specs.Events.{Event}
 use Rattle.item_shards.specs.declared.shard.Shard.{Shard}
 use Rattle.item_shards.specs.Looking.{IsTrueAct, events_of}
@@ -57,6 +62,15 @@ seen_line taken line = record {
   index = line.index;
   acts = first_two (events_of taken.contents line.acts);
 }
+
+-- the second act of a bid: the bid, unless it is refused
+abbrev pub bid_act : ItemId → BidEntry → Option Refusal → Act
+bid_act item bid None = Bid item bid
+bid_act item bid (Some reason) = Look look.Nothing
+
+-- the acts of a bid: a look at what is left of its item, and the bid, unless it is refused
+abbrev pub bid_acts : ItemId → BidEntry → Option Refusal → List Act
+bid_acts item bid refused = Look (look.Left item) ∷ bid_act item bid refused ∷ []
 
 -- the shard after a line: its acts are done, and its number is the clock
 abbrev pub after_line : ShardState → Line → ShardState

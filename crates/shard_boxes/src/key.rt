@@ -1,5 +1,5 @@
 //! A worker's right to take the shards of a phase, a shard out of its box, and what it allows.
-ghost use Rattle.std.specs.Prelude.{◌≡◌, ◌<◌, ◌≤◌, ◌↔◌, ◌∷◌, [], ℕ, true, false, length, max, IsNone};
+ghost use Rattle.std.specs.Prelude.{◌≡◌, ◌+◌, ◌<◌, ◌≤◌, ◌^◌, ◌↔◌, ◌∷◌, [], ℕ, true, false, length, max, IsNone};
 ghost use Rattle.std.specs.Borrow.{Lends, sem};
 ghost use Rattle.phase_laws.specs.Replay.{SawInTurn};
 ghost use Rattle.auction_rows.specs.ItemViews.{item_told};
@@ -7,13 +7,14 @@ ghost use Rattle.auction_rows.specs.declared.requests.Object.TheVariants.{Item};
 ghost use Rattle.item_shards.specs.contracts.shard.Shard.{the_row as shard_row};
 ghost use Rattle.item_shards.specs.Events.{Event};
 ghost use Rattle.item_shards.specs.Acting.{CanDo};
-ghost use Rattle.item_shards.specs.Answering.{refusal_with, stock_needed, HasItemOf};
+ghost use Rattle.item_shards.specs.Answering.{bid_request, refusal_with, stock_needed, HasItemOf};
 ghost use Rattle.item_shards.specs.CommitNumbers.{last_number, next_number};
 ghost use Rattle.item_shards.specs.Contents.{after_act};
 ghost use Rattle.item_shards.specs.ShardContents.{clock, contents, LiesIn};
+ghost use Rattle.item_shards.specs.Values.{stock};
 ghost use Rattle.item_shards.specs.Views.{item_view};
 ghost use Rattle.shard_boxes.specs.States.{state_of, ShardState, IsWithin, AreInitial};
-ghost use Rattle.shard_boxes.specs.Lines.{lines_of, StartsWith, IsShardHistory, after_line, after_lines, line_of, MayFollow};
+ghost use Rattle.shard_boxes.specs.Lines.{lines_of, StartsWith, IsShardHistory, after_line, after_lines, bid_acts, line_of, MayFollow};
 ghost use Rattle.shard_boxes.specs.Keys.{taking, putting, lines_at, seen_at, holds_at};
 ghost use Rattle.shard_boxes.specs.Helds.{taken_at, MayPut};
 ghost use Rattle.shard_boxes.specs.Passes.{GrantState};
@@ -25,19 +26,30 @@ ghost use Rattle.shard_boxes.specs.Limits.{SumsFit};
 use crate::boxes::PhaseName;
 use crate::line::{LineName, Trace};
 use crate::shard_box::{Grant, ShardBox};
-use auction_rows::{ItemId, ItemView, Refusal, Request};
+use auction_rows::{BidEntry, ItemId, ItemView, Refusal, Request};
 use ghost_log::Ghost;
-use item_shards::{Act, Shard, next_number};
+use item_shards::{Act, Look, Shard, next_number};
 use std::marker::{Model, PhantomData};
 use std::sync::Wait;
 
 /// A worker's right to take the shards of a phase. Contracts see of each shard whether the key
 /// holds it, the lines that were put by it, and the list of all workers' lines that it has seen.
-#[derive(Drop)]
 pub struct Key<N: PhaseName> {
     pub(crate) worker: u32,
     pub(crate) grants: Vec<Grant>,
     pub(crate) of: PhantomData<N>,
+}
+
+// Not derived: a derived drop is made and proved anew in each crate that lets one go.
+impl<N: PhaseName> Drop for Key<N> {
+    fn drop(self) {
+        let Self {
+            worker: _,
+            grants,
+            of: _,
+        } = self;
+        drop(grants);
+    }
 }
 
 impl<N: PhaseName> Model for Key<N> {
@@ -254,6 +266,42 @@ impl<N: PhaseName> Held<N> {
         trace
     }
 
+    /// Bids on an item by one look-up, unless the item refuses the bid, at a number after the
+    /// shard's clock. Gives the trace of the line that is left, and the reason for a refusal. It
+    /// takes no memory.
+    #[inline(always)]
+    pub fn bid(
+        &mut self,
+        number: u64,
+        index: u32,
+        item: ItemId,
+        bid: BidEntry,
+    ) -> (Trace, Option<Refusal>)
+        requires later { clock self.old.shard < number }
+        requires within { number ≤ last_number }
+        requires here { LiesIn self.old.shard (Item item) }
+        requires count { (contents self.old.shard (Item item)).bids.bids + 1 < 2 ^ 64 }
+        ensures by { result.1
+            ≡ refusal_with (stock (contents self.old.shard (Item item))) (bid_request item bid) }
+        ensures line { result.0
+            ≡ line_of number index (bid_acts item bid result.1) self.old.shard }
+        ensures follows { MayFollow (state_of self.old.shard) result.0 }
+        ensures after { state_of self.new.shard ≡ after_line (state_of self.old.shard) result.0 }
+        ensures number { self.new.number ≡ self.old.number }
+    {
+        let found = Ghost::of(&self.shard);
+        let refused = self.shard.try_bid(item, bid);
+        self.shard.set_clock(number);
+        let acts = bid_acts(item, bid, refused);
+        let trace = Trace {
+            number: Ghost::of(&number),
+            index: Ghost::of(&index),
+            found,
+            acts: Ghost::of(&acts),
+        };
+        (trace, refused)
+    }
+
     /// The shard, to change it as its own methods do.
     #[inline(always)]
     pub fn shard_mut(&mut self) -> &mut Shard
@@ -263,6 +311,18 @@ impl<N: PhaseName> Held<N> {
     {
         &mut self.shard
     }
+}
+
+// The acts of a bid, which is refused for this reason, if there is one.
+#[inline(always)]
+fn bid_acts(item: ItemId, bid: BidEntry, refused: Option<Refusal>) -> [Act; 2]
+    ensures { result ≡ bid_acts item bid refused }
+{
+    let second = match refused {
+        Some(_) => Act::Look(Look::Nothing),
+        None => Act::Bid(item, bid),
+    };
+    [Act::Look(Look::Left(item)), second]
 }
 
 /// While a shard's clock is below the last number, the sums that two acts make on it fit their

@@ -3,39 +3,24 @@ use Rattle.std.proofs.Common.{◌≡◌, ◌<◌, ◌≤◌, ◌+◌, ℕ, List,
 use Rattle.std.specs.List.{AllByRecursion}
 use Rattle.std.proofs.lemmas.List.{get_or_append_left, drop-append-le, take-append-le, map-append, length-map}
 use Rattle.phase_laws.proofs.OrderLemmas.{all_push, all-weaker}
-use Rattle.auction_rows.specs.declared.requests.Facts.{Facts}
 use Rattle.auction_rows.specs.declared.requests.Request.{Request}
-use Rattle.auction_rows.specs.declared.requests.Request.TheVariants.{StoreItem}
 use Rattle.auction_rows.specs.declared.replies.BidShown.{BidShown}
 use Rattle.auction_rows.specs.declared.replies.ItemShown.{ItemShown}
 use Rattle.auction_rows.specs.declared.replies.Reply.{Reply}
 use Rattle.auction_rows.specs.declared.replies.Reply.TheVariants.{BidsSeen, CategorySeen}
 use Rattle.auction_rows.specs.declared.rows.Entry.{Entry}
 use Rattle.worker_journals.specs.declared.heads.Head.{Head}
-use Rattle.worker_journals.specs.declared.heads.ShortRequest.{ShortRequest}
-use Rattle.worker_journals.specs.declared.heads.ShortRequest.TheVariants as ask
 use Rattle.worker_journals.specs.declared.heads.ShortReply.{ShortReply}
 use Rattle.worker_journals.specs.declared.heads.ShortReply.TheVariants as told
 use Rattle.auction_rows.specs.declared.replies.ItemView.{ItemView}
 use Rattle.worker_journals.specs.declared.heads.UserSeen.{UserSeen as SeenUser}
 use Rattle.worker_journals.specs.Journals.{JournalView, ComesAfter, IsLawfulJournal, closed_journal, seen, with_commit}
 use Rattle.auction_rows.specs.ItemViews.{item_reply}
-use Rattle.worker_journals.specs.Sides.{SideLists, request_from, reply_from, HasRequest, HasReply, SaysRequest, SaysReply, with_commit_of, user_reply}
+use Rattle.request_scripts.specs.ShortRequests.{request_from, SaysRequest}
+use Rattle.worker_journals.specs.Sides.{SideLists, reply_from, HasReply, SaysReply, with_commit_of, user_reply}
 use Rattle.worker_journals.specs.Entries.{entry_from, HasHead, shown, IsKept}
+use Rattle.request_scripts.proofs.RequestLemmas.{request_stays}
 use Rattle.worker_journals.proofs.JournalLemmas.{lawful_after}
-
-pub request_stays : (all more : List Facts) (short : ShortRequest) → HasRequest all short → SaysRequest (all ++ more) short (request_from all short)
-request_stays all more (ask.StoreItem facts time) h = record {
-  within = omega (arith, length-append all more, h);
-  is = ap (λ f. StoreItem f time) (get_or_append_left all more _ facts h);
-}
-request_stays all more (ask.StoreBid bidder item amount time) h = record { within = tt; is = refl }
-request_stays all more (ask.StoreComment author about item stars) h = record { within = tt; is = refl }
-request_stays all more (ask.BuyNow buyer item quantity time) h = record { within = tt; is = refl }
-request_stays all more (ask.ViewItem item) h = record { within = tt; is = refl }
-request_stays all more (ask.ViewBids item) h = record { within = tt; is = refl }
-request_stays all more (ask.ViewCategory category) h = record { within = tt; is = refl }
-request_stays all more (ask.ViewUser user) h = record { within = tt; is = refl }
 
 part_stays : {X : Type 0} (xs more : List X) (place count : ℕ) → place + count ≤ length xs →
     take count (drop place (xs ++ more)) ≡ take count (drop place xs)

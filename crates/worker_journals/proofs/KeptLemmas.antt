@@ -11,7 +11,8 @@ use Rattle.auction_rows.specs.declared.requests.Request.TheVariants.{StoreItem, 
 use Rattle.worker_journals.specs.declared.heads.ShortReply.{ShortReply}
 use Rattle.auction_rows.specs.declared.replies.ItemView.{ItemView}
 use Rattle.worker_journals.specs.declared.heads.UserSeen.{UserSeen as SeenUser}
-use Rattle.worker_journals.specs.Sides.{SaysReply, facts_in}
+use Rattle.request_scripts.specs.ShortRequests.{facts_in}
+use Rattle.worker_journals.specs.Sides.{SaysReply}
 
 module _ {X : Type 0} (start shown : List X) (place : ℕ) where
   -- one more value is at the end

@@ -12,4 +12,4 @@ pub mod HistoryLemmas
 pub mod PlaceLemmas
 pub mod LastLemmas
 pub mod AddedLemmas
-pub mod ScriptLemmas
+pub mod RisingLemmas

@@ -7,7 +7,8 @@ use Rattle.auction_rows.specs.declared.requests.Request.{Request}
 use Rattle.auction_rows.specs.declared.replies.Reply.{Reply}
 use Rattle.auction_rows.specs.declared.rows.Entry.{Entry}
 use Rattle.worker_journals.specs.declared.heads.Head.{Head}
-use Rattle.worker_journals.specs.Sides.{SideLists, request_from, reply_from}
+use Rattle.request_scripts.specs.ShortRequests.{request_from}
+use Rattle.worker_journals.specs.Sides.{SideLists, reply_from}
 use Rattle.worker_journals.specs.Entries.{entry_from}
 
 -- a part of the entry that a head says, at the place of the head

@@ -1,28 +1,17 @@
--- What a short request and a short reply say of values at the end of the side lists.
+-- What a short reply says of values at the end of the side lists.
 use Rattle.std.proofs.Common.{◌≡◌, ◌≤◌, ℕ, List, [], ◌∷◌, ◌++◌, length, take, take_all, drop, sym, ap, ◌∙◌, arith, append-nil, length-append}
 use Rattle.std.proofs.lemmas.List.{get_or_push}
 use Rattle.std.proofs.lemmas.List.Prefix.{front_rest}
 use Rattle.auction_rows.specs.declared.limits.TheConstants.{MOST_SHOWN}
-use Rattle.auction_rows.specs.declared.requests.Facts.{Facts}
-use Rattle.auction_rows.specs.declared.requests.Request.{Request}
-use Rattle.auction_rows.specs.declared.requests.Request.TheVariants.{StoreItem}
 use Rattle.auction_rows.specs.declared.replies.BidShown.{BidShown}
 use Rattle.auction_rows.specs.declared.replies.ItemShown.{ItemShown}
 use Rattle.auction_rows.specs.declared.replies.Reply.{Reply}
 use Rattle.auction_rows.specs.declared.replies.Reply.TheVariants.{ItemStored, BidStored, CommentStored, Bought, ItemSeen, BidsSeen, CategorySeen, UserSeen, Refused}
-use Rattle.worker_journals.specs.declared.heads.ShortRequest.TheVariants as ask
 use Rattle.worker_journals.specs.declared.heads.ShortReply.TheVariants as told
 use Rattle.auction_rows.specs.declared.replies.ItemView.{ItemView}
 use Rattle.worker_journals.specs.declared.heads.UserSeen.{UserSeen as SeenUser}
 use Rattle.auction_rows.specs.ItemViews.{item_reply}
-use Rattle.worker_journals.specs.Sides.{SaysReply, SaysRequest, facts_at, shown_in, item_at}
-
-pub says_facts : (all old : List Facts) (facts : Facts) (place time : ℕ) (request : Request) → all ≡ old ++ facts ∷ [] → place ≡ length old →
-    StoreItem facts time ≡ request → SaysRequest all (ask.StoreItem place time) request
-says_facts all old facts place time request kept at is = record {
-  within = omega (arith, at, ap length kept, length-append old (facts ∷ []));
-  is = ap (λ f. StoreItem f time) (ap (λ fs. facts_at fs place) kept ∙ get_or_push old facts _ place (sym at)) ∙ is;
-}
+use Rattle.worker_journals.specs.Sides.{SaysReply, shown_in, item_at}
 
 -- where a reply shows an item, it is that item's
 pub only_item : (reply : Reply) (seen : ItemView) → seen ∷ [] ≡ (shown_in reply).items → item_reply seen ≡ reply

@@ -4,7 +4,8 @@ use Rattle.std.specs.List.{AllByRecursion}
 use Rattle.auction_rows.specs.declared.rows.Entry.{Entry}
 use Rattle.worker_journals.specs.declared.heads.Head.{Head}
 use Rattle.worker_journals.specs.Journals.{JournalView, seen, IsLawfulJournal}
-use Rattle.worker_journals.specs.Sides.{SideLists, request_from, reply_with, HasRequest, HasReplyWith}
+use Rattle.request_scripts.specs.ShortRequests.{request_from, HasRequest}
+use Rattle.worker_journals.specs.Sides.{SideLists, reply_with, HasReplyWith}
 
 -- the entry that a head of a worker's journal of a phase says, with the journal's side lists
 abbrev pub entry_from : ℕ → ℕ → SideLists → Head → Entry

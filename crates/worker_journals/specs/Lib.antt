@@ -5,4 +5,4 @@ pub mod Entries
 pub mod Merged
 pub mod Histories
 pub mod Places
-pub mod Scripts
+pub mod Rising

@@ -1,18 +1,15 @@
--- What a journal keeps beside its heads, a script beside its requests, and what is said with it.
-use Rattle.std.specs.Prelude.{◌≡◌, ℕ, pos, ◌+◌, ◌-◌, ◌<◌, ◌≤◌, List, [], ◌∷◌, ◌++◌, ⊤, None, map, length, take, drop, slice_index_or}
-use Rattle.std.specs.List.{AllByRecursion}
+-- What a journal keeps beside its heads, and what is said with it.
+use Rattle.std.specs.Prelude.{◌≡◌, ℕ, pos, ◌+◌, ◌-◌, ◌<◌, ◌≤◌, List, [], ◌∷◌, ◌++◌, ⊤, None, length, take, drop, slice_index_or}
 use Rattle.auction_rows.specs.declared.limits.TheConstants.{MOST_SHOWN}
 use Rattle.auction_rows.specs.declared.requests.Facts.{Facts}
 use Rattle.auction_rows.specs.declared.requests.Request.{Request}
-use Rattle.auction_rows.specs.declared.requests.Request.TheVariants.{StoreItem, StoreBid, StoreComment, BuyNow, ViewItem, ViewBids, ViewCategory, ViewUser}
 use Rattle.auction_rows.specs.declared.replies.BidShown.{BidShown}
 use Rattle.auction_rows.specs.declared.replies.ItemShown.{ItemShown}
 use Rattle.auction_rows.specs.declared.replies.ItemView.{ItemView}
 use Rattle.auction_rows.specs.declared.replies.Reply.{Reply}
 use Rattle.auction_rows.specs.declared.replies.Reply.TheVariants.{ItemStored, BidStored, CommentStored, Bought, ItemSeen, BidsSeen, CategorySeen, UserSeen, Refused}
 use Rattle.auction_rows.specs.ItemViews.{item_reply}
-use Rattle.worker_journals.specs.declared.heads.ShortRequest.{ShortRequest}
-use Rattle.worker_journals.specs.declared.heads.ShortRequest.TheVariants as ask
+use Rattle.request_scripts.specs.ShortRequests.{facts_in}
 use Rattle.worker_journals.specs.declared.heads.ShortReply.{ShortReply}
 use Rattle.worker_journals.specs.declared.heads.ShortReply.TheVariants as told
 use Rattle.worker_journals.specs.declared.heads.UserSeen.{UserSeen as SeenUser}
@@ -35,17 +32,6 @@ pub record SideLists : Type 0 where
 -- side lists before the first commit
 abbrev pub no_sides : ℕ → SideLists
 no_sides room = record { facts = []; items = []; users = []; bids = []; latest = []; left = room }
-
--- the facts that a request stores, if it does
-abbrev pub facts_in : Request → List Facts
-facts_in (StoreItem facts time) = facts ∷ []
-facts_in (StoreBid bidder item amount time) = []
-facts_in (StoreComment author about item stars) = []
-facts_in (BuyNow buyer item quantity time) = []
-facts_in (ViewItem item) = []
-facts_in (ViewBids item) = []
-facts_in (ViewCategory category) = []
-facts_in (ViewUser user) = []
 
 -- what a reply shows, of each kind
 pub record ShownLists : Type 0 where
@@ -100,14 +86,6 @@ with_commit_of sides request reply = record {
   left = sides.left - 1;
 }
 
--- facts that no head says
-abbrev pub no_facts : Facts
-no_facts = record { seller = 0; category = 0; name = []; quantity = 0; start = 0; closes = 0 }
-
--- the facts at a place, past the end those that no head says
-abbrev pub facts_at : List Facts → ℕ → Facts
-facts_at facts place = slice_index_or facts place no_facts
-
 -- an item seen that no head says
 abbrev pub no_item : ItemView
 no_item = record {
@@ -134,17 +112,6 @@ user_at users place = slice_index_or users place (record { rating = pos 0; comme
 abbrev pub user_reply : SeenUser → Reply
 user_reply seen = UserSeen seen.rating seen.comments
 
--- the request of a head
-abbrev pub request_from : List Facts → ShortRequest → Request
-request_from all (ask.StoreItem facts time) = StoreItem (facts_at all facts) time
-request_from all (ask.StoreBid bidder item amount time) = StoreBid bidder item amount time
-request_from all (ask.StoreComment author about item stars) = StoreComment author about item stars
-request_from all (ask.BuyNow buyer item quantity time) = BuyNow buyer item quantity time
-request_from all (ask.ViewItem item) = ViewItem item
-request_from all (ask.ViewBids item) = ViewBids item
-request_from all (ask.ViewCategory category) = ViewCategory category
-request_from all (ask.ViewUser user) = ViewUser user
-
 -- the reply of a head
 abbrev pub reply_from : List ItemView → List SeenUser → List BidShown → List ItemShown →
     ShortReply → Reply
@@ -160,25 +127,6 @@ reply_from items users bids latest (told.CategorySeen count place) =
 reply_from items users bids latest (told.UserSeen place) = user_reply (user_at users place)
 reply_from items users bids latest (told.Refused reason) = Refused reason
 
--- the place of a short request lies within the facts
-abbrev pub HasRequest : List Facts → ShortRequest → Type 0
-HasRequest all (ask.StoreItem facts time) = facts < length all
-HasRequest all (ask.StoreBid bidder item amount time) = ⊤
-HasRequest all (ask.StoreComment author about item stars) = ⊤
-HasRequest all (ask.BuyNow buyer item quantity time) = ⊤
-HasRequest all (ask.ViewItem item) = ⊤
-HasRequest all (ask.ViewBids item) = ⊤
-HasRequest all (ask.ViewCategory category) = ⊤
-HasRequest all (ask.ViewUser user) = ⊤
-
--- the requests that short ones say, with the facts that are kept
-abbrev pub requests_from : List Facts → List ShortRequest → List Request
-requests_from all shorts = map (request_from all) shorts
-
--- the place of each short request lies within the facts
-abbrev pub HaveRequests : List Facts → List ShortRequest → Type 0
-HaveRequests all shorts = AllByRecursion (HasRequest all) shorts
-
 -- the place of a short reply lies within the lists
 abbrev pub HasReply : List ItemView → List SeenUser → List BidShown → List ItemShown →
     ShortReply → Type 0
@@ -193,13 +141,6 @@ HasReply items users bids latest (told.CategorySeen count place) =
     (count ≤ MOST_SHOWN) × (place + count ≤ length latest)
 HasReply items users bids latest (told.UserSeen place) = place < length users
 HasReply items users bids latest (told.Refused reason) = ⊤
-
--- a short request says a request, with the facts that are kept
-pub record SaysRequest (all : List Facts) (short : ShortRequest) (request : Request) : Type 0 where
-  -- the place lies within the facts
-  pub within : HasRequest all short
-  -- the request is the one that is said
-  pub is : request_from all short ≡ request
 
 -- a short reply says a reply, with what is kept of views
 pub record SaysReply (items : List ItemView) (users : List SeenUser) (bids : List BidShown)
@@ -220,7 +161,3 @@ HasReplyWith sides = HasReply sides.items sides.users sides.bids sides.latest
 -- a short reply says a reply, with the side lists
 abbrev pub SaysReplyWith : SideLists → ShortReply → Reply → Type 0
 SaysReplyWith sides = SaysReply sides.items sides.users sides.bids sides.latest
-
--- a list of such a length and capacity has room for so many more
-abbrev pub HasListRoom : ℕ → ℕ → ℕ → Type 0
-HasListRoom more len capacity = len + more ≤ capacity

@@ -7,6 +7,7 @@ ghost use Rattle.worker_journals.specs.Journals.{IsLawfulJournal, closed_journal
 ghost use Rattle.worker_journals.specs.Merged.{AreByWorker, entries_of, merged};
 ghost use Rattle.worker_journals.specs.Histories.{ArePhase, no_history, with_phase};
 ghost use Rattle.worker_journals.specs.Places.{first_entries};
+ghost use Rattle.worker_journals.specs.Rising.{EntriesRiseTo, HasPassed};
 
 use crate::entries::EntryRef;
 use crate::journal::Journal;
@@ -227,6 +228,30 @@ impl<'a> Model for WorkerEntries<'a> {
     ghost view = { λ e. own_left e.worker e.here.now e.place (journals_of e.phases.now) };
 }
 
+impl WorkerEntries<'_> {
+    /// Passes over journals as long as the next entry is the first of one whose indexes rise from this
+    /// one on. It looks at no entry, and gives the index after the last one that it passed.
+    pub fn pass_rising(&mut self, from: u64) -> u64
+        ensures { HasPassed from self.old self.new result }
+    {
+        let mut next = from;
+        while entry_of(self.here, self.place).is_none() {
+            let Some((first, rest)) = self.phases.split_first() else {
+                break;
+            };
+            let own = from_own(first.as_slice(), self.worker);
+            let Some(after) = rising_from(own, next) else {
+                break;
+            };
+            self.here = &[];
+            self.place = 0;
+            self.phases = rest;
+            next = after;
+        }
+        next
+    }
+}
+
 impl<'a> Iterator for WorkerEntries<'a> {
     type Item = EntryRef<'a>;
 
@@ -262,6 +287,16 @@ fn entry_of(here: &[Journal], place: usize) -> Option<EntryRef<'_>>
         Some(EntryRef::of(journal, place))
     } else {
         None
+    }
+}
+
+// The index after the last one of the first journal, if its indexes rise from this one on.
+fn rising_from(here: &[Journal], from: u64) -> Option<u64>
+    ensures { IfSome result (EntriesRiseTo from (first_entries here.now)) }
+{
+    match here.first() {
+        Some(journal) => journal.rising_from(from),
+        None => Some(from),
     }
 }
 

@@ -1,8 +1,9 @@
 //! What one worker commits in one phase.
-ghost use Rattle.std.specs.Prelude.{◌≡◌, ◌<◌, ◌+◌, ◌^◌, ◌==◌, Some, length, map, option_map, option_to_list, slice_get, IfOk};
+ghost use Rattle.std.specs.Prelude.{◌≡◌, ◌<◌, ◌≤◌, true, ◌+◌, ◌^◌, ◌==◌, Some, length, map, option_map, option_to_list, slice_get, IfOk, IfSome};
 ghost use Rattle.std.specs.Iterator.{YieldsFirst, item_count};
 ghost use Rattle.auction_rows.specs.Choosing.{written_by};
 ghost use Rattle.worker_journals.specs.Journals.{IsLawfulJournal, ComesAfter, closed_journal, empty_journal, entry_index, entry_number, with_commit};
+ghost use Rattle.worker_journals.specs.Rising.{EntriesRiseTo};
 ghost use Rattle.worker_journals.specs.Places.{entry_items, entry_reply, entry_request, entry_store_reply, is_refused};
 
 use crate::entries::{Answer, EntryRef};
@@ -17,24 +18,45 @@ use std::marker::Model;
 /// a place was asked.
 ///
 /// An entry is kept as a short head; the facts of an item, and what views show, lie in lists of their own.
-#[derive(Drop)]
 pub struct Journal {
     phase: u64,
     worker: u32,
     heads: Vec<Head>,
     sides: Sides,
+    // Whether the indexes of the entries rise.
+    is_rising: bool,
+    // The index after the last one.
+    next: u64,
+}
+
+// Not derived: a derived drop is made and proved anew in each crate that lets one go.
+impl Drop for Journal {
+    fn drop(self) {
+        let Self {
+            phase: _,
+            worker: _,
+            heads,
+            sides,
+            is_rising: _,
+            next: _,
+        } = self;
+        drop(heads);
+        drop(sides);
+    }
 }
 
 impl Model for Journal {
     ghost use Rattle.std.specs.Prelude.{vec_capacity};
     ghost use Rattle.worker_journals.specs.Journals.{JournalView};
     ghost use Rattle.worker_journals.specs.Entries.{shown, IsKept};
+    ghost use Rattle.worker_journals.specs.Rising.{IsRising};
 
     ghost Value = { JournalView };
 
     ghost view = { λ j. shown j.phase j.worker j.heads.items j.sides };
 
-    ghost invariant = { λ j. IsKept j.phase j.worker j.heads.items (vec_capacity j.heads) j.sides };
+    ghost invariant = { λ j. IsKept j.phase j.worker j.heads.items (vec_capacity j.heads) j.sides
+        × IsRising j.is_rising j.heads.items j.next };
 }
 
 impl Journal {
@@ -53,6 +75,8 @@ impl Journal {
             worker,
             heads: Vec::with_capacity(alloc, room)?,
             sides: Sides::with_room(alloc, room)?,
+            is_rising: true,
+            next: 0,
         })
     }
 
@@ -74,6 +98,8 @@ impl Journal {
         requires after { ComesAfter self.old.entries number }
         ensures pushed { self.new ≡ with_commit self.old number index request.now reply.now }
     {
+        self.is_rising = still_rise(self.is_rising, self.next, index);
+        self.next = u64::from(index) + 1;
         let (request, reply) = self.sides.keep(request, reply);
         self.heads.push_reserved(Head {
             number,
@@ -81,6 +107,17 @@ impl Journal {
             index,
             reply,
         });
+    }
+
+    /// The index after the last one, if the indexes rise from this one on.
+    pub(crate) fn rising_from(&self, from: u64) -> Option<u64>
+        ensures { IfSome result (EntriesRiseTo from self.now.entries) }
+    {
+        match self.heads.first() {
+            None => Some(from),
+            Some(first) if self.is_rising && from <= u64::from(first.index) => Some(self.next),
+            Some(_) => None,
+        }
     }
 
     /// Gives back the memory that no entry fills: there is no more room then.
@@ -239,6 +276,14 @@ impl Journal {
     {
         self.worker
     }
+}
+
+// Whether indexes rise with one more, if they are said to rise up to the next one.
+#[inline(always)]
+fn still_rise(said: bool, next: u64, index: u32) -> bool
+    ensures { result ≡ true → (said ≡ true) × (next ≤ index) }
+{
+    said && next <= u64::from(index)
 }
 
 /// The entries of a journal that are left. It takes no memory.

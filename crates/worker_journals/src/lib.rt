@@ -1,5 +1,5 @@
-//! The journals of workers: what each worker commits in one phase, in few bytes per entry. The history, which keeps the
-//! journals of all phases and merges them by number while it is read. And scripts, in 32 bytes per request.
+//! The journals of workers: what each worker commits in one phase, in few bytes per entry. And the
+//! history, which keeps the journals of all phases and merges them by number while it is read.
 #![tactic(auto)]
 
 mod entries;
@@ -7,7 +7,6 @@ mod heads;
 mod history;
 mod journal;
 mod merge;
-mod script;
 mod sides;
 
 pub use auction_rows::Entry;
@@ -15,4 +14,4 @@ pub use entries::{Answer, EntryRef, ReplyForm};
 pub use history::{Entries, History, WorkerEntries};
 pub use journal::{Journal, JournalEntries};
 pub use merge::{entries_by_worker, journals_merge, merge_journals, numbers_come_after};
-pub use script::Script;
+pub use request_scripts::Script;

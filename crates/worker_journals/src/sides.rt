@@ -1,10 +1,12 @@
-//! What a journal keeps beside its heads, and a script beside its requests.
-ghost use Rattle.std.specs.Prelude.{◌≡◌, ◌+◌, ◌<◌, ◌≤◌, ◌++◌, ◌∷◌, [], length, take, drop, option_map, option_to_list, vec_len, vec_capacity, IfOk};
-ghost use Rattle.worker_journals.specs.Sides.{HasListRoom, SaysReply, SaysRequest, facts_in, shown_in};
+//! What a journal keeps beside its heads.
+ghost use Rattle.std.specs.Prelude.{◌≡◌, ◌+◌, ◌<◌, ◌≤◌, ◌++◌, length, take, drop, option_map, option_to_list, vec_len, vec_capacity, IfOk};
+ghost use Rattle.request_scripts.specs.ShortRequests.{HasListRoom, SaysRequest};
+ghost use Rattle.worker_journals.specs.Sides.{SaysReply, shown_in};
 
 use crate::entries::{Answer, ReplyForm};
-use crate::heads::{ShortReply, ShortRequest, SideIndex, UserSeen};
+use crate::heads::{ShortReply, UserSeen};
 use auction_rows::{BidShown, Facts, ItemShown, ItemView, MOST_SHOWN, Object, Reply, Request, Ten};
+use request_scripts::{ShortRequest, SideIndex, keep_one, keep_request};
 use std::alloc::{AllocError, Global};
 use std::marker::Model;
 
@@ -22,7 +24,8 @@ pub(crate) struct Sides {
 impl Model for Sides {
     ghost use Rattle.std.specs.Prelude.{◌*◌, vec_len, vec_capacity};
     ghost use Rattle.auction_rows.specs.declared.limits.TheConstants.{MOST_SHOWN};
-    ghost use Rattle.worker_journals.specs.Sides.{SideLists, HasListRoom};
+    ghost use Rattle.request_scripts.specs.ShortRequests.{HasListRoom};
+    ghost use Rattle.worker_journals.specs.Sides.{SideLists};
 
     ghost Value = { SideLists };
 
@@ -45,7 +48,8 @@ impl Model for Sides {
 impl Sides {
     ghost use Rattle.auction_rows.specs.Choosing.{written_by};
     ghost use Rattle.auction_rows.specs.History.{commit};
-    ghost use Rattle.worker_journals.specs.Sides.{HasReplyWith, HasRequest, SaysReplyWith, SaysRequest, no_sides, reply_with, request_from, with_commit_of};
+    ghost use Rattle.request_scripts.specs.ShortRequests.{HasRequest, SaysRequest, request_from};
+    ghost use Rattle.worker_journals.specs.Sides.{HasReplyWith, SaysReplyWith, no_sides, reply_with, with_commit_of};
 
     /// Empty lists with room for those of so many commits.
     pub(crate) fn with_room(alloc: Global, room: usize) -> Result<Sides, AllocError>
@@ -195,18 +199,6 @@ impl Sides {
     }
 }
 
-// Puts a value at the end of a list, and gives its place. It takes no memory.
-fn keep_one<T>(list: &mut Vec<T>, value: T) -> SideIndex
-    requires { HasListRoom 1 (vec_len list.old) (vec_capacity list.old) }
-    ensures place { result ≡ vec_len list.old }
-    ensures kept { list.new.items ≡ list.old.items ++ value ∷ [] }
-    ensures capacity { vec_capacity list.new ≡ vec_capacity list.old }
-{
-    let place = SideIndex::of(list.len());
-    list.push_reserved(value);
-    place
-}
-
 // Puts the values that a view shows at the end of a list, and gives the place of the first. It takes no memory.
 fn keep_all<T: Copy>(list: &mut Vec<T>, shown: &Ten<T>) -> SideIndex
     requires { HasListRoom MOST_SHOWN (vec_len list.old) (vec_capacity list.old) }
@@ -233,52 +225,6 @@ fn part_of<T: Copy>(list: &[T], place: SideIndex, count: u8) -> Ten<T>
         shown.push(*value);
     }
     shown
-}
-
-/// How many facts a request stores: 1 of an item, or none.
-#[inline(always)]
-pub(crate) fn facts_stored(request: &Request) -> usize
-    ensures { result ≡ length (facts_in request.now) }
-{
-    match request {
-        Request::StoreItem { .. } => 1,
-        _ => 0,
-    }
-}
-
-/// A request, with the facts that it stores at the end of the facts. It takes no memory.
-#[inline(always)]
-pub(crate) fn keep_request(all: &mut Vec<Facts>, request: &Request) -> ShortRequest
-    requires { HasListRoom (length (facts_in request.now)) (vec_len all.old) (vec_capacity all.old) }
-    ensures kept { all.new.items ≡ all.old.items ++ facts_in request.now }
-    ensures capacity { vec_capacity all.new ≡ vec_capacity all.old }
-    ensures says { SaysRequest all.new.items result request.now }
-{
-    match *request {
-        Request::StoreItem { facts, time } => ShortRequest::StoreItem(keep_one(all, facts), time),
-        Request::StoreBid {
-            bidder,
-            item,
-            amount,
-            time,
-        } => ShortRequest::StoreBid(bidder, item, amount, time),
-        Request::StoreComment {
-            author,
-            about,
-            item,
-            stars,
-        } => ShortRequest::StoreComment(author, about, item, stars),
-        Request::BuyNow {
-            buyer,
-            item,
-            quantity,
-            time,
-        } => ShortRequest::BuyNow(buyer, item, quantity, time),
-        Request::ViewItem { item } => ShortRequest::ViewItem(item),
-        Request::ViewBids { item } => ShortRequest::ViewBids(item),
-        Request::ViewCategory { category } => ShortRequest::ViewCategory(category),
-        Request::ViewUser { user } => ShortRequest::ViewUser(user),
-    }
 }
 
 // What the view of an item shows: None of another reply.

@@ -3,7 +3,7 @@ ghost use Rattle.std.specs.Prelude.{◌≡◌, ◌++◌, OnOk};
 ghost use Rattle.auction_text.specs.FaultLines.{cause_text, fault_line, fault_text, record_text};
 
 use crate::writing::text::{push_labelled, push_number, push_text};
-use auction_reading::{Cause, MOST_RECORDS, ReadFault};
+use record_reading::{Cause, MOST_RECORDS, ReadFault};
 use std::alloc::AllocError;
 
 fn text_of_cause(cause: Cause) -> &'static [u8]

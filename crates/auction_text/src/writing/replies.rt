@@ -1,5 +1,5 @@
 //! The texts of replies, and their lines.
-ghost use Rattle.std.specs.Prelude.{◌≡◌, ◌+◌, ◌≤◌, ◌++◌, OnOk, codes, length};
+ghost use Rattle.std.specs.Prelude.{◌≡◌, ◌↔◌, ◌+◌, ◌≤◌, ◌++◌, IsTrue, OnOk, codes, length};
 ghost use Rattle.std.specs.List.{flat_map};
 ghost use Rattle.auction_rows.specs.ItemViews.{item_reply};
 ghost use Rattle.auction_rows.specs.StoreReplies.{reply_of};
@@ -206,6 +206,53 @@ pub fn set_reply(block: &mut Block<MOST_OF_A_REPLY>, reply: &Reply)
 {
     block.clear();
     put_reply(block, reply);
+}
+
+// Makes a block the text of the reply to a store, whatever it was.
+fn set_store_reply(block: &mut Block<MOST_OF_A_REPLY>, reply: StoreReply)
+    ensures { block.new ≡ reply_text (reply_of reply) }
+{
+    block.clear();
+    put_store_reply(block, reply);
+}
+
+// Whether a text is that of a block.
+fn is_text_of(block: &Block<MOST_OF_A_REPLY>, text: &[u8]) -> bool
+    ensures { IsTrue result ↔ (text.now ≡ block.now) }
+{
+    block.bytes() == text
+}
+
+/// Room for the text of a reply, to compare other texts with. Making one anew takes longer than
+/// writing most replies, so it is kept from reply to reply.
+#[derive(Drop)]
+pub struct ReplyText {
+    block: Block<MOST_OF_A_REPLY>,
+}
+
+impl ReplyText {
+    /// Room with no text.
+    pub fn new() -> ReplyText {
+        ReplyText {
+            block: Block::new(),
+        }
+    }
+
+    /// Whether a text is that of a reply.
+    pub fn is_of(&mut self, reply: &Reply, text: &[u8]) -> bool
+        ensures { IsTrue result ↔ (text.now ≡ reply_text reply.now) }
+    {
+        set_reply(&mut self.block, reply);
+        is_text_of(&self.block, text)
+    }
+
+    /// Whether a text is that of the reply to a store.
+    pub fn is_of_store(&mut self, reply: StoreReply, text: &[u8]) -> bool
+        ensures { IsTrue result ↔ (text.now ≡ reply_text (reply_of reply)) }
+    {
+        set_store_reply(&mut self.block, reply);
+        is_text_of(&self.block, text)
+    }
 }
 
 /// Adds the text of a reply.

@@ -46,13 +46,16 @@ fn late_as_committed(
         ≡ late comes_before None (part entry_worker worker history.now.entries)) }
 {
     let mut entries = Vec::new(alloc);
-    let mut next = 0;
-    for entry in history.of_worker(worker) {
+    let mut left = history.of_worker(worker);
+    // No entry of a journal whose indexes rise is late, so none of it is looked at.
+    let mut next = left.pass_rising(0);
+    while let Some(entry) = left.next() {
         if is_late(next, &entry) {
             entries.push(entry)?;
         } else {
             next = u64::from(entry.index()) + 1;
         }
+        next = left.pass_rising(next);
     }
     Ok(entries)
 }

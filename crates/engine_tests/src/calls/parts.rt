@@ -1,24 +1,28 @@
 //! Two parts of an auction, the second from the state that the first left.
 use crate::calls::printing::print_state;
-use crate::runs::testing::{LOOK, fault_of, own_scripts, policy_of};
-use crate::testing::{OPENING, bid, purchase, put_up, vases};
+use crate::runs::testing::{own_scripts, policy_of};
+use crate::testing::{LOOK, OPENING, bid, purchase, put_up, vases};
 use auction_rows::Request;
-use auction_run::{FreeGate, run_on};
+use auction_run::{FreeGate, RunFault, Stopped, run_on};
 use phase_floor::Joined;
 use std::alloc::Global;
+use std::process::Abort;
 use std::sync::Wait;
 use std::test::Fail;
 use std::thread::Threads;
 
 /// Goes on twice from an auction that has no rows: the state after both parts. In the first the
 /// vases are split.
-pub(crate) fn two_parts<R: Threads + Wait + Sync + Print>(
+pub(crate) fn two_parts<R: Threads + Wait + Sync + Print + Abort>(
     rt: &R,
     alloc: Global,
 ) -> Result<Joined, Fail> {
-    let first: [&[Request]; 2] = [&[put_up(vases(3)?), bid(1, 10, 1), bid(1, 20, 2)], &[LOOK]];
+    let first: [&[Request]; 2] = [
+        &[put_up(vases(rt, 3)), bid(1, 10, 1), bid(1, 20, 2)],
+        &[LOOK],
+    ];
     let first = own_scripts(alloc, &first)?;
-    let second: [&[Request]; 2] = [&[purchase(4, 1, 9)?], &[bid(2, 30, 3)]];
+    let second: [&[Request]; 2] = [&[purchase(rt, 4, 1, 9)], &[bid(2, 30, 3)]];
     let second = own_scripts(alloc, &second)?;
     let state = Joined::new(alloc, OPENING, 2, 4)?;
     let _ = println!(rt; "parts ready: {} workers", state.workers());
@@ -27,7 +31,7 @@ pub(crate) fn two_parts<R: Threads + Wait + Sync + Print>(
 }
 
 // Performs one part, and prints how many entries it has and what its state shows.
-fn perform<R: Threads + Wait + Sync + Print>(
+fn perform<R: Threads + Wait + Sync + Print + Abort>(
     rt: &R,
     alloc: Global,
     state: Joined,
@@ -41,5 +45,12 @@ fn perform<R: Threads + Wait + Sync + Print>(
             Ok(outcome.state)
         }
         Err(stopped) => Err(Fail::new(fault_of(&stopped))),
+    }
+}
+
+fn fault_of(stopped: &Stopped) -> RunFault {
+    match stopped {
+        Stopped::Refused(_state, fault) => *fault,
+        Stopped::Failed(fault) => *fault,
     }
 }

@@ -1,37 +1,23 @@
 //! The calls, and what came of them where memory was there. What each answers stands in
 //! `tests/library_calls.txt`.
 use crate::calls::parts::two_parts;
-use crate::calls::phases::phases_by_hand;
-use crate::calls::printing::{VIEW, print_history};
 use crate::calls::windows::two_publishes;
 use crate::comparing::assert_same;
-use crate::testing::{item_seen, vases};
+use crate::testing::{VIEW, item_seen, vases};
 use std::test::Fail;
-use worker_journals::History;
-
-#[test]
-fn phases(rt: HostRuntime) -> Result<(), Fail> {
-    let mut history = History::new(rt.alloc());
-    let ended = phases_by_hand(&rt, rt.alloc(), &mut history);
-    print_history(&rt, &history);
-    let shown = ended?.view(&VIEW);
-    let wanted = item_seen(&vases(2)?, Some((30, 2)), 2, 2);
-    assert_same(&rt, &(shown, history.len()), &(Some(wanted), 6));
-    Ok(())
-}
 
 #[test]
 fn windows(rt: HostRuntime) -> Result<(), Fail> {
     let ended = two_publishes(&rt, rt.alloc())?;
-    let wanted = item_seen(&vases(2)?, Some((20, 1)), 1, 2);
-    assert_same(&rt, &ended, &(Some(wanted), 2, true));
+    let wanted = item_seen(&vases(&rt, 2), Some((20, 1)), 1, 2);
+    assert_same(&rt, ended, (Some(wanted), 2, true));
     Ok(())
 }
 
 #[test]
 fn parts(rt: HostRuntime) -> Result<(), Fail> {
     let shown = two_parts(&rt, rt.alloc())?.view(&VIEW);
-    let wanted = item_seen(&vases(3)?, Some((30, 2)), 3, 2);
-    assert_same(&rt, &shown, &Some(wanted));
+    let wanted = item_seen(&vases(&rt, 3), Some((30, 2)), 3, 2);
+    assert_same(&rt, shown, Some(wanted));
     Ok(())
 }

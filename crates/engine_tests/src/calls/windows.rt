@@ -1,16 +1,17 @@
 //! A publisher, a window, and the rows of two phases.
-ghost use Rattle.std.specs.Prelude.{◌≡◌, ◌<◌, ◌++◌, ◌∷◌, [], length, IfOk, false};
+ghost use Rattle.std.specs.Prelude.{◌≡◌, ◌<◌, ◌++◌, ◌∷◌, [], length, vec_len, IfOk, false};
 ghost use Rattle.item_shards.specs.OpeningBooks.{opening_of};
 ghost use Rattle.item_shards.specs.Serial.{CanFollow};
 ghost use Rattle.auction_window.specs.Published.{book_of};
 
-use crate::calls::printing::{VIEW, print_view};
-use crate::testing::{OPENING, bid, put_up, vases};
+use crate::calls::printing::print_view;
+use crate::testing::{OPENING, VIEW, bid, put_up, vases};
 use auction_rows::{Reply, Row};
 use auction_window::{PhaseLog, Publisher, Window, WindowName};
 use item_shards::{Opened, OpeningBook};
 use std::alloc::Global;
 use std::marker::Brand;
+use std::process::Abort;
 use std::sync::Wait;
 use std::test::Fail;
 
@@ -19,10 +20,10 @@ use std::test::Fail;
 type Ended = (Option<Reply>, u64, bool);
 
 /// Makes a publisher, and publishes twice: the row of the vases and then that of a bid.
-pub(crate) fn two_publishes<R: Wait + Print>(rt: &R, alloc: Global) -> Result<Ended, Fail> {
+pub(crate) fn two_publishes<R: Wait + Print + Abort>(rt: &R, alloc: Global) -> Result<Ended, Fail> {
     let vases = Opened {
         worker: 0,
-        request: put_up(vases(2)?),
+        request: put_up(vases(rt, 2)),
     };
     let bid = Opened {
         worker: 0,
@@ -45,10 +46,25 @@ fn show_rows<J: WindowName, R: Wait + Print>(
     requires opening { opening_of book.now ≡ J.opening }
 {
     let empty = OpeningBook::empty(book.opening());
-    let (mut publisher, mut windows) = match Publisher::<J>::new(rt, alloc, log, &empty, 1) {
-        Ok(made) => made,
-        Err(fault) => return Err(Fail::new(fault)),
-    };
+    match Publisher::<J>::new(rt, alloc, log, &empty, 1) {
+        Ok((publisher, windows)) => show_in(rt, alloc, publisher, windows, book),
+        Err(fault) => Err(Fail::new(fault)),
+    }
+}
+
+// Publishes them, shows them in the one window, and ends the publisher.
+fn show_in<J: WindowName, R: Wait + Print>(
+    rt: &R,
+    alloc: Global,
+    mut publisher: Publisher<J>,
+    mut windows: Vec<Window<J>>,
+    book: &OpeningBook,
+) -> Result<Ended, Fail>
+    requires nothing { publisher ≡ record { phases = []; failed = false } }
+    requires one { vec_len windows ≡ 1 }
+    requires empty { J.rows ≡ [] }
+    requires opening { opening_of book.now ≡ J.opening }
+{
     let _ = println!(rt; "publisher: {} window", windows.len());
     let mut window = windows.remove(0);
     look(rt, &mut window);
@@ -56,7 +72,10 @@ fn show_rows<J: WindowName, R: Wait + Print>(
     publisher.agrees(&window);
     let phases = publisher.phases();
     publisher.end(rt);
-    Ok((shown?, phases, window.view(VIEW).is_err()))
+    match shown {
+        Ok(shown) => Ok((shown, phases, window.view(VIEW).is_err())),
+        Err(fail) => Err(fail),
+    }
 }
 
 // Publishes the first row, and then those after it.
@@ -114,7 +133,11 @@ fn publish<J: WindowName, R: Wait + Print>(
 }
 
 fn look<J: WindowName, R: Print>(rt: &R, window: &mut Window<J>) -> Option<Reply> {
-    let seen = window.view(VIEW).ok()??;
-    print_view(rt, seen.phases, &seen.reply);
-    Some(seen.reply)
+    match window.view(VIEW) {
+        Ok(Some(seen)) => {
+            print_view(rt, seen.phases, &seen.reply);
+            Some(seen.reply)
+        }
+        _ => None,
+    }
 }

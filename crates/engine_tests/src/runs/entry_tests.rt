@@ -1,14 +1,14 @@
 //! What is made of a list of entries: the rows that they add, and what they make hot.
 use crate::comparing::assert_same;
-use crate::runs::testing::{LOOK, bid_on, bid_stored};
-use crate::testing::{FIRST, put_up, vases};
+use crate::runs::testing::{bid_on, bid_stored};
+use crate::testing::{FIRST, LOOK, put_up, vases};
 use auction_rows::{
     BidId, BidRow, CommentId, Entry, ItemId, ItemRow, Object, Refusal, Reply, Request, Row, Stars,
 };
 use auction_run::choose_hot;
 use auction_window::rows_of;
 use std::alloc::Global;
-use std::test::Fail;
+use std::process::Abort;
 
 // An entry of worker 0: of its phase, number and index nothing is made.
 fn entry(request: Request, reply: Reply) -> Entry {
@@ -26,42 +26,38 @@ fn bid_entry(item: u32, serial: u32) -> Entry {
     entry(bid_on(item, 1, 10), bid_stored(0, serial))
 }
 
-fn comment_entry(serial: u32) -> Result<Entry, Fail> {
+fn comment_entry(serial: u32) -> Entry {
     let request = Request::StoreComment {
         author: 0,
         about: 3,
         item: FIRST,
-        stars: Stars::new(5).ok_or("no stars")?,
+        stars: Stars { value: 5 },
     };
-    let id = CommentId { worker: 0, serial };
-    Ok(entry(request, Reply::CommentStored(id)))
-}
-
-fn item_entry() -> Result<Entry, Fail> {
-    Ok(entry(put_up(vases(1)?), Reply::ItemStored(FIRST)))
-}
-
-fn item_row() -> Result<Row, Fail> {
-    Ok(Row::Item(ItemRow {
-        id: FIRST,
-        facts: vases(1)?,
-        time: 1,
-    }))
+    entry(
+        request,
+        Reply::CommentStored(CommentId { worker: 0, serial }),
+    )
 }
 
 #[test]
-fn accepted_stores_add_rows(rt: HostRuntime) -> Result<(), Fail> {
+fn accepted_stores_add_rows(rt: HostRuntime) {
+    let facts = &vases(&rt, 1);
     let refused = Reply::Refused(Refusal::BelowStart);
     let seen = Reply::UserSeen {
         rating: 0,
         comments: 0,
     };
     let entries = [
-        item_entry()?,
+        entry(put_up(*facts), Reply::ItemStored(FIRST)),
         entry(bid_on(0, 1, 9), refused),
         entry(LOOK, seen),
         bid_entry(0, 0),
     ];
+    let item = Row::Item(ItemRow {
+        id: FIRST,
+        facts: *facts,
+        time: 1,
+    });
     let bid = Row::Bid(BidRow {
         id: BidId {
             worker: 0,
@@ -72,42 +68,41 @@ fn accepted_stores_add_rows(rt: HostRuntime) -> Result<(), Fail> {
         amount: 10,
         time: 1,
     });
-    let rows = rows_of(rt.alloc(), &entries)?;
-    assert_same(&rt, &rows.as_slice(), &[item_row()?, bid].as_slice());
-    Ok(())
+    let rows = rows_of(rt.alloc(), &entries).expect(&rt, "memory");
+    assert_same(&rt, rows.as_slice(), [item, bid].as_slice());
 }
 
-// The objects that three comments about user 3, two bids each on two items, and refused bids on a
-// third make hot.
-fn hot_objects(alloc: Global, hot_max: u32) -> Result<Vec<Object>, Fail> {
-    let refused = entry(bid_on(2, 1, 9), Reply::Refused(Refusal::BelowStart));
+const USER: Object = Object::User(3);
+
+const SECOND: ItemId = ItemId {
+    worker: 0,
+    serial: 1,
+};
+
+// Asserts what becomes hot of three comments about user 3, two bids each on two items, and refused
+// bids on a third.
+fn assert_hot(rt: &impl Abort, alloc: Global, hot_max: u32, wanted: &[Object]) {
+    let refused = Reply::Refused(Refusal::BelowStart);
+    let refused = &entry(bid_on(2, 1, 9), refused);
     let entries = [
-        comment_entry(0)?,
+        comment_entry(0),
         bid_entry(1, 0),
-        refused,
+        *refused,
         bid_entry(0, 1),
-        comment_entry(1)?,
-        refused,
+        comment_entry(1),
+        *refused,
         bid_entry(0, 2),
         bid_entry(1, 3),
-        comment_entry(2)?,
+        comment_entry(2),
     ];
-    let hot = choose_hot(alloc, &entries, 2, hot_max)?;
-    Ok(Vec::from_slice(alloc, hot.as_slice())?)
+    let hot = choose_hot(alloc, &entries, 2, hot_max).expect(rt, "memory");
+    assert_same(rt, hot.as_slice(), wanted);
 }
 
 #[test]
-fn the_most_written_are_hot(rt: HostRuntime) -> Result<(), Fail> {
-    let (user, first) = (Object::User(3), Object::Item(FIRST));
-    let second = Object::Item(ItemId {
-        worker: 0,
-        serial: 1,
-    });
-    let two = hot_objects(rt.alloc(), 2)?;
-    assert_same(&rt, &two.as_slice(), &[user, first].as_slice());
-    let all = hot_objects(rt.alloc(), 64)?;
-    assert_same(&rt, &all.as_slice(), &[user, first, second].as_slice());
-    let none = hot_objects(rt.alloc(), 0)?;
-    assert_same(&rt, &none.len(), &0);
-    Ok(())
+fn the_most_written_are_hot(rt: HostRuntime) {
+    let (first, second) = (Object::Item(FIRST), Object::Item(SECOND));
+    assert_hot(&rt, rt.alloc(), 2, &[USER, first]);
+    assert_hot(&rt, rt.alloc(), 64, &[USER, first, second]);
+    assert_hot(&rt, rt.alloc(), 0, &[]);
 }

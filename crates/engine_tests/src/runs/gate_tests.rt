@@ -1,12 +1,11 @@
 //! What a gate is told of a run, and how it holds requests back.
 use crate::comparing::assert_same;
-use crate::runs::testing::{LOOK, Threaded, bid_on, bid_stored, buy_one, item, run_of};
-use crate::testing::bid;
+use crate::runs::testing::{Threaded, answer_at, bid_on, bid_stored, policy_of, run_of};
+use crate::testing::{LOOK, bid, purchase, put_up, vases};
 use auction_rows::{BuyId, Refusal, Reply};
 use auction_run::{FreeGate, Gate};
 use std::process::Abort;
 use std::sync::atomic::{AtomicU64, Ordering};
-use std::test::Fail;
 use worker_journals::History;
 
 // In each of three phases the second of two workers waits at its first request until the first
@@ -20,16 +19,6 @@ struct Turns {
     met: AtomicU64,
     arrived: AtomicU64,
     left: AtomicU64,
-}
-
-fn no_turns() -> Turns {
-    Turns {
-        has_left: AtomicU64::new(0),
-        has_gone_on: AtomicU64::new(0),
-        met: AtomicU64::new(0),
-        arrived: AtomicU64::new(0),
-        left: AtomicU64::new(0),
-    }
 }
 
 fn tell_phase(phases: &AtomicU64, phase: u64) {
@@ -90,62 +79,54 @@ const ARRIVALS: [(u64, u32, u32); 11] = [
     (2, 1, 5),
 ];
 
-// The bits of these arrivals.
-fn told() -> u64 {
-    let mut told = 0;
-    for (phase, worker, index) in ARRIVALS {
-        told |= watched(phase, worker, index);
-    }
-    told
-}
-
-fn reply_at(history: &History, worker: u32, index: u32) -> Option<Reply> {
-    for entry in history.iter().map(|entry| entry.to_entry()) {
-        if entry.worker == worker && entry.index == index {
-            return Some(entry.reply);
-        }
-    }
-    None
-}
-
-// Asserts what those are answered that went on only once the other worker had left, or before it
-// did.
+// Asserts the phase and the reply of each request that went on only once the other worker had left,
+// or before it did.
 fn assert_replies(rt: &impl Abort, history: &History) {
     let bought = Reply::Bought(BuyId {
         worker: 0,
         serial: 0,
     });
-    for (worker, index, reply) in [
-        (1, 0, bid_stored(1, 0)),
-        (1, 2, bid_stored(1, 1)),
-        (0, 3, bought),
-        (1, 4, Reply::Refused(Refusal::NotEnough)),
+    for (worker, index, phase, reply) in [
+        (1, 0, 0, bid_stored(1, 0)),
+        (1, 2, 1, bid_stored(1, 1)),
+        (0, 3, 2, bought),
+        (1, 4, 2, Reply::Refused(Refusal::NotEnough)),
     ] {
-        assert_same(rt, &reply_at(history, worker, index), &Some(reply));
+        let answer = answer_at(history, worker, index);
+        assert_same(rt, answer, Some((phase, reply)));
     }
 }
 
 // Asserts that each turn was met, and each arrival told as it came and as it left.
 fn assert_told(rt: &impl Abort, turns: &Turns) {
-    let told = told();
+    let mut told = 0;
+    for (phase, worker, index) in ARRIVALS {
+        told |= watched(phase, worker, index);
+    }
     let counts = [
         turns.met.load(Ordering::SeqCst),
         turns.arrived.load(Ordering::SeqCst),
         turns.left.load(Ordering::SeqCst),
     ];
-    assert_same(rt, &counts, &[6, told, told]);
+    assert_same(rt, counts, [6, told, told]);
 }
 
 #[test]
-fn gate_is_told_of_each_request_of_workers_side_by_side(rt: HostRuntime) -> Result<(), Fail> {
-    let buy = buy_one()?;
-    let first = [item()?, LOOK, item()?, buy];
-    let second = [bid(1, 10, 1), LOOK, bid_on(1, 1, 10), LOOK, buy, LOOK];
-    let turns = no_turns();
-    let outcome = run_of(&rt, rt.alloc(), &[&first, &second], 2, 2, &turns)?;
+fn gate_is_told_of_each_request_of_workers_side_by_side(rt: HostRuntime) {
+    let (store, buy) = (&put_up(vases(&rt, 1)), &purchase(&rt, 4, 1, 9));
+    let first = [*store, LOOK, *store, *buy];
+    let second = [bid(1, 10, 1), LOOK, bid_on(1, 1, 10), LOOK, *buy, LOOK];
+    let turns = Turns {
+        has_left: AtomicU64::new(0),
+        has_gone_on: AtomicU64::new(0),
+        met: AtomicU64::new(0),
+        arrived: AtomicU64::new(0),
+        left: AtomicU64::new(0),
+    };
+    let scripts = [first.as_slice(), second.as_slice()];
+    let outcome = run_of(&rt, rt.alloc(), &scripts, policy_of(2, 2), &turns);
     assert_replies(&rt, &outcome.history);
     assert_told(&rt, &turns);
-    Ok(())
 }
 
 #[test]

@@ -1,10 +1,11 @@
 //! Two workers who meet at a gate in each phase: they run at one time, and no lock is held from
 //! one's `arrive` to its `leave`.
 use crate::comparing::assert_same;
-use crate::runs::testing::{LOOK, run_of};
+use crate::runs::testing::{policy_of, run_of};
+use crate::testing::LOOK;
+use auction_rows::Request;
 use auction_run::Gate;
 use std::sync::atomic::{AtomicU64, Ordering};
-use std::test::Fail;
 
 // What a worker does in a phase.
 #[derive(Clone, Copy)]
@@ -21,15 +22,6 @@ struct Meeting {
     arrived: AtomicU64,
     left: AtomicU64,
     seen: AtomicU64,
-}
-
-fn to_meet(awaited: [Step; 2]) -> Meeting {
-    Meeting {
-        awaited,
-        arrived: AtomicU64::new(0),
-        left: AtomicU64::new(0),
-        seen: AtomicU64::new(0),
-    }
 }
 
 // The flag of a worker in a phase, and all flags for one that is not watched.
@@ -73,22 +65,20 @@ impl Gate for Meeting {
 }
 
 #[test]
-fn workers_meet_in_each_phase(rt: HostRuntime) -> Result<(), Fail> {
+fn workers_meet_in_each_phase(rt: HostRuntime) {
     for awaited in [
         [Step::Arrives, Step::Arrives],
         [Step::Leaves, Step::Arrives],
         [Step::Arrives, Step::Leaves],
     ] {
-        let gate = to_meet(awaited);
-        run_of(
-            &rt,
-            rt.alloc(),
-            &[&[LOOK, LOOK], &[LOOK, LOOK]],
-            1,
-            1,
-            &gate,
-        )?;
-        assert_same(&rt, &gate.seen.load(Ordering::SeqCst), &EACH_IN_EACH_PHASE);
+        let gate = Meeting {
+            awaited,
+            arrived: AtomicU64::new(0),
+            left: AtomicU64::new(0),
+            seen: AtomicU64::new(0),
+        };
+        let scripts: [&[Request]; 2] = [&[LOOK, LOOK], &[LOOK, LOOK]];
+        run_of(&rt, rt.alloc(), &scripts, policy_of(1, 1), &gate);
+        assert_same(&rt, gate.seen.load(Ordering::SeqCst), EACH_IN_EACH_PHASE);
     }
-    Ok(())
 }

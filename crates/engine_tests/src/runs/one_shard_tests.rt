@@ -1,13 +1,11 @@
 //! Sixteen workers who bid on one item of one shard, side by side: nothing is hot.
 use crate::comparing::assert_same;
-use crate::runs::testing::{LOOK, item};
-use crate::testing::{FIRST, bid, item_seen, vases};
+use crate::testing::{LOOK, VIEW, bid, item_seen, put_up, vases};
 use auction_rows::{Opening, Request};
-use auction_run::{FreeGate, Policy, run};
+use auction_run::{FreeGate, Outcome, Policy, run};
 use item_shards::OpeningBook;
-use std::alloc::{AllocError, Global};
+use std::alloc::Global;
 use std::process::Abort;
-use std::test::Fail;
 use worker_journals::History;
 
 const WORKERS: u32 = 16;
@@ -25,24 +23,17 @@ const POLICY: Policy = Policy {
     hot_max: 0,
 };
 
-const VIEW: Request = Request::ViewItem { item: FIRST };
-
-// A request, and then 1,000 bids of 10 at 7 by this user.
-fn script_of(alloc: Global, first: Request, bidder: u32) -> Result<Vec<Request>, AllocError> {
-    let mut script = vec![in alloc; first]?;
-    for _bid in 0..1_000 {
-        script.push(bid(bidder, 10, 7))?;
+// The first worker puts the vase up, and each other one looks at a user. All then bid 1,000 times
+// 10 at 7, as the user of their number.
+fn scripts(rt: &impl Abort, alloc: Global) -> Vec<Vec<Request>> {
+    let store = put_up(vases(rt, 1));
+    let mut scripts = Vec::new(alloc);
+    for worker in 0..WORKERS {
+        let mut script = vec![in alloc; bid(worker, 10, 7); 1_001].expect(rt, "memory");
+        script[0] = if worker == 0 { store } else { LOOK };
+        scripts.push(script).expect(rt, "memory");
     }
-    Ok(script)
-}
-
-// The first worker puts the vase up, and each other one looks at a user. All then bid.
-fn scripts(alloc: Global) -> Result<Vec<Vec<Request>>, Fail> {
-    let mut scripts = vec![in alloc; script_of(alloc, item()?, 0)?]?;
-    for worker in 1..WORKERS {
-        scripts.push(script_of(alloc, LOOK, worker)?)?;
-    }
-    Ok(scripts)
+    scripts
 }
 
 // Asserts that the second phase is the last, and has so many commits, numbered from 1 without a
@@ -51,20 +42,24 @@ fn assert_numbered(rt: &impl Abort, history: &History, commits: u64) {
     let mut last = 0u64;
     for entry in history.last_entries() {
         let next = last.saturating_add(1);
-        assert_same(rt, &(entry.phase(), entry.number()), &(1, next));
+        assert_same(rt, (entry.phase(), entry.number()), (1, next));
         last = next;
     }
-    assert_same(rt, &last, &commits);
+    assert_same(rt, last, commits);
+}
+
+// Asserts what the run has performed, and what it leaves.
+fn assert_outcome(rt: &impl Abort, outcome: &Outcome) {
+    assert_numbered(rt, &outcome.history, 16_000);
+    assert_same(rt, outcome.history.len(), 16_016);
+    let seen = item_seen(&vases(rt, 1), Some((10, 15)), 16_000, 1);
+    assert_same(rt, outcome.state.view(&VIEW), Some(seen));
 }
 
 #[test]
-fn workers_on_one_shard_share_its_numbers(rt: HostRuntime) -> Result<(), Fail> {
+fn workers_on_one_shard_share_its_numbers(rt: HostRuntime) {
     let book = OpeningBook::empty(OPENING);
-    let scripts = scripts(rt.alloc())?;
-    let outcome = run(&rt, rt.alloc(), &book, scripts, POLICY, &FreeGate)?;
-    assert_numbered(&rt, &outcome.history, 16_000);
-    assert_same(&rt, &outcome.history.len(), &16_016);
-    let seen = item_seen(&vases(1)?, Some((10, 15)), 16_000, 1);
-    assert_same(&rt, &outcome.state.view(&VIEW), &Some(seen));
-    Ok(())
+    let scripts = scripts(&rt, rt.alloc());
+    let outcome = run(&rt, rt.alloc(), &book, scripts, POLICY, &FreeGate);
+    assert_outcome(&rt, &outcome.expect(&rt, "a run"));
 }

@@ -1,34 +1,42 @@
 //! In which phase the requests of a script are performed, and how many phases there are.
 use crate::comparing::assert_same;
-use crate::runs::testing::{LOOK, run_of};
+use crate::runs::testing::{policy_of, run_of};
+use crate::testing::LOOK;
 use auction_run::FreeGate;
-use std::alloc::{AllocError, Global};
+use std::alloc::Global;
 use std::process::Abort;
-use std::test::Fail;
+use std::sync::Wait;
+use std::thread::Threads;
 use worker_journals::History;
 
-// The phase of each request of a script, all of which were performed in their order.
-fn phases_of(rt: &impl Abort, alloc: Global, history: &History) -> Result<Vec<u64>, AllocError> {
-    let mut phases = Vec::new(alloc);
-    for entry in history.iter().map(|entry| entry.to_entry()) {
-        assert_same(rt, &(entry.index as usize), &phases.len());
-        phases.push(entry.phase)?;
+// Asserts the phase of each request of a script, all of which were performed in their order.
+fn assert_phases(rt: &impl Abort, history: &History, phases: &[u64]) {
+    assert_same(rt, history.len(), phases.len());
+    let mut next = 0u32;
+    for entry in history.iter() {
+        assert_same(rt, entry.index(), next);
+        let phase = phases.get(next as usize).copied();
+        assert_same(rt, Some(entry.phase()), phase);
+        next = next.saturating_add(1);
     }
-    Ok(phases)
+}
+
+// Asserts in which phases so many views are performed, and which phase would be the next.
+fn assert_performed<R: Threads + Wait + Sync + Abort>(
+    rt: &R,
+    alloc: Global,
+    phases: &[u64],
+    next: u64,
+) {
+    let script = vec![in alloc; LOOK; phases.len()].expect(rt, "memory");
+    let outcome = run_of(rt, alloc, &[script.as_slice()], policy_of(2, 3), &FreeGate);
+    assert_phases(rt, &outcome.history, phases);
+    let ended = (outcome.state.phase(), outcome.hot.len() as u64);
+    assert_same(rt, ended, (next, next));
 }
 
 #[test]
-fn quotas_say_in_which_phase_a_request_is_performed(rt: HostRuntime) -> Result<(), Fail> {
-    for (views, phases, next) in [
-        (0, [].as_slice(), 0),
-        (12, [0, 0, 1, 1, 1, 2, 2, 3, 3, 3, 4, 4].as_slice(), 5),
-    ] {
-        let script = [LOOK; 12];
-        let outcome = run_of(&rt, rt.alloc(), &[&script[..views]], 2, 3, &FreeGate)?;
-        let got = phases_of(&rt, rt.alloc(), &outcome.history)?;
-        assert_same(&rt, &got.as_slice(), &phases);
-        let ended = (outcome.state.phase(), outcome.hot.len() as u64);
-        assert_same(&rt, &ended, &(next, next));
-    }
-    Ok(())
+fn quotas_say_in_which_phase_a_request_is_performed(rt: HostRuntime) {
+    assert_performed(&rt, rt.alloc(), &[], 0);
+    assert_performed(&rt, rt.alloc(), &[0, 0, 1, 1, 1, 2, 2, 3, 3, 3, 4, 4], 5);
 }

@@ -1,19 +1,14 @@
 //! Whole runs, and their requests.
-use crate::testing::{OPENING, purchase, put_up, vases};
+use crate::testing::{LOOK, OPENING};
 use auction_rows::{BidId, ItemId, Reply, Request};
 use auction_run::{Gate, Outcome, Policy, RunFault, Stopped, run};
 use item_shards::OpeningBook;
 use phase_floor::Joined;
 use std::alloc::{AllocError, Global};
+use std::process::Abort;
 use std::sync::Wait;
-use std::test::Fail;
 use std::thread::Threads;
-
-pub(crate) const LOOK: Request = Request::ViewUser { user: 0 };
-
-pub(crate) fn item() -> Result<Request, Fail> {
-    Ok(put_up(vases(1)?))
-}
+use worker_journals::History;
 
 // A bid on an item of the first worker.
 pub(crate) fn bid_on(serial: u32, bidder: u32, amount: u64) -> Request {
@@ -23,10 +18,6 @@ pub(crate) fn bid_on(serial: u32, bidder: u32, amount: u64) -> Request {
         amount,
         time: 1,
     }
-}
-
-pub(crate) fn buy_one() -> Result<Request, Fail> {
-    purchase(4, 1, 9)
 }
 
 pub(crate) fn bid_stored(worker: u32, serial: u32) -> Reply {
@@ -43,21 +34,16 @@ impl Gate for Threaded {
 }
 
 // The run of such scripts over four shards, with up to eight hot objects and threshold 1.
-pub(crate) fn run_of<R: Threads + Wait + Sync, G: Gate + Sync>(
+pub(crate) fn run_of<R: Threads + Wait + Sync + Abort, G: Gate + Sync>(
     rt: &R,
     alloc: Global,
     scripts: &[&[Request]],
-    joined_quota: u32,
-    split_quota: u32,
+    policy: Policy,
     gate: &G,
-) -> Result<Outcome, Fail> {
-    let own = own_scripts(alloc, scripts)?;
-    let policy = policy_of(joined_quota, split_quota);
+) -> Outcome {
+    let own = own_scripts(alloc, scripts).expect(rt, "memory");
     let book = OpeningBook::empty(OPENING);
-    match run(rt, alloc, &book, own, policy, gate) {
-        Ok(outcome) => Ok(outcome),
-        Err(fault) => Err(Fail::new(fault)),
-    }
+    run(rt, alloc, &book, own, policy, gate).expect(rt, "a run")
 }
 
 /// Scripts that a run may keep.
@@ -72,6 +58,21 @@ pub(crate) fn own_scripts(
     Ok(own)
 }
 
+/// So many scripts of so many views each.
+pub(crate) fn views_of(
+    rt: &impl Abort,
+    alloc: Global,
+    workers: usize,
+    views: usize,
+) -> Vec<Vec<Request>> {
+    let mut scripts = Vec::new(alloc);
+    for _worker in 0..workers {
+        let script = vec![in alloc; LOOK; views].expect(rt, "memory");
+        scripts.push(script).expect(rt, "memory");
+    }
+    scripts
+}
+
 /// Four shards, with up to eight hot objects and threshold 1.
 pub(crate) fn policy_of(joined_quota: u32, split_quota: u32) -> Policy {
     Policy {
@@ -83,18 +84,21 @@ pub(crate) fn policy_of(joined_quota: u32, split_quota: u32) -> Policy {
     }
 }
 
-/// The fault of a run that stopped.
-pub(crate) fn fault_of(stopped: &Stopped) -> RunFault {
-    match stopped {
-        Stopped::Refused(_state, fault) => *fault,
-        Stopped::Failed(fault) => *fault,
+/// In which phase a worker's request was performed, and what it was answered.
+pub(crate) fn answer_at(history: &History, worker: u32, index: u32) -> Option<(u64, Reply)> {
+    for entry in history.iter() {
+        let entry = entry.to_entry();
+        if entry.worker == worker && entry.index == index {
+            return Some((entry.phase, entry.reply));
+        }
     }
+    None
 }
 
-/// The state that a run which goes on from it gives back for a fault.
-pub(crate) fn given_back(stopped: Stopped) -> Option<(Joined, RunFault)> {
-    match stopped {
-        Stopped::Refused(state, fault) => Some((state, fault)),
-        Stopped::Failed(_fault) => None,
+/// The state that a run which was refused gives back, and its fault.
+pub(crate) fn given_back(rt: &impl Abort, answer: Result<Outcome, Stopped>) -> (Joined, RunFault) {
+    match answer {
+        Err(Stopped::Refused(state, fault)) => (state, fault),
+        _ => panic!(rt; "nothing was refused"),
     }
 }

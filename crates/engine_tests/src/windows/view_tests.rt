@@ -1,6 +1,6 @@
 //! What windows show before a phase is published, of one phase and of two, and of the rows that
 //! their auction was opened with.
-ghost use Rattle.std.specs.Prelude.{◌≡◌, ◌++◌, ◌∷◌, [], length, vec_len, IfOk, false};
+ghost use Rattle.std.specs.Prelude.{◌≡◌, ◌++◌, ◌∷◌, [], length, vec_len, false};
 ghost use Rattle.auction_rows.specs.History.{rows_of as stored_rows};
 ghost use Rattle.item_shards.specs.OpeningBooks.{opening_of, rows_of_book};
 ghost use Rattle.item_shards.specs.Serial.{CanFollow};
@@ -8,7 +8,7 @@ ghost use Rattle.auction_window.specs.Published.{book_of};
 
 use crate::comparing::assert_same;
 use crate::runs::testing::{own_scripts, policy_of};
-use crate::testing::{FIRST, OPENING, bid, item_seen, put_up, vases};
+use crate::testing::{FIRST, OPENING, VIEW, bid, item_seen, put_up, vases};
 use auction_rows::{BidId, BidRow, Entry, ItemRow, Refusal, Reply, Request, Row};
 use auction_run::{FreeGate, run};
 use auction_window::{PhaseLog, Publisher, Seen, Told, Window, WindowName, rows_of};
@@ -17,10 +17,7 @@ use std::alloc::Global;
 use std::marker::Brand;
 use std::process::Abort;
 use std::sync::Wait;
-use std::test::Fail;
 use std::thread::Threads;
-
-const VIEW: Request = Request::ViewItem { item: FIRST };
 
 const VIEW_OF_NOBODY: Request = Request::ViewUser { user: 10 };
 
@@ -42,8 +39,8 @@ const BID_ROW: Row = Row::Bid(BidRow {
     time: 7,
 });
 
-// Asserts that a view shows this, of so many phases.
-fn assert_seen<J: WindowName>(
+/// Asserts that a view shows this, of so many phases.
+pub(crate) fn assert_seen<J: WindowName>(
     rt: &impl Abort,
     window: &mut Window<J>,
     view: Request,
@@ -51,7 +48,7 @@ fn assert_seen<J: WindowName>(
     reply: Reply,
 ) {
     let seen = window.view(view).ok();
-    assert_same(rt, &seen, &Some(Some(Seen { phases, reply })));
+    assert_same(rt, seen, Some(Some(Seen { phases, reply })));
 }
 
 // Asserts that a window on an auction in which nothing is published shows no item, and answers no
@@ -59,7 +56,7 @@ fn assert_seen<J: WindowName>(
 fn assert_empty<J: WindowName>(rt: &impl Abort, window: &mut Window<J>) {
     assert_seen(rt, window, VIEW, 0, NO_ITEM);
     let stored = window.view(bid(1, 20, 5)).ok();
-    assert_same(rt, &stored, &Some(None));
+    assert_same(rt, stored, Some(None));
 }
 
 // Whether a window shows no phase, and no item.
@@ -87,19 +84,19 @@ fn publish<J: WindowName, R: Wait + Abort>(
     publisher: &mut Publisher<J>,
     commit: &[Entry],
     row: Row,
-) -> Result<Told<J>, Fail>
+) -> Told<J>
     requires { CanFollow J.opening (book_of J.rows publisher.old.phases) (stored_rows commit.now) }
-    ensures { IfOk result (λ _. publisher.new ≡ record {
+    ensures { publisher.new ≡ record {
       phases = publisher.old.phases ++ stored_rows commit.now ∷ [];
       failed = false;
-    }) }
+    } }
 {
-    let rows = rows_of(alloc, commit)?;
-    assert_same(rt, &rows.as_slice(), &[row].as_slice());
-    match publisher.publish(rt, rows) {
-        Ok(told) => Ok(told),
-        Err(refused) => Err(Fail::new(refused)),
-    }
+    let rows = rows_of(alloc, commit).expect(rt, "memory");
+    assert_same(rt, rows.as_slice(), [row].as_slice());
+    let Ok(told) = publisher.publish(rt, rows) else {
+        panic!(rt; "the rows are refused");
+    };
+    told
 }
 
 // Publishes the row of the vase, tells one of two windows of it, and then publishes that of the bid
@@ -110,7 +107,7 @@ fn show_two_phases<J: WindowName, R: Wait + Abort>(
     publisher: &mut Publisher<J>,
     mut windows: Vec<Window<J>>,
     commits: &[Entry],
-) -> Result<(), Fail>
+)
     requires nothing { publisher.old ≡ record { phases = []; failed = false } }
     requires empty { J.rows ≡ [] }
     requires two { length commits.now ≡ 2 }
@@ -118,7 +115,7 @@ fn show_two_phases<J: WindowName, R: Wait + Abort>(
     requires windows { vec_len windows ≡ 2 }
 {
     let (first, last) = commits.split_at(1);
-    let facts = vases(1)?;
+    let facts = vases(rt, 1);
     let mut one = windows.remove(0);
     let mut other = windows.remove(0);
     assert_empty(rt, &mut one);
@@ -128,17 +125,16 @@ fn show_two_phases<J: WindowName, R: Wait + Abort>(
         facts,
         time: 1,
     });
-    let told = publish(rt, alloc, publisher, first, row)?;
+    let told = publish(rt, alloc, publisher, first, row);
     one.learn(told);
     let item = item_seen(&facts, None, 0, 1);
     assert_seen(rt, &mut one, VIEW, 1, item);
     assert_onward(rt, &mut other, &item);
-    let told = publish(rt, alloc, publisher, last, BID_ROW)?;
+    let told = publish(rt, alloc, publisher, last, BID_ROW);
     one.learn(told);
     let with_bid = item_seen(&facts, Some((50, 1)), 1, 1);
     assert_seen(rt, &mut one, VIEW, 2, with_bid);
     assert_seen(rt, &mut one, VIEW_OF_NOBODY, 2, NO_USER);
-    Ok(())
 }
 
 // The same with a publisher of its own.
@@ -147,7 +143,7 @@ fn show_commits<J: WindowName, R: Wait + Abort>(
     alloc: Global,
     log: PhaseLog,
     commits: &[Entry],
-) -> Result<(), Fail>
+)
     requires log { log ≡ J.log }
     requires empty { J.rows ≡ [] }
     requires opening { J.opening ≡ record { users = 10; categories = 2 } }
@@ -155,50 +151,49 @@ fn show_commits<J: WindowName, R: Wait + Abort>(
     requires rows { CanFollow J.opening [] (stored_rows commits.now) }
 {
     let empty = OpeningBook::empty(OPENING);
-    match Publisher::<J>::new(rt, alloc, log, &empty, 2) {
-        Ok((mut publisher, windows)) => {
-            let shown = show_two_phases(rt, alloc, &mut publisher, windows, commits);
-            publisher.end(rt);
-            shown
-        }
-        Err(fault) => Err(Fail::new(fault)),
-    }
+    let Ok((mut publisher, windows)) = Publisher::<J>::new(rt, alloc, log, &empty, 2) else {
+        panic!(rt; "no publisher");
+    };
+    show_two_phases(rt, alloc, &mut publisher, windows, commits);
+    publisher.end(rt);
 }
 
 // The commits of a run of one worker, who puts up a vase and bids on it.
-fn two_commits<R: Threads + Wait + Sync>(rt: &R, alloc: Global) -> Result<Vec<Entry>, Fail>
-    ensures two { IfOk result (λ commits. vec_len commits ≡ 2) }
-    ensures rows { IfOk result (λ commits.
-        CanFollow (record { users = 10; categories = 2 }) [] (stored_rows commits.items)) }
+fn two_commits<R: Threads + Wait + Sync + Abort>(rt: &R, alloc: Global) -> Vec<Entry>
+    ensures two { vec_len result ≡ 2 }
+    ensures rows { CanFollow (record { users = 10; categories = 2 }) [] (stored_rows result.items) }
 {
-    let scripts = own_scripts(alloc, &[&[put_up(vases(1)?), bid(1, 50, 7)]])?;
+    let script = [put_up(vases(rt, 1)), bid(1, 50, 7)];
+    let scripts = own_scripts(alloc, &[&script]).expect(rt, "memory");
     let book = OpeningBook::empty(OPENING);
-    let outcome = run(rt, alloc, &book, scripts, policy_of(64, 64), &FreeGate)?;
-    let commits = outcome.history.to_entries(alloc)?;
+    let Ok(outcome) = run(rt, alloc, &book, scripts, policy_of(64, 64), &FreeGate) else {
+        panic!(rt; "the run has stopped");
+    };
+    let commits = outcome.history.to_entries(alloc).expect(rt, "memory");
     if commits.len() != 2 {
-        return Err(Fail::new("not two commits"));
+        panic!(rt; "not two commits");
     }
-    Ok(commits)
+    commits
 }
 
 #[test]
-fn windows_show_whole_phases_and_never_go_back(rt: HostRuntime) -> Result<(), Fail> {
-    let commits = two_commits(&rt, rt.alloc())?;
-    show_commits::<Brand, HostRuntime>(&rt, rt.alloc(), PhaseLog::new(), &commits)
+fn windows_show_whole_phases_and_never_go_back(rt: HostRuntime) {
+    let commits = two_commits(&rt, rt.alloc());
+    show_commits::<Brand, HostRuntime>(&rt, rt.alloc(), PhaseLog::new(), &commits);
 }
 
 // The book of two vases, and of a bid of 20 on them.
-fn vases_and_bid(alloc: Global) -> Result<OpeningBook, Fail> {
+fn vases_and_bid(rt: &impl Abort, alloc: Global) -> OpeningBook {
     let vases = Opened {
         worker: 0,
-        request: put_up(vases(2)?),
+        request: put_up(vases(rt, 2)),
     };
     let bid = Opened {
         worker: 0,
         request: bid(1, 20, 5),
     };
-    let opened = Vec::from_array(alloc, [vases, bid])?;
-    Ok(OpeningBook::new(alloc, OPENING, opened)?)
+    let opened = vec![in alloc; vases, bid].expect(rt, "memory");
+    OpeningBook::new(alloc, OPENING, opened).expect(rt, "a book")
 }
 
 // Asserts what the window of an auction shows that was opened with this book, before anything is
@@ -208,26 +203,23 @@ fn show_opening<J: WindowName, R: Wait + Abort>(
     alloc: Global,
     log: PhaseLog,
     book: &OpeningBook,
-) -> Result<(), Fail>
+)
     requires log { log ≡ J.log }
     requires opening { opening_of book.now ≡ J.opening }
     requires rows { rows_of_book book.now ≡ J.rows }
 {
-    let item = item_seen(&vases(2)?, Some((20, 1)), 1, 2);
-    match Publisher::<J>::new(rt, alloc, log, book, 1) {
-        Ok((publisher, mut windows)) => {
-            for window in &mut windows {
-                assert_seen(rt, window, VIEW, 0, item);
-            }
-            publisher.end(rt);
-            Ok(())
-        }
-        Err(fault) => Err(Fail::new(fault)),
+    let item = &item_seen(&vases(rt, 2), Some((20, 1)), 1, 2);
+    let Ok((publisher, mut windows)) = Publisher::<J>::new(rt, alloc, log, book, 1) else {
+        panic!(rt; "no publisher");
+    };
+    for window in &mut windows {
+        assert_seen(rt, window, VIEW, 0, *item);
     }
+    publisher.end(rt);
 }
 
 #[test]
-fn a_window_shows_the_opening_rows_before_any_publish(rt: HostRuntime) -> Result<(), Fail> {
-    let book = vases_and_bid(rt.alloc())?;
-    show_opening::<Brand, HostRuntime>(&rt, rt.alloc(), PhaseLog::new(), &book)
+fn a_window_shows_the_opening_rows_before_any_publish(rt: HostRuntime) {
+    let book = vases_and_bid(&rt, rt.alloc());
+    show_opening::<Brand, HostRuntime>(&rt, rt.alloc(), PhaseLog::new(), &book);
 }

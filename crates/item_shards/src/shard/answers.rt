@@ -1,6 +1,6 @@
 //! The items of a shard, and the bids and purchases, which the shard of their item answers.
-ghost use Rattle.std.specs.Prelude.{◌≡◌, ◌+◌, ◌<◌, ◌^◌, IfSome, OnOk, OnErr};
-ghost use Rattle.item_shards.specs.Answering.{refusal_with, stock_needed, HasItemOf};
+ghost use Rattle.std.specs.Prelude.{◌≡◌, ◌+◌, ◌<◌, ◌^◌, IfSome, IfNone, OnOk, OnErr};
+ghost use Rattle.item_shards.specs.Answering.{bid_request, refusal_with, stock_needed, HasItemOf};
 
 use crate::shard::Shard;
 use crate::shard::records::ItemRecord;
@@ -98,6 +98,37 @@ impl Shard {
             Some(item) => refusal_with(&self.stock(item), request),
             None => None,
         }
+    }
+
+    /// Bids on an item by one look-up, unless the item refuses the bid: then it gives the first reason.
+    #[inline(always)]
+    pub fn try_bid(&mut self, item: ItemId, bid: BidEntry) -> Option<Refusal>
+        requires here { LiesIn self.old (Item item) }
+        requires count { (contents self.old (Item item)).bids.bids + 1 < 2 ^ 64 }
+        ensures by { result
+            ≡ refusal_with (stock (contents self.old (Item item))) (bid_request item bid) }
+        ensures refused { IfSome result (λ _. contents self.new ≡ contents self.old) }
+        ensures stored { IfNone result (HasChanged self.old self.new (Item item) (bid_on bid)) }
+        ensures clock { clock self.new ≡ clock self.old }
+        ensures rooms { rooms self.new ≡ rooms self.old }
+        ensures same { IsSameShard self.old self.new }
+    {
+        let Some((place, record)) = self.find(item) else {
+            return Some(Refusal::NoSuchItem);
+        };
+        let request = Request::StoreBid {
+            bidder: bid.bidder,
+            item,
+            amount: bid.amount,
+            time: bid.time,
+        };
+        if let Some(reason) = refusal_with(&record.stock(), &request) {
+            return Some(reason);
+        }
+        if let Some(found) = self.parts.items.get_index_mut(place) {
+            found.bid(bid);
+        }
+        None
     }
 
     pub(crate) fn add_item(&mut self, item: ItemId, facts: Facts)

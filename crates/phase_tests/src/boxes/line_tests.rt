@@ -1,5 +1,5 @@
 //! A caller that takes a shard, acts on it, and puts it back with a line that it makes itself.
-ghost use Rattle.std.specs.Prelude.{◌≡◌, ◌<◌, ◌≤◌, length, map};
+ghost use Rattle.std.specs.Prelude.{◌≡◌, ◌<◌, ◌≤◌, length, map, slice_get, IfSome};
 ghost use Rattle.auction_rows.specs.declared.requests.Object.TheVariants.{Category};
 ghost use Rattle.item_shards.specs.CommitNumbers.{last_number};
 ghost use Rattle.item_shards.specs.ShardContents.{clock, opening, LiesIn};
@@ -8,7 +8,7 @@ ghost use Rattle.shard_boxes.specs.States.{state_of, AreInitial};
 ghost use Rattle.phase_permits.specs.Performing.{HaveOpening};
 
 use crate::comparing::assert_same;
-use crate::permits::closing::{clocks_of, close_one};
+use crate::permits::closing::{assert_clocks, close_one};
 use crate::permits::testing::{boxes_of_one, four};
 use crate::testing::{FIRST, room_for};
 use auction_rows::{ItemEntry, ItemShown, MOST_SHOWN, Reply, Ten};
@@ -46,19 +46,22 @@ fn list(shard: &mut Shard, number: u64) -> Line
     }
 }
 
-// What the first category shows in its shard.
-fn category_seen(shard: &Shard) -> Reply
-    requires { LiesIn shard.now (Category 0) }
-{
-    shard.view_category(0)
-}
-
 // A view that shows the item that was listed.
 fn listed(rt: &impl Abort) -> Reply {
     let mut items = Ten::new();
     assert!(rt; items.len() < MOST_SHOWN);
     items.push(ItemShown { time: 1, id: FIRST });
     Reply::CategorySeen(items)
+}
+
+// Asserts that the first shard shows it.
+fn assert_listed(rt: &impl Abort, shards: &[Shard])
+    requires { IfSome (slice_get shards.now 0) (λ shard. LiesIn shard (Category 0)) }
+{
+    let Some(shard) = shards.first() else {
+        panic!(rt; "no shard");
+    };
+    assert_same(rt, shard.view_category(0), listed(rt));
 }
 
 // One shard of four is taken, and has the line as it is put.
@@ -75,25 +78,22 @@ fn put_by_hand<N: PhaseName, R: Wait + Abort>(
 {
     let room = room_for(rt, alloc, 1);
     let (boxes, mut key) = boxes_of_one::<N, R>(rt, alloc, shards)?;
-    assert_same(rt, &[boxes.shards(), key.shards()], &[4, 4]);
+    assert_same(rt, [boxes.shards(), key.shards()], [4, 4]);
     let mut held = boxes.take(rt, &mut key, 0);
     let clock = held.clock();
     assert!(rt; clock < LAST_NUMBER);
     let line = list(held.shard_mut(), clock + 1);
-    assert_same(rt, &[line.before, line.number], &[0, 1]);
+    assert_same(rt, [line.before, line.number], [0, 1]);
     boxes.put(rt, &mut key, held, Some(line));
     let shards = close_one(rt, boxes, key, room);
-    let Some(shard) = shards.first() else {
-        panic!(rt; "no shard");
-    };
-    assert_same(rt, &category_seen(shard), &listed(rt));
-    let clocks = [Some(1), Some(0), Some(0), Some(0)];
-    assert_same(rt, &clocks_of(&shards), &clocks);
+    assert_listed(rt, &shards);
+    assert_clocks(rt, &shards, [1, 0, 0, 0]);
     Ok(())
 }
 
 #[test]
-fn a_caller_makes_the_line_of_its_acts(rt: HostRuntime) -> Result<(), AllocError> {
-    let shards = four(rt.alloc())?;
-    put_by_hand::<Brand, HostRuntime>(&rt, rt.alloc(), shards)
+fn a_caller_makes_the_line_of_its_acts(rt: HostRuntime) {
+    let shards = four(rt.alloc()).expect(&rt, "memory");
+    let done = put_by_hand::<Brand, HostRuntime>(&rt, rt.alloc(), shards);
+    done.expect(&rt, "memory");
 }

@@ -4,12 +4,12 @@ ghost use Rattle.shard_boxes.specs.States.{state_of, AreInitial};
 ghost use Rattle.phase_permits.specs.Performing.{HaveOpening};
 ghost use Rattle.phase_permits.specs.Workers.{IsIdle};
 
-use crate::calls::printing::{look_for_memory, print_journal};
+use crate::calls::printing::{look_for_memory, print_count, print_journal};
 use crate::comparing::assert_same;
-use crate::permits::closing::{clocks_of, close_one, first_facts};
+use crate::permits::closing::{assert_clocks, close_one, first_facts};
 use crate::permits::joined::{joined_permit, perform};
 use crate::permits::testing::boxes_of_one;
-use crate::testing::{put_up, vase};
+use crate::testing::{put_up, vases};
 use auction_rows::{Facts, Reply, Request};
 use item_shards::Shard;
 use phase_permits::{JoinedPermit, PermitFault, Stash};
@@ -70,7 +70,7 @@ fn perform_twice<N: PhaseName, R: Wait + Print + Abort>(
     };
     let _ = println!(rt; "first store, {} left: {fault}", permit.left());
     let counts = (permit.left(), permit.stashed(), permit.tries());
-    assert_same(rt, &counts, &(2, 1, 1));
+    assert_same(rt, counts, (2, 1, 1));
     perform(rt, boxes, permit, store, 0)
 }
 
@@ -92,9 +92,8 @@ fn close_after<N: PhaseName, R: Wait + Abort>(
 {
     let shards = close_one(rt, boxes, key, room);
     let clock = u64::from(stored.is_some());
-    let clocks = [Some(clock), Some(0), Some(0), Some(0)];
-    assert_same(rt, &clocks_of(&shards), &clocks);
-    assert_same(rt, &first_facts(&shards), &stored);
+    assert_clocks(rt, &shards, [clock, 0, 0, 0]);
+    assert_same(rt, first_facts(&shards), stored);
 }
 
 /// The reply to a store of a vase, and how many commits there are.
@@ -109,15 +108,35 @@ pub(crate) fn store<N: PhaseName, R: Wait + Print + Abort>(
     requires users { HaveOpening N.initial (record { users = 10; categories = 2 }) }
     requires workers { 1 ≡ N.workers }
 {
-    let facts = vase(rt, 10);
-    let request = put_up(rt, 10);
     let room = Vec::with_capacity(alloc, 1)?;
     let stash = waiting(alloc)?;
-    let (boxes, mut permit) = permit_of_one::<N, R>(rt, alloc, shards, stash)?;
-    let _ = println!(rt; "first store permit: {} left", permit.left());
-    let answer = perform_twice(rt, &boxes, &mut permit, &request);
+    match permit_of_one::<N, R>(rt, alloc, shards, stash) {
+        Ok((boxes, permit)) => store_by(rt, boxes, permit, room),
+        Err(refused) => Err(Fail::from(refused)),
+    }
+}
+
+// The store by this permit, at the end of whose phase there is room for its key.
+fn store_by<N: PhaseName, R: Wait + Print + Abort>(
+    rt: &R,
+    boxes: Boxes<N>,
+    mut permit: JoinedPermit<N>,
+    room: Vec<Key<N>>,
+) -> Result<(Reply, usize), Fail>
+    requires one { 1 ≡ N.workers }
+    requires four { length N.initial ≡ 4 }
+    requires users { HaveOpening N.initial permit.opening }
+    requires of { permit.key.boxes ≡ boxes }
+    requires worker { permit.key.worker ≡ 0 }
+    requires empty { room.items ≡ [] }
+    requires room { 1 ≤ vec_capacity room }
+{
+    let store = put_up(vases(rt, 10, 1));
+    print_count(rt, "first store permit", permit.left() as usize, " left");
+    let answer = perform_twice(rt, &boxes, &mut permit, &store);
     let (journal, _slices, _stash, key, _counters) = permit.finish().parts();
-    close_after(rt, boxes, key, room, answer.is_ok().then_some(facts));
+    let facts = answer.is_ok().then_some(vases(rt, 10, 1));
+    close_after(rt, boxes, key, room, facts);
     stored(rt, answer, &journal)
 }
 
@@ -127,7 +146,10 @@ fn stored<R: Print>(
     answer: Result<Reply, PermitFault>,
     journal: &Journal,
 ) -> Result<(Reply, usize), Fail> {
-    let reply = answer.map_err(Fail::new)?;
+    let reply = match answer {
+        Ok(reply) => reply,
+        Err(fault) => return Err(Fail::new(fault)),
+    };
     let _ = println!(rt; "first store, 2 left: {reply:?}");
     print_journal(rt, journal);
     Ok((reply, journal.len()))
@@ -146,10 +168,25 @@ pub(crate) fn view<N: PhaseName, R: Wait + Print + Abort>(
     requires workers { 1 ≡ N.workers }
 {
     let stash = Stash::with_room(alloc, 0)?;
-    let (boxes, mut permit) = permit_of_one::<N, R>(rt, alloc, shards, stash)?;
-    let _ = println!(rt; "first view permit: {} left", permit.left());
+    match permit_of_one::<N, R>(rt, alloc, shards, stash) {
+        Ok((boxes, permit)) => view_by(rt, alloc, &boxes, permit),
+        Err(refused) => Err(Fail::from(refused)),
+    }
+}
+
+// The view by this permit.
+fn view_by<N: PhaseName, R: Wait + Print + Abort>(
+    rt: &R,
+    alloc: Global,
+    boxes: &Boxes<N>,
+    mut permit: JoinedPermit<N>,
+) -> Result<(Reply, usize), Fail>
+    requires of { permit.key.boxes ≡ boxes.now }
+    requires users { HaveOpening N.initial permit.opening }
+{
+    print_count(rt, "first view permit", permit.left() as usize, " left");
     look_for_memory(rt, alloc);
-    let answer = perform(rt, &boxes, &mut permit, &Request::ViewUser { user: 10 }, 0);
+    let answer = perform(rt, boxes, &mut permit, &Request::ViewUser { user: 10 }, 0);
     let (journal, _slices, _stash, _key, _counters) = permit.finish().parts();
     viewed(rt, alloc, answer, &journal)
 }
@@ -161,7 +198,10 @@ fn viewed<R: Print>(
     answer: Result<Reply, PermitFault>,
     journal: &Journal,
 ) -> Result<(Reply, usize), Fail> {
-    let reply = answer.map_err(Fail::new)?;
+    let reply = match answer {
+        Ok(reply) => reply,
+        Err(fault) => return Err(Fail::new(fault)),
+    };
     let _ = println!(rt; "first view: {reply:?}");
     look_for_memory(rt, alloc);
     print_journal(rt, journal);

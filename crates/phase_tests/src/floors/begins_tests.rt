@@ -1,11 +1,11 @@
 //! What begins, and what is too long or unknown.
-ghost use Rattle.std.specs.Prelude.{◌≡◌, ◌<◌, ◌≤◌, ◌↔◌, All, IsTrue, length, vec_len, IfOk};
+ghost use Rattle.std.specs.Prelude.{◌≡◌, ◌<◌, ◌≤◌, ◌↔◌, All, IsTrue, length, vec_len};
 ghost use Rattle.auction_rows.specs.Book.{worker_of};
 
 use crate::comparing::assert_same;
 use crate::floors::begins::{begin_joined, begin_split};
 use crate::floors::joined::joined_phase;
-use crate::testing::{OPENING, only_hot, put_up};
+use crate::testing::{OPENING, only_hot, put_up, vases};
 use auction_rows::{ItemId, Object, Request, Row};
 use indexmap::IndexSet;
 use item_shards::{Opened, OpeningBook};
@@ -15,7 +15,6 @@ use std::alloc::Global;
 use std::marker::Brand;
 use std::process::Abort;
 use std::sync::Wait;
-use std::test::Fail;
 use worker_journals::History;
 
 const EIGHTH: ItemId = ItemId {
@@ -55,8 +54,8 @@ fn refuses_joined<R: Wait + Abort>(
     let stashes = nothing_waits(rt, alloc);
     let begun = begin_joined::<Brand, R>(rt, alloc, state, quota, stashes);
     let (state, stashes, fault) = begun.expect_err(rt, "too long");
-    assert_same(rt, &fault, &BeginFault::TooLong);
-    assert_same(rt, &stashes.len(), &1);
+    assert_same(rt, fault, BeginFault::TooLong);
+    assert_same(rt, stashes.len(), 1);
     (state, stashes)
 }
 
@@ -67,7 +66,7 @@ fn begins_joined<R: Wait + Abort>(rt: &R, alloc: Global, state: Joined, too_long
 {
     let (state, stashes) = refuses_joined(rt, alloc, state, too_long);
     let begun = begin_joined::<Brand, R>(rt, alloc, state, most, stashes);
-    assert_same(rt, &begun.ok(), &Some(most));
+    assert_same(rt, begun.ok(), Some(most));
 }
 
 // A split phase whose hot object is unknown, then one that is too long, and one that is neither.
@@ -83,12 +82,12 @@ fn begins_split<R: Wait + Abort>(
 {
     let begun = begin_split::<Brand, R>(rt, alloc, state, 1_000_001, unknown);
     let (state, fault) = begun.expect_err(rt, "an unknown hot object");
-    assert_same(rt, &fault, &BeginFault::UnknownHot);
+    assert_same(rt, fault, BeginFault::UnknownHot);
     let begun = begin_split::<Brand, R>(rt, alloc, state, 1_000_001, known);
     let (state, fault) = begun.expect_err(rt, "too long");
-    assert_same(rt, &fault, &BeginFault::TooLong);
+    assert_same(rt, fault, BeginFault::TooLong);
     let begun = begin_split::<Brand, R>(rt, alloc, state, 1_000_000, known);
-    assert_same(rt, &begun.ok(), &Some(1_000_000));
+    assert_same(rt, begun.ok(), Some(1_000_000));
 }
 
 // An auction of one worker in which nothing is stored.
@@ -106,33 +105,31 @@ fn a_million_requests_are_not_too_many(rt: HostRuntime) {
 }
 
 // An auction with three rows of its worker.
-fn of_three_rows<R: Abort>(rt: &R, alloc: Global) -> Result<Joined, Fail>
-    ensures one { IfOk result (λ state. length state.counters ≡ 1) }
-    ensures phase { IfOk result (λ state. state.phase ≡ 0) }
+fn of_three_rows(rt: &impl Abort, alloc: Global) -> Joined
+    ensures one { length result.counters ≡ 1 }
+    ensures phase { result.phase ≡ 0 }
 {
     let row = Opened {
         worker: 0,
-        request: put_up(rt, 10),
+        request: put_up(vases(rt, 10, 1)),
     };
-    let rows = vec![in alloc; row, row, row]?;
-    let book = OpeningBook::new(alloc, OPENING, rows).map_err(Fail::new)?;
+    let rows = vec![in alloc; row; 3].expect(rt, "memory");
+    let book = OpeningBook::new(alloc, OPENING, rows).expect(rt, "a book");
     assert!(rt; are_of_the_first(book.rows()));
-    Ok(Joined::resume(alloc, &book, 1, 4)?)
+    Joined::resume(alloc, &book, 1, 4).expect(rt, "memory")
 }
 
 #[test]
-fn rows_count_as_requests(rt: HostRuntime) -> Result<(), Fail> {
-    let state = of_three_rows(&rt, rt.alloc())?;
+fn rows_count_as_requests(rt: HostRuntime) {
+    let state = of_three_rows(&rt, rt.alloc());
     begins_joined(&rt, rt.alloc(), state, 999_998, 999_997);
-    Ok(())
 }
 
 // A quota is one too great for three rows and 2^31 commits, and one is more than a million.
 #[test]
-fn a_lasting_auction_begins_past_a_million(rt: HostRuntime) -> Result<(), Fail> {
-    let state = of_three_rows(&rt, rt.alloc())?.lasting();
+fn a_lasting_auction_begins_past_a_million(rt: HostRuntime) {
+    let state = of_three_rows(&rt, rt.alloc()).lasting();
     begins_joined(&rt, rt.alloc(), state, 2_147_483_646, 1_000_001);
-    Ok(())
 }
 
 // A look at a user is one of the requests of its run, and of no later run.

@@ -5,8 +5,8 @@ ghost use Rattle.phase_floor.specs.States.{states_of};
 use crate::comparing::assert_same;
 use crate::floors::joined::joined_phase;
 use crate::floors::split::{BIDS, bid_often};
-use crate::testing::{FIRST, VIEW, only_hot, put_up, room_for, vase};
-use auction_rows::{BidId, BidShown, MOST_SHOWN, Object, Opening, Reply, Request, Ten};
+use crate::testing::{FIRST, VIEW, item_seen, only_hot, put_up, room_for, vases};
+use auction_rows::{BidId, BidShown, Facts, MOST_SHOWN, Object, Opening, Reply, Request, Ten};
 use indexmap::IndexSet;
 use phase_floor::Joined;
 use phase_permits::Stash;
@@ -78,7 +78,7 @@ fn two_phases<R: Wait + Abort>(
 }
 
 // The ten greatest bids: the last of the last worker.
-fn last_bids<R: Abort>(rt: &R) -> Ten<BidShown> {
+fn last_bids(rt: &impl Abort) -> Ten<BidShown> {
     let mut bids = Ten::new();
     for serial in [999, 998, 997, 996, 995, 994, 993, 992, 991, 990] {
         assert!(rt; bids.len() < MOST_SHOWN);
@@ -92,27 +92,23 @@ fn last_bids<R: Abort>(rt: &R) -> Ten<BidShown> {
     bids
 }
 
+// Asserts what views show of the item and of its bids.
+fn assert_shown(rt: &impl Abort, state: &Joined, facts: &Facts) {
+    let seen = item_seen(facts, (5, 15), 16_000, 1);
+    assert_same(rt, state.view(&VIEW), Some(seen));
+    let bids = Reply::BidsSeen(last_bids(rt));
+    assert_same(rt, state.view(&VIEW_OF_BIDS), Some(bids));
+}
+
 #[test]
 fn sixteen_workers_bid_on_one_item(rt: HostRuntime) {
     let alloc = rt.alloc();
-    let store = put_up(&rt, 5);
+    let facts = vases(&rt, 5, 1);
+    let store = put_up(facts);
     let hot = only_hot(&rt, alloc, Object::Item(FIRST));
     let state = Joined::new(alloc, SIXTEEN, WORKERS, 4).expect(&rt, "memory");
     let mut history = History::new(alloc);
     let state = two_phases(&rt, alloc, state, &store, &hot, &mut history);
-    let seen = Reply::ItemSeen {
-        seller: 0,
-        category: 0,
-        name: vase(&rt, 5).name,
-        start: 5,
-        closes: 100,
-        highest: Some(5),
-        bidder: Some(15),
-        bids: 16_000,
-        left: 1,
-    };
-    let bids = Reply::BidsSeen(last_bids(&rt));
-    assert_same(&rt, &state.view(&VIEW), &Some(seen));
-    assert_same(&rt, &state.view(&VIEW_OF_BIDS), &Some(bids));
-    assert_same(&rt, &history.len(), &16_001);
+    assert_shown(&rt, &state, &facts);
+    assert_same(&rt, history.len(), 16_001);
 }

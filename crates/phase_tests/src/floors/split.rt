@@ -2,8 +2,8 @@
 ghost use Rattle.std.specs.Prelude.{◌≡◌, ◌≤◌, [], length, vec_capacity};
 ghost use Rattle.phase_floor.specs.Closings.{IsReceipt, AreReceiptsOf};
 
-use crate::testing::FIRST;
-use auction_rows::{MOST_TRIES, Request};
+use crate::testing::bid;
+use auction_rows::MOST_TRIES;
 use phase_floor::SplitFloor;
 use phase_permits::{SplitPermit, SplitReceipt};
 use shard_boxes::PhaseName;
@@ -14,7 +14,7 @@ use std::sync::Wait;
 pub(crate) const BIDS: u32 = 1000;
 
 // Makes a bid of 5 at 7 by the user of the worker's number.
-fn bid<N: PhaseName, R: Wait + Abort>(
+fn perform<N: PhaseName, R: Wait + Abort>(
     rt: &R,
     floor: &SplitFloor<N>,
     permit: &mut SplitPermit<N>,
@@ -24,12 +24,7 @@ fn bid<N: PhaseName, R: Wait + Abort>(
     requires { IsReceipt floor.now worker permit.old }
     ensures { IsReceipt floor.now worker permit.new }
 {
-    let request = Request::StoreBid {
-        bidder: worker,
-        item: FIRST,
-        amount: 5,
-        time: 7,
-    };
+    let request = bid(worker, 5, 7);
     assert!(rt; permit.left() > 0 && permit.tries() < MOST_TRIES);
     let answer = permit.perform(rt, floor.boxes(), &request, index);
     assert!(rt; answer.is_ok());
@@ -46,7 +41,7 @@ fn receipt<N: PhaseName, R: Wait + Abort>(
     ensures { IsReceipt floor.now worker result }
 {
     for index in 0..BIDS {
-        bid(rt, floor, &mut permit, worker, index);
+        perform(rt, floor, &mut permit, worker, index);
     }
     permit.finish()
 }

@@ -1,10 +1,11 @@
 //! Room that is refused, and the entries of several journals in one order.
-ghost use Rattle.std.specs.Prelude.{◌≡◌, ◌≤◌, IfOk, vec_len};
+ghost use Rattle.std.specs.Prelude.{◌≡◌, ◌≤◌, vec_len};
 ghost use Rattle.worker_journals.specs.Merged.{AreByWorker};
 
 use crate::comparing::assert_same;
 use auction_rows::{Entry, Refusal, Reply, Request};
-use std::alloc::{AllocError, Global};
+use std::alloc::Global;
+use std::process::Abort;
 use worker_journals::{History, Journal, merge_journals};
 
 fn is_refused(alloc: Global, room: usize) -> bool {
@@ -18,7 +19,7 @@ fn room_for_more_than_memory_is_refused(rt: HostRuntime) {
         is_refused(alloc, usize::MAX),
         is_refused(alloc, usize::MAX / 10),
     ];
-    assert_same(&rt, &refused, &[true; 2]);
+    assert_same(&rt, refused, [true; 2]);
 }
 
 // A worker's commit of phase 7.
@@ -34,24 +35,24 @@ fn entry(worker: u32, number: u64) -> Entry {
 }
 
 // The journal of that commit.
-fn journal_of(alloc: Global, worker: u32, number: u64) -> Result<Journal, AllocError>
-    ensures { IfOk result (λ journal. journal.worker ≡ worker) }
+fn journal_of(rt: &impl Abort, alloc: Global, worker: u32, number: u64) -> Journal
+    ensures { result.worker ≡ worker }
 {
-    let mut journal = Journal::with_room(alloc, 7, worker, 1)?;
+    let mut journal = Journal::with_room(alloc, 7, worker, 1).expect(rt, "memory");
     let request = Request::ViewUser { user: worker };
     journal.push(number, 5, request, Reply::Refused(Refusal::NoSuchUser));
-    Ok(journal)
+    journal
 }
 
 // The journals of three workers, of which the first has the greatest number.
-fn journals(alloc: Global) -> Result<Vec<Journal>, AllocError>
-    ensures by_worker { IfOk result (λ journals. AreByWorker journals.items) }
-    ensures few { IfOk result (λ journals. vec_len journals ≤ 3) }
+fn journals(rt: &impl Abort, alloc: Global) -> Vec<Journal>
+    ensures by_worker { AreByWorker result.items }
+    ensures few { vec_len result ≤ 3 }
 {
-    let first = journal_of(alloc, 0, 9)?;
-    let second = journal_of(alloc, 1, 4)?;
-    let third = journal_of(alloc, 2, 4)?;
-    Ok(vec![in alloc; first, second, third]?)
+    let first = journal_of(rt, alloc, 0, 9);
+    let second = journal_of(rt, alloc, 1, 4);
+    let third = journal_of(rt, alloc, 2, 4);
+    vec![in alloc; first, second, third].expect(rt, "memory")
 }
 
 // Whether these are their entries, by number and then worker.
@@ -60,26 +61,28 @@ fn are_in_order(entries: &[Entry]) -> bool {
 }
 
 #[test]
-fn journals_are_merged_by_number_and_then_worker(rt: HostRuntime) -> Result<(), AllocError> {
+fn journals_are_merged_by_number_and_then_worker(rt: HostRuntime) {
     let alloc = rt.alloc();
-    let merged = merge_journals(alloc, journals(alloc)?)?;
-    assert_same(&rt, &are_in_order(&merged), &true);
+    let merged = merge_journals(alloc, journals(&rt, alloc)).expect(&rt, "memory");
+    assert_same(&rt, are_in_order(&merged), true);
     let mut history = History::new(alloc);
-    history.add_phase(journals(alloc)?)?;
-    assert_same(&rt, &are_in_order(&history.to_entries(alloc)?), &true);
+    history
+        .add_phase(journals(&rt, alloc))
+        .expect(&rt, "memory");
+    let entries = history.to_entries(alloc).expect(&rt, "memory");
+    assert_same(&rt, are_in_order(&entries), true);
     let mut last = 0;
     for entry in &history {
         last = entry.number();
     }
-    assert_same(&rt, &last, &9);
-    Ok(())
+    assert_same(&rt, last, 9);
 }
 
 #[test]
 fn a_journal_gives_its_entries(rt: HostRuntime) {
-    let journal = journal_of(rt.alloc(), 2, 4).expect(&rt, "memory");
+    let journal = journal_of(&rt, rt.alloc(), 2, 4);
     let mut entries = journal.entries();
     let first = entries.next().expect(&rt, "an entry").to_entry();
-    assert_same(&rt, &first, &entry(2, 4));
-    assert_same(&rt, &entries.next().is_none(), &true);
+    assert!(rt; first == entry(2, 4));
+    assert_same(&rt, entries.next().is_none(), true);
 }

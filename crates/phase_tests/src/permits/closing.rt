@@ -6,11 +6,13 @@ ghost use Rattle.shard_boxes.specs.States.{state_of};
 ghost use Rattle.shard_boxes.specs.Closed.{AreClosed};
 ghost use Rattle.phase_permits.specs.Workers.{IsIdle};
 
+use crate::comparing::assert_same;
 use crate::testing::FIRST;
 use auction_rows::Facts;
 use item_shards::Shard;
 use shard_boxes::{Boxes, Key, PhaseName};
 use std::alloc::{AllocError, Global};
+use std::process::Abort;
 use std::sync::Wait;
 
 /// Ends the phase of one worker: its shards. It takes no memory but this room for the key.
@@ -49,9 +51,13 @@ pub(crate) fn close_two<N: PhaseName, R: Wait>(
     Ok(boxes.close(rt, keys))
 }
 
-/// The clocks of four shards.
-pub(crate) fn clocks_of(shards: &[Shard]) -> [Option<u64>; 4] {
-    [0, 1, 2, 3].map(|s| Some(shards.get(s)?.clock()))
+/// Asserts that these are four shards with these clocks.
+pub(crate) fn assert_clocks(rt: &impl Abort, shards: &[Shard], clocks: [u64; 4]) {
+    let [first, second, third, fourth] = shards else {
+        panic!(rt; "not four shards");
+    };
+    let found = [first.clock(), second.clock(), third.clock(), fourth.clock()];
+    assert_same(rt, found, clocks);
 }
 
 /// What is fixed of the first item, where the first shard has it.

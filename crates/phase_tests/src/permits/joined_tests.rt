@@ -33,8 +33,8 @@ fn views_at_the_end<N: PhaseName, R: Wait + Abort>(rt: &R, alloc: Global, shards
     let mut permit = joined_permit(alloc, key, stash, u64::MAX).expect(rt, "memory");
     let known = perform(rt, &boxes, &mut permit, &Request::ViewUser { user: 0 }, 0);
     let unknown = perform(rt, &boxes, &mut permit, &Request::ViewUser { user: 10 }, 0);
-    assert_same(rt, &[known, unknown], &[Err(PermitFault::NumberFull); 2]);
-    assert_same(rt, &permit.left(), &2);
+    assert_same(rt, [known, unknown], [Err(PermitFault::NumberFull); 2]);
+    assert_same(rt, permit.left(), 2);
     drop(permit.finish());
 }
 
@@ -52,8 +52,8 @@ fn one_waits<N: PhaseName, R: Wait + Abort>(rt: &R, alloc: Global, shards: Vec<S
     let mut permit = joined_permit(alloc, key, stash, 0).expect(rt, "memory");
     let answer = perform_stashed(rt, &boxes, &mut permit);
     let none_waits = perform_stashed(rt, &boxes, &mut permit);
-    assert_same(rt, &[answer, none_waits], &[Ok(Some(SEEN)), Ok(None)]);
-    assert_same(rt, &permit.stashed(), &0);
+    assert_same(rt, [answer, none_waits], [Ok(Some(SEEN)), Ok(None)]);
+    assert_same(rt, permit.stashed(), 0);
     drop(permit.finish());
 }
 

@@ -5,13 +5,13 @@ ghost use Rattle.phase_permits.specs.Performing.{HaveOpening};
 ghost use Rattle.phase_permits.specs.Workers.{IsUnused};
 
 use crate::comparing::assert_same;
-use crate::permits::closing::{clocks_of, close_one};
+use crate::permits::closing::{assert_clocks, close_one};
 use crate::permits::split::{bid, comment, perform, split_permit};
-use crate::permits::testing::{boxes_of_one, four};
-use crate::testing::{FIRST, VIEW, room_for, vase};
+use crate::permits::testing::{boxes_of_one, four, push_numbers};
+use crate::testing::{FIRST, VIEW, room_for, vases};
 use auction_rows::{BidId, CommentId, Object, Refusal, Reply, Stars};
 use item_shards::Shard;
-use phase_permits::{Done, SplitPermit};
+use phase_permits::{Done, Slices, SplitPermit, Stash};
 use shard_boxes::{Boxes, Key, PhaseName};
 use std::alloc::Global;
 use std::marker::Brand;
@@ -23,14 +23,6 @@ const FIRST_BID: Reply = Reply::BidStored(BidId {
     worker: 0,
     serial: 0,
 });
-
-fn numbers_of(rt: &impl Abort, alloc: Global, journal: &Journal) -> Vec<u64> {
-    let mut numbers = Vec::new(alloc);
-    for entry in journal.entries() {
-        numbers.push(entry.number()).expect(rt, "memory");
-    }
-    numbers
-}
 
 // Bids on a hot item, and a view of it, which waits: the key is as it was.
 fn bid_and_view<N: PhaseName, R: Wait + Abort>(
@@ -47,10 +39,10 @@ fn bid_and_view<N: PhaseName, R: Wait + Abort>(
     let stored = bid(rt, permit, 10, 99, 2);
     let view = perform(rt, boxes, permit, &VIEW, 3);
     assert!(rt; matches!(view, Ok(Done::Stashed)));
-    assert_same(rt, &below, &Some(Reply::Refused(Refusal::BelowStart)));
-    assert_same(rt, &late, &Some(Reply::Refused(Refusal::Closed)));
-    assert_same(rt, &stored, &Some(FIRST_BID));
-    assert_same(rt, &permit.left(), &0);
+    assert_same(rt, below, Some(Reply::Refused(Refusal::BelowStart)));
+    assert_same(rt, late, Some(Reply::Refused(Refusal::Closed)));
+    assert_same(rt, stored, Some(FIRST_BID));
+    assert_same(rt, permit.left(), 0);
 }
 
 // Ends a phase in which no line was put: the lists of the key are empty.
@@ -68,7 +60,7 @@ fn close_unused<N: PhaseName, R: Wait + Abort>(
     requires room { 1 ≤ vec_capacity room }
 {
     let shards = close_one(rt, boxes, key, room);
-    assert_same(rt, &clocks_of(&shards), &[Some(0); 4]);
+    assert_clocks(rt, &shards, [0; 4]);
 }
 
 // What the bids and the view leave.
@@ -81,17 +73,29 @@ fn bids_on_a_hot_item<N: PhaseName, R: Wait + Abort>(rt: &R, alloc: Global, shar
 {
     let (boxes, key) = boxes_of_one::<N, R>(rt, alloc, shards).expect(rt, "memory");
     let room = room_for(rt, alloc, 1);
-    let hot = [(Object::Item(FIRST), Some((vase(rt, 10), 1)))];
+    let hot = [(Object::Item(FIRST), Some((vases(rt, 10, 1), 1)))];
     let mut permit = split_permit(rt, alloc, key, &hot, 0);
     bid_and_view(rt, &boxes, &mut permit);
-    let (journal, mut slices, stash, key, _counters) = permit.finish().parts();
+    let (journal, slices, stash, key, _counters) = permit.finish().parts();
     close_unused(rt, boxes, key, room);
-    let numbers = numbers_of(rt, alloc, &journal);
-    assert_same(rt, &numbers.as_slice(), &[1, 2, 3].as_slice());
-    assert_same(rt, &(stash.len(), stash.get(0)), &(1, Some((3, VIEW))));
+    assert_left(rt, alloc, &journal, &stash, slices);
+}
+
+// Asserts the numbers of the commits, that the view waits, and that there is one slice, of the item.
+fn assert_left(
+    rt: &impl Abort,
+    alloc: Global,
+    journal: &Journal,
+    stash: &Stash,
+    mut slices: Slices,
+) {
+    let mut numbers = Vec::new(alloc);
+    push_numbers(rt, &mut numbers, journal);
+    assert_same(rt, numbers.as_slice(), [1, 2, 3].as_slice());
+    assert_same(rt, (stash.len(), stash.get(0)), (1, Some((3, VIEW))));
     let (object, _slice) = slices.pop().expect(rt, "a slice");
-    assert_same(rt, &object, &Object::Item(FIRST));
-    assert_same(rt, &slices.pop().is_none(), &true);
+    assert_same(rt, object, Object::Item(FIRST));
+    assert_same(rt, slices.pop().is_none(), true);
 }
 
 // A comment about a hot user on a hot item.
@@ -105,7 +109,7 @@ fn comment_on_a_hot_item<N: PhaseName, R: Wait + Abort>(rt: &R, alloc: Global, s
     let (_boxes, key) = boxes_of_one::<N, R>(rt, alloc, shards).expect(rt, "memory");
     let stars = Stars { value: 5 };
     let hot = [
-        (Object::Item(FIRST), Some((vase(rt, 10), 1))),
+        (Object::Item(FIRST), Some((vases(rt, 10, 1), 1))),
         (Object::User(3), None),
     ];
     let mut permit = split_permit(rt, alloc, key, &hot, 0);
@@ -114,8 +118,8 @@ fn comment_on_a_hot_item<N: PhaseName, R: Wait + Abort>(rt: &R, alloc: Global, s
         worker: 0,
         serial: 0,
     };
-    assert_same(rt, &stored, &Some(Reply::CommentStored(wanted)));
-    assert_same(rt, &permit.left(), &3);
+    assert_same(rt, stored, Some(Reply::CommentStored(wanted)));
+    assert_same(rt, permit.left(), 3);
     drop(permit.finish());
 }
 
@@ -128,12 +132,12 @@ fn stores_at_the_end<N: PhaseName, R: Wait + Abort>(rt: &R, alloc: Global, shard
     requires workers { 1 ≡ N.workers }
 {
     let (_boxes, key) = boxes_of_one::<N, R>(rt, alloc, shards).expect(rt, "memory");
-    let hot = [(Object::Item(FIRST), Some((vase(rt, 10), 1)))];
+    let hot = [(Object::Item(FIRST), Some((vases(rt, 10, 1), 1)))];
     let mut permit = split_permit(rt, alloc, key, &hot, u64::MAX);
     let before = permit.left();
     let answer = bid(rt, &mut permit, 10, 99, 0);
-    assert_same(rt, &answer, &None);
-    assert_same(rt, &(before, permit.left()), &(4, 4));
+    assert_same(rt, answer, None);
+    assert_same(rt, (before, permit.left()), (4, 4));
     drop(permit.finish());
 }
 

@@ -11,6 +11,7 @@ use shard_boxes::{Boxes, Key, PhaseName};
 use std::alloc::{AllocError, Global};
 use std::process::Abort;
 use std::sync::Wait;
+use worker_journals::Journal;
 
 /// Four new shards.
 pub(crate) fn four(alloc: Global) -> Result<Vec<Shard>, AllocError>
@@ -76,4 +77,11 @@ fn both<T>(mut items: Vec<T>) -> (T, T)
     let second = items.remove(0);
     items.destroy_empty();
     (first, second)
+}
+
+/// Adds the numbers of a journal's commits.
+pub(crate) fn push_numbers(rt: &impl Abort, numbers: &mut Vec<u64>, journal: &Journal) {
+    for entry in journal.entries() {
+        numbers.push(entry.number()).expect(rt, "memory");
+    }
 }

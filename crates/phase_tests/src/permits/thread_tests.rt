@@ -1,18 +1,18 @@
 //! Two workers who perform at one time, each on a thread of its own, over the same boxes.
-ghost use Rattle.std.specs.Prelude.{◌≡◌, length, map, IfOk};
+ghost use Rattle.std.specs.Prelude.{◌≡◌, length, map};
 ghost use Rattle.shard_boxes.specs.States.{state_of, AreInitial};
 ghost use Rattle.phase_permits.specs.Performing.{HaveOpening};
 ghost use Rattle.phase_permits.specs.Workers.{IsIdle, IsUnused};
 
 use crate::comparing::assert_same;
-use crate::permits::closing::{clocks_of, close_two};
+use crate::permits::closing::{assert_clocks, close_two};
 use crate::permits::joined::{joined_permit, perform};
-use crate::permits::testing::{boxes_of_two, four};
+use crate::permits::testing::{boxes_of_two, four, push_numbers};
 use auction_rows::{Reply, Request};
 use item_shards::Shard;
 use phase_permits::Stash;
 use shard_boxes::{Boxes, Key, PhaseName};
-use std::alloc::{AllocError, Global};
+use std::alloc::Global;
 use std::marker::Brand;
 use std::process::Abort;
 use std::sync::Wait;
@@ -34,33 +34,30 @@ fn views<N: PhaseName, R: Wait + Abort>(
     alloc: Global,
     boxes: &Boxes<N>,
     key: Key<N>,
-) -> Result<(Journal, Key<N>), AllocError>
+) -> (Journal, Key<N>)
     requires of { key.boxes ≡ boxes.now }
     requires unused { IsUnused key }
     requires users { HaveOpening N.initial (record { users = 10; categories = 2 }) }
-    ensures of { IfOk result (λ left. left.1.boxes ≡ boxes.now) }
-    ensures worker { IfOk result (λ left. left.1.worker ≡ key.worker) }
-    ensures idle { IfOk result (λ left. IsIdle left.1) }
+    ensures of { result.1.boxes ≡ boxes.now }
+    ensures worker { result.1.worker ≡ key.worker }
+    ensures idle { IsIdle result.1 }
 {
-    let stash = Stash::with_room(alloc, 0)?;
-    let mut permit = joined_permit(alloc, key, stash, 0)?;
+    let stash = Stash::with_room(alloc, 0).expect(rt, "memory");
+    let mut permit = joined_permit(alloc, key, stash, 0).expect(rt, "memory");
     let first = perform(rt, boxes, &mut permit, &LOOK, 0);
     let second = perform(rt, boxes, &mut permit, &LOOK, 1);
     let (journal, _slices, _stash, key, _counters) = permit.finish().parts();
-    assert_same(rt, &[first, second], &[Ok(SEEN); 2]);
-    Ok((journal, key))
+    assert_same(rt, [first, second], [Ok(SEEN); 2]);
+    (journal, key)
 }
 
-// The numbers of both journals, the least first.
-fn numbers_of(rt: &impl Abort, alloc: Global, journals: [&Journal; 2]) -> Vec<u64> {
+// Asserts that the commits of both have the numbers from 1 to 4.
+fn assert_numbers(rt: &impl Abort, alloc: Global, one: &Journal, other: &Journal) {
     let mut numbers = Vec::new(alloc);
-    for journal in journals {
-        for entry in journal.entries() {
-            numbers.push(entry.number()).expect(rt, "memory");
-        }
-    }
+    push_numbers(rt, &mut numbers, one);
+    push_numbers(rt, &mut numbers, other);
     numbers.sort_unstable();
-    numbers
+    assert_same(rt, numbers.as_slice(), [1, 2, 3, 4].as_slice());
 }
 
 // All four views find one shard, so each has a number of its own.
@@ -80,13 +77,11 @@ where
         || views(rt, alloc, &boxes, first),
         || views(rt, alloc, &boxes, second),
     );
-    let (one, first) = one.expect(rt, "memory");
-    let (other, second) = other.expect(rt, "memory");
+    let (one, first) = one;
+    let (other, second) = other;
     let shards = close_two(rt, alloc, boxes, first, second).expect(rt, "memory");
-    let numbers = numbers_of(rt, alloc, [&one, &other]);
-    assert_same(rt, &numbers.as_slice(), &[1, 2, 3, 4].as_slice());
-    let clocks = [Some(4), Some(0), Some(0), Some(0)];
-    assert_same(rt, &clocks_of(&shards), &clocks);
+    assert_numbers(rt, alloc, &one, &other);
+    assert_clocks(rt, &shards, [4, 0, 0, 0]);
 }
 
 #[test]

@@ -42,15 +42,15 @@ fn slices_are_merged(rt: HostRuntime) {
     let put: OPutRec<(u64, u32)> = in_two_slices((50, 1), (50, 2));
     let sum: AddRec<i64> = in_two_slices(-5, 7);
     let top: TopRec<u64, 3> = in_two_slices(4, 7);
-    assert_same(&rt, &greatest.value(), &Some(50));
-    assert_same(&rt, &put.value(), &Some((50, 2)));
-    assert_same(&rt, &sum.value(), &2);
-    assert_same(&rt, &top.entries(), &[7, 4].as_slice());
+    assert_same(&rt, greatest.value(), Some(50));
+    assert_same(&rt, put.value(), Some((50, 2)));
+    assert_same(&rt, sum.value(), 2);
+    assert_same(&rt, top.entries(), [7, 4].as_slice());
 }
 
 #[test]
 fn top_list_of_two_slices(rt: HostRuntime) {
     let top = top_of_both(&[1, 3, 5, 7, 9], &[2, 4, 6, 8, 10, 11]);
     let wanted = [11, 10, 9, 8, 7, 6, 5, 4, 3, 2];
-    assert_same(&rt, &top.entries(), &wanted.as_slice());
+    assert_same(&rt, top.entries(), wanted.as_slice());
 }

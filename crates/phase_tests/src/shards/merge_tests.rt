@@ -3,13 +3,12 @@ ghost use Rattle.std.specs.Prelude.{◌≡◌, negsuc};
 ghost use Rattle.item_shards.specs.ShardContents.{shard_count, shard_number};
 
 use crate::comparing::assert_same;
-use crate::testing::{FIRST, OPENING, vase};
+use crate::testing::{FIRST, OPENING, item_seen, vases};
 use auction_rows::{
     BidEntry, BidId, BidShown, ItemEntry, ItemId, ItemShown, MOST_SHOWN, Refusal, Reply, Stars, Ten,
 };
 use item_shards::{Act, CategorySlice, ItemSlice, Shard, UserSlice};
 use split_records::Splittable;
-use std::alloc::AllocError;
 use std::process::Abort;
 
 // The item, its bids, a user and a category, as a shard shows them in which all objects lie.
@@ -39,9 +38,9 @@ fn a_new_shard_shows_what_there_is(rt: HostRuntime) {
         comments: 0,
     };
     let none = Reply::CategorySeen(Ten::new());
-    assert_same(&rt, &views(&shard, 9, 1), &[NO_ITEM, NO_ITEM, unseen, none]);
+    assert_same(&rt, views(&shard, 9, 1), [NO_ITEM, NO_ITEM, unseen, none]);
     let unknown = [NO_ITEM, NO_ITEM, NO_USER, NO_CATEGORY];
-    assert_same(&rt, &views(&shard, 10, 2), &unknown);
+    assert_same(&rt, views(&shard, 10, 2), unknown);
 }
 
 // A bid of 50 at 7 by the user of its number.
@@ -121,29 +120,19 @@ fn items_seen<R: Abort>(rt: &R) -> Reply {
 
 // Of two equal bids the one with the greater number wins.
 #[test]
-fn a_shard_shows_the_slices_merged_into_it(rt: HostRuntime) -> Result<(), AllocError> {
-    let mut shard = Shard::new(rt.alloc(), 0, 1, OPENING)?;
+fn a_shard_shows_the_slices_merged_into_it(rt: HostRuntime) {
+    let facts = vases(&rt, 10, 1);
+    let mut shard = Shard::new(rt.alloc(), 0, 1, OPENING).expect(&rt, "memory");
     shard.merge_user(3, two_comments());
     shard.merge_category(1, two_items());
-    shard.prepare_item(FIRST)?;
+    shard.prepare_item(FIRST).expect(&rt, "memory");
     shard.merge_item(FIRST, two_bids());
-    shard.act(&Act::AddItem(FIRST, vase(&rt, 10)));
-    let seen = Reply::ItemSeen {
-        seller: 0,
-        category: 0,
-        name: vase(&rt, 10).name,
-        start: 10,
-        closes: 100,
-        highest: Some(50),
-        bidder: Some(2),
-        bids: 2,
-        left: 1,
-    };
+    shard.act(&Act::AddItem(FIRST, facts));
+    let seen = item_seen(&facts, (50, 2), 2, 1);
     let rated = Reply::UserSeen {
         rating: -2,
         comments: 2,
     };
     let wanted = [seen, bids_seen(&rt), rated, items_seen(&rt)];
-    assert_same(&rt, &views(&shard, 3, 1), &wanted);
-    Ok(())
+    assert_same(&rt, views(&shard, 3, 1), wanted);
 }

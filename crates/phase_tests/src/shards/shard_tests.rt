@@ -3,10 +3,9 @@ ghost use Rattle.auction_rows.specs.declared.requests.Object.TheVariants.{Item};
 ghost use Rattle.item_shards.specs.ShardContents.{LiesIn};
 
 use crate::comparing::assert_same;
-use crate::testing::{FIRST, OPENING, vase};
+use crate::testing::{FIRST, OPENING, vases};
 use auction_rows::Facts;
 use item_shards::{Act, LAST_NUMBER, Shard, next_number};
-use std::alloc::AllocError;
 
 #[test]
 fn numbers_end(rt: HostRuntime) {
@@ -16,7 +15,7 @@ fn numbers_end(rt: HostRuntime) {
         next_number(LAST_NUMBER - 1, 3),
         next_number(0, 0),
     ];
-    assert_same(&rt, &numbers, &[None, None, Some(LAST_NUMBER), Some(1)]);
+    assert_same(&rt, numbers, [None, None, Some(LAST_NUMBER), Some(1)]);
 }
 
 // The facts of the first item and how many are left, where it is stored.
@@ -27,13 +26,12 @@ fn first_in(shard: &Shard) -> (Option<Facts>, Option<u32>)
 }
 
 #[test]
-fn a_shard_knows_an_item_once_it_is_added(rt: HostRuntime) -> Result<(), AllocError> {
-    let mut shard = Shard::new(rt.alloc(), 0, 1, OPENING)?;
-    shard.prepare_item(FIRST)?;
-    assert_same(&rt, &first_in(&shard), &(None, None));
-    shard.act(&Act::AddItem(FIRST, vase(&rt, 10)));
-    assert_same(&rt, &first_in(&shard), &(Some(vase(&rt, 10)), Some(1)));
-    Ok(())
+fn a_shard_knows_an_item_once_it_is_added(rt: HostRuntime) {
+    let mut shard = Shard::new(rt.alloc(), 0, 1, OPENING).expect(&rt, "memory");
+    shard.prepare_item(FIRST).expect(&rt, "memory");
+    assert_same(&rt, first_in(&shard), (None, None));
+    shard.act(&Act::AddItem(FIRST, vases(&rt, 10, 1)));
+    assert_same(&rt, first_in(&shard), (Some(vases(&rt, 10, 1)), Some(1)));
 }
 
 #[test]
@@ -41,7 +39,7 @@ fn a_clock_is_set_and_reset(rt: HostRuntime) {
     let mut shard = Shard::new(rt.alloc(), 0, 1, OPENING).expect(&rt, "memory");
     assert!(rt; shard.clock() < 7);
     shard.set_clock(7);
-    assert_same(&rt, &shard.clock(), &7);
+    assert_same(&rt, shard.clock(), 7);
     shard.reset_clock();
-    assert_same(&rt, &shard.clock(), &0);
+    assert_same(&rt, shard.clock(), 0);
 }

@@ -34,7 +34,7 @@ fn a_log_goes_on_after_a_write_that_failed_alone(rt: HostRuntime) {
         (5, [Ok(()), unsynced, broken]),
     ] {
         let found = three_parts(&rt, rt.alloc(), fails_at);
-        assert_same(&rt, &(fails_at, found), &(fails_at, answers));
+        assert_same(&rt, (fails_at, found), (fails_at, answers));
     }
 }
 
@@ -60,22 +60,18 @@ fn a_part_whose_rows_are_refused_is_not_told(rt: HostRuntime) {
     let refused = Err(TellFault::Log(LogFault::Write));
     assert_same(
         &rt,
-        &tell_part(&mut Full, &mut told, b"row\n", b"reply\n"),
-        &refused,
+        tell_part(&mut Full, &mut told, b"row\n", b"reply\n"),
+        refused,
     );
-    assert_same(&rt, &told.as_slice(), &b"".as_slice());
+    assert_same(&rt, told.as_slice(), b"".as_slice());
     // A part without rows asks nothing of the log.
+    assert_same(&rt, tell_part(&mut Full, &mut told, b"", b"seen\n"), Ok(()));
     assert_same(
         &rt,
-        &tell_part(&mut Full, &mut told, b"", b"seen\n"),
-        &Ok(()),
+        tell_part(&mut NoLog, &mut told, b"row\n", b"reply\n"),
+        Ok(()),
     );
-    assert_same(
-        &rt,
-        &tell_part(&mut NoLog, &mut told, b"row\n", b"reply\n"),
-        &Ok(()),
-    );
-    assert_same(&rt, &told.as_slice(), &b"seen\nreply\n".as_slice());
+    assert_same(&rt, told.as_slice(), b"seen\nreply\n".as_slice());
 }
 
 // Knows how much of what was written was flushed.
@@ -105,17 +101,17 @@ fn each_part_is_flushed(rt: HostRuntime) {
     };
     let mut teller = Teller { log: NoLog, writer };
     for (text, flushed) in [("one\n", 4), ("two\n", 8), ("", 8)] {
-        assert_same(&rt, &teller.tell(b"row\n", text.as_bytes()), &Ok(()));
-        assert_same(&rt, &teller.writer.flushed, &flushed);
+        assert_same(&rt, teller.tell(b"row\n", text.as_bytes()), Ok(()));
+        assert_same(&rt, teller.writer.flushed, flushed);
     }
     assert_same(
         &rt,
-        &teller.writer.written.as_slice(),
-        &b"one\ntwo\n".as_slice(),
+        teller.writer.written.as_slice(),
+        b"one\ntwo\n".as_slice(),
     );
 }
 
 #[test]
 fn only_a_log_that_keeps_rows_asks_for_them(rt: HostRuntime) {
-    assert_same(&rt, &(NoLog.keeps(), Full.keeps()), &(false, true));
+    assert_same(&rt, (NoLog.keeps(), Full.keeps()), (false, true));
 }

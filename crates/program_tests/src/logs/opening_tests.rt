@@ -36,12 +36,24 @@ fn auction(alloc: Global) -> Result<Joined, AllocError>
     }
 }
 
-// What a text opens to: how many rows there are, and how many bytes are kept.
-fn opened(rt: &impl Abort, alloc: Global, text: &[u8]) -> Result<(u64, u64), OpenFault> {
+// What a text opens to: how many rows there are, and how many bytes are kept. The rows are told.
+fn told<W: Write>(
+    rt: &impl Abort,
+    alloc: Global,
+    text: &[u8],
+    rows: &mut W,
+) -> Result<(u64, u64), OpenFault> {
     let mut reader = text;
     let auction = auction(alloc).expect(rt, "memory");
-    let opened = open_parts(alloc, &mut reader, auction, &mut io::sink())?;
-    Ok((opened.rows, opened.kept))
+    match open_parts(alloc, &mut reader, auction, rows) {
+        Ok(opened) => Ok((opened.rows, opened.kept)),
+        Err(fault) => Err(fault),
+    }
+}
+
+// The same, with the rows told to nobody.
+fn opened(rt: &impl Abort, alloc: Global, text: &[u8]) -> Result<(u64, u64), OpenFault> {
+    told(rt, alloc, text, &mut io::sink())
 }
 
 // Asserts what an item, then a bid, and then these bytes open to.
@@ -54,13 +66,13 @@ fn assert_after_rows(
     extend(rt, &mut text, ITEM);
     extend(rt, &mut text, BID);
     extend(rt, &mut text, tail);
-    assert_same(rt, &opened(rt, rt.alloc(), text.as_slice()), &wanted);
+    assert_same(rt, opened(rt, rt.alloc(), text.as_slice()), wanted);
 }
 
 #[test]
 fn a_log_opens_to_its_whole_rows(rt: HostRuntime) {
-    assert_same(&rt, &opened(&rt, rt.alloc(), b""), &Ok((0, 0)));
-    assert_same(&rt, &opened(&rt, rt.alloc(), b"0,+it"), &Ok((0, 0)));
+    assert_same(&rt, opened(&rt, rt.alloc(), b""), Ok((0, 0)));
+    assert_same(&rt, opened(&rt, rt.alloc(), b"0,+it"), Ok((0, 0)));
     for tail in [b"".as_slice(), b"1", b"1,+bid,1,0.0,2", b"15,+comment,1"] {
         assert_after_rows(&rt, tail, Ok((2, 48)));
     }
@@ -77,7 +89,7 @@ fn what_is_no_cut_row_is_not_cut(rt: HostRuntime) {
         b"0,item",
     ] {
         let refused = Err(OpenFault::Tail(1));
-        assert_same(&rt, &opened(&rt, rt.alloc(), text), &refused);
+        assert_same(&rt, opened(&rt, rt.alloc(), text), refused);
     }
     for tail in [b"\0".as_slice(), b"x", b"1,+bid,1\r", b"1,bid"] {
         assert_after_rows(&rt, tail, Err(OpenFault::Tail(3)));
@@ -91,9 +103,9 @@ fn what_is_cut_is_no_longer_than_a_row(rt: HostRuntime) {
     for _ in tail.len()..MOST_OF_A_ROW {
         tail.push(b'0').expect(&rt, "memory");
     }
-    assert_same(&rt, &is_cut_row(tail.as_slice()), &true);
+    assert_same(&rt, is_cut_row(tail.as_slice()), true);
     tail.push(b'0').expect(&rt, "memory");
-    assert_same(&rt, &is_cut_row(tail.as_slice()), &false);
+    assert_same(&rt, is_cut_row(tail.as_slice()), false);
 }
 
 #[test]
@@ -127,7 +139,7 @@ fn a_line_that_was_cut_is_not_whole(rt: HostRuntime) {
         (b"a\n\n", 3),
     ];
     for (text, whole) in texts {
-        assert_same(&rt, &whole_lines(text), &whole);
+        assert_same(&rt, whole_lines(text), whole);
     }
 }
 
@@ -147,39 +159,39 @@ fn rows_are_counted_through_all_parts(rt: HostRuntime) {
     let alloc = rt.alloc();
     let mut text = many_rows(&rt, alloc, 10_000);
     let len = text.len() as u64;
-    assert_same(
-        &rt,
-        &opened(&rt, alloc, text.as_slice()),
-        &Ok((10_000, len)),
-    );
+    assert_same(&rt, opened(&rt, alloc, text.as_slice()), Ok((10_000, len)));
     extend(&rt, &mut text, b"1,+bid,1,0.0,9,5\n");
     let low = Err(OpenFault::BadRow(10_001));
-    assert_same(&rt, &opened(&rt, alloc, text.as_slice()), &low);
+    assert_same(&rt, opened(&rt, alloc, text.as_slice()), low);
 }
 
 #[test]
 fn rows_are_told_as_they_are_read(rt: HostRuntime) {
     let alloc = rt.alloc();
     let text = many_rows(&rt, alloc, 10_000);
-    let mut told = Vec::new(alloc);
-    let mut reader = text.as_slice();
-    let auction = auction(alloc).expect(&rt, "memory");
-    let opened = open_parts(alloc, &mut reader, auction, &mut told);
-    assert_same(&rt, &opened.is_ok(), &true);
-    assert_same(&rt, &(told.as_slice() == text.as_slice()), &true);
+    let mut rows = Vec::new(alloc);
+    let opened = told(&rt, alloc, text.as_slice(), &mut rows);
+    assert_same(&rt, opened.is_ok(), true);
+    assert_same(&rt, rows.as_slice() == text.as_slice(), true);
+}
+
+// A file of an item, and of a row that was cut.
+fn cut_short(rt: &impl Abort, alloc: Global) -> MemFile {
+    let mut file = MemFile::new(alloc, 99);
+    file.append(ITEM).expect(rt, "memory");
+    file.append(b"1,+bi").expect(rt, "memory");
+    file
 }
 
 #[test]
 fn a_file_is_cut_to_its_rows(rt: HostRuntime) {
     let alloc = rt.alloc();
-    let mut file = MemFile::new(alloc, 99);
-    file.append(ITEM).expect(&rt, "memory");
-    file.append(b"1,+bi").expect(&rt, "memory");
+    let file = cut_short(&rt, alloc);
     let empty = auction(alloc).expect(&rt, "memory");
     let Ok(logged) = read_log(alloc, &file, empty, &mut io::sink()) else {
         panic!(rt; "the log is refused");
     };
-    assert_same(&rt, &(logged.rows, logged.kept), &(1, 30));
-    assert_same(&rt, &logged.tail.as_slice(), &b"1,+bi".as_slice());
-    assert_same(&rt, &cut_log(file, &logged).is_ok(), &true);
+    assert_same(&rt, (logged.rows, logged.kept), (1, 30));
+    assert_same(&rt, logged.tail.as_slice(), b"1,+bi".as_slice());
+    assert_same(&rt, cut_log(file, &logged).is_ok(), true);
 }

@@ -14,8 +14,8 @@ use std::process::Abort;
 fn assert_told(rt: &impl Abort, alloc: Global, fault: Fault, text: &[u8]) {
     let mut line = Vec::new(alloc);
     let written = write_fault(&mut line, &fault);
-    assert_same(rt, &written, &Ok(()));
-    assert_same(rt, &(line.as_slice(), status(&fault)), &(text, 3));
+    assert_same(rt, written, Ok(()));
+    assert_same(rt, (line.as_slice(), status(&fault)), (text, 3));
 }
 
 #[test]
@@ -65,5 +65,5 @@ impl Write for Full {
 #[test]
 fn a_full_writer_refuses_the_line_of_a_fault(rt: HostRuntime) {
     let refused = write_fault(&mut Full, &Fault::Run(RunFault::Memory));
-    assert_same(&rt, &refused, &Err(WriteFault::Write));
+    assert_same(&rt, refused, Err(WriteFault::Write));
 }

@@ -3,9 +3,8 @@
 ghost use Rattle.phase_floor.specs.Adding.{HasBook};
 
 use crate::comparing::assert_same;
-use crate::program::running_tests::options_of;
 use crate::testing::FIRST;
-use auction_program::{Fault, Joined, LiveTeller, LoggedInput, NoLog, Teller, serve};
+use auction_program::{Fault, Joined, LiveTeller, LoggedInput, NoLog, Options, Teller, serve};
 use auction_rows::{Facts, Name, Opening, Quantity, Request, Stars};
 use item_shards::Opened;
 use std::alloc::Global;
@@ -13,7 +12,7 @@ use std::process::Abort;
 use std::sync::Wait;
 use std::thread::Threads;
 
-// What the options of these tests say.
+// Of the options of these tests.
 const OPENING: Opening = Opening {
     users: 100,
     categories: 10,
@@ -83,11 +82,31 @@ const LINES: &[u8] = b"\
 1,viewuser,3
 ";
 
-// Asserts how these lines are served, by these words of a command line: what is written, what is
-// told apart from it, and how they end.
+// Of an auction of two workers, whose requests are answered as they come, ten at a time.
+fn options(rows: bool, ends_at_fault: bool) -> Options {
+    Options {
+        workers: 2,
+        shards: 4,
+        joined: 64,
+        split: 64,
+        threshold: 8,
+        hot: 8,
+        users: OPENING.users,
+        categories: OPENING.categories,
+        live: 10,
+        ends_at_fault,
+        log: None,
+        history: false,
+        rows,
+        report: false,
+    }
+}
+
+// Asserts how these lines are served: what is written, what is told apart from it, and how they
+// end.
 fn assert_served<R: Abort + Alloc<A = Global> + Threads + Wait + Sync>(
     rt: &R,
-    words: &[&str],
+    options: &Options,
     written: &[u8],
     errors: &[u8],
     ended: Result<(), Fault>,
@@ -102,11 +121,10 @@ fn assert_served<R: Abort + Alloc<A = Global> + Threads + Wait + Sync>(
         writer: Vec::new(alloc),
     };
     let mut teller = LiveTeller::of(alloc, texts, Vec::new(alloc));
-    let options = options_of(rt, alloc, words);
-    let served = serve(rt, alloc, source, &mut teller, &options);
-    assert_same(rt, &served, &ended);
-    assert_same(rt, &teller.teller.writer.as_slice(), &written);
-    assert_same(rt, &teller.errors.as_slice(), &errors);
+    let served = serve(rt, alloc, source, &mut teller, options);
+    assert_same(rt, served, ended);
+    assert_same(rt, teller.teller.writer.as_slice(), written);
+    assert_same(rt, teller.errors.as_slice(), errors);
 }
 
 #[test]
@@ -122,7 +140,7 @@ fn a_request_past_a_limit_is_answered_and_changes_nothing(rt: HostRuntime) {
 1,1,viewitem seller=0 category=0 start=10 closes=1000 highest=- bidder=- bids=0 left=3 name=Vase
 1,2,user rating=9 comments=3
 ";
-    assert_served(&rt, &["--workers=2", "--live=10"], answers, b"", Ok(()));
+    assert_served(&rt, &options(false, false), answers, b"", Ok(()));
 }
 
 #[test]
@@ -138,8 +156,7 @@ rubis_auction: more than 1000000 requests for a worker
 rubis_auction: more than 1000000 requests for a worker
 rubis_auction: record 8: unknown kind
 ";
-    let words = ["--workers=2", "--live=10", "--rows"];
-    assert_served(&rt, &words, rows, faults, Ok(()));
+    assert_served(&rt, &options(true, false), rows, faults, Ok(()));
 }
 
 #[test]
@@ -149,7 +166,6 @@ fn a_request_past_a_limit_may_end_the_input(rt: HostRuntime) {
 0,1,user rating=5 comments=1
 0,2,comment 0.999998
 ";
-    let words = ["--workers=2", "--live=10", "--faults=end"];
     let limit = Err(Fault::Limit(1_000_000));
-    assert_served(&rt, &words, answers, b"", limit);
+    assert_served(&rt, &options(false, true), answers, b"", limit);
 }

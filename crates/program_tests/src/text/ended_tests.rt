@@ -68,9 +68,9 @@ fn rows_are_records_that_open_an_auction(rt: HostRuntime) {
     let mut text = Vec::new(alloc);
     let history = bid_and_view(&rt, alloc);
     let written = write_rows(alloc, &mut text, &opening_rows(&rt), &history);
-    assert_same(&rt, &written, &Ok(()));
+    assert_same(&rt, written, Ok(()));
     let wanted = b"0,+item,0,0,\"Vase\",10,100,1,2\n0,+bid,1,0.0,20,5\n0,+bid,2,0.0,50,6\n";
-    assert_same(&rt, &text.as_slice(), &wanted.as_slice());
+    assert_same(&rt, text.as_slice(), wanted.as_slice());
 }
 
 // A list of the first item, put up at time 1.
@@ -81,6 +81,20 @@ fn one_item(rt: &impl Abort) -> Ten<ItemShown> {
     items
 }
 
+// Asserts the report of a history in which nothing was hot.
+fn assert_report(
+    rt: &impl Abort,
+    alloc: Global,
+    history: &History,
+    lines: &ReportLines,
+    wanted: &[u8],
+) {
+    let mut text = Vec::new(alloc);
+    let written = write_report(alloc, &mut text, history, &[], lines);
+    assert_same(rt, written, Ok(()));
+    assert_same(rt, text.as_slice(), wanted);
+}
+
 #[test]
 fn a_report_has_a_line_for_each_category(rt: HostRuntime) {
     let alloc = rt.alloc();
@@ -89,21 +103,15 @@ fn a_report_has_a_line_for_each_category(rt: HostRuntime) {
         categories: vec![in alloc; none].expect(&rt, "memory"),
         users: Vec::new(alloc),
     };
-    let mut text = Vec::new(alloc);
-    let written = write_report(alloc, &mut text, &History::new(alloc), &[], &lines);
-    assert_same(&rt, &written, &Ok(()));
     let wanted = b"phases 0\nrequests 0\nrefused 0\ncategory 0 latest\n";
-    assert_same(&rt, &text.as_slice(), &wanted.as_slice());
+    assert_report(&rt, alloc, &History::new(alloc), &lines, wanted);
     let seen = Reply::CategorySeen(one_item(&rt));
     lines.categories.push(seen).expect(&rt, "memory");
     for (rating, comments) in [(0, 0), (-5, 1)] {
         let seen = Reply::UserSeen { rating, comments };
         lines.users.push(seen).expect(&rt, "memory");
     }
-    text.clear();
-    let written = write_report(alloc, &mut text, &bid_and_view(&rt, alloc), &[], &lines);
-    assert_same(&rt, &written, &Ok(()));
     let wanted =
         b"phases 0\nrequests 2\nrefused 0\ncategory 0 latest\ncategory 1 latest 1:0.0\nuser 1 rating=-5 comments=1\n";
-    assert_same(&rt, &text.as_slice(), &wanted.as_slice());
+    assert_report(&rt, alloc, &bid_and_view(&rt, alloc), &lines, wanted);
 }

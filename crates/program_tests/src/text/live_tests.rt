@@ -7,6 +7,7 @@ use auction_text::{
     push_fault_line,
 };
 use std::alloc::Global;
+use std::fmt::Write;
 use std::io;
 use std::io::Read;
 use std::process::Abort;
@@ -70,18 +71,12 @@ fn told(rt: &impl Abort, alloc: Global, text: &[u8], at_a_time: usize) -> String
         let rows = input.rows.len();
         let first = requests_of(&input.scripts, 0);
         let second = requests_of(&input.scripts, 1);
-        let line = format!(in alloc; "{rows} {requests}: {first} {second}\n");
-        words
-            .push_str(line.expect(rt, "memory").as_str())
-            .expect(rt, "memory");
+        write!(words, "{rows} {requests}: {first} {second}\n").expect(rt, "memory");
         left = match end {
             LiveEnd::More(left) => left,
             LiveEnd::All => return words,
             LiveEnd::Fault(LineFault { worker, fault }, left) => {
-                let line = format!(in alloc; "{worker:?} {fault}\n");
-                words
-                    .push_str(line.expect(rt, "memory").as_str())
-                    .expect(rt, "memory");
+                write!(words, "{worker:?} {fault}\n").expect(rt, "memory");
                 left
             }
         };
@@ -92,7 +87,7 @@ fn told(rt: &impl Abort, alloc: Global, text: &[u8], at_a_time: usize) -> String
 // Asserts what a text says that is given at once.
 fn assert_told(rt: &impl Abort, alloc: Global, text: &[u8], wanted: &str) {
     let found = told(rt, alloc, text, 100_000);
-    assert_same(rt, &found.as_str(), &wanted);
+    assert_same(rt, found.as_str(), wanted);
 }
 
 // The lines of a text that tell a fault.
@@ -112,7 +107,7 @@ fn assert_faults(rt: &impl Abort, alloc: Global, text: &[u8], sizes: &[usize], w
     for at_a_time in sizes {
         let found = told(rt, alloc, text, *at_a_time);
         let faults = faults_in(rt, alloc, found.as_str());
-        assert_same(rt, &faults.as_str(), &wanted);
+        assert_same(rt, faults.as_str(), wanted);
     }
 }
 
@@ -191,7 +186,7 @@ fn rows_end_a_part_too(rt: HostRuntime) {
     let wanted = "65536 0: 0 0\n1 1: 1 0\n0 0: 0 0\n";
     for at_a_time in [999, 100_000] {
         let found = told(&rt, alloc, text.as_slice(), at_a_time);
-        assert_same(&rt, &(at_a_time, found.as_str()), &(at_a_time, wanted));
+        assert_same(&rt, (at_a_time, found.as_str()), (at_a_time, wanted));
     }
 }
 
@@ -209,7 +204,7 @@ fn a_read_that_a_signal_interrupts_is_tried_again(rt: HostRuntime) {
     });
     let mut buf = [0; 20];
     for given in [6, 4, 0, 0] {
-        assert_same(&rt, &read_of(&rt, &mut reader, &mut buf), &given);
+        assert_same(&rt, read_of(&rt, &mut reader, &mut buf), given);
     }
 }
 
@@ -218,9 +213,9 @@ fn an_input_ends_once(rt: HostRuntime) {
     let pieces: &[&[u8]] = &[b"", b"0,view", b"", b"user"];
     let mut reader = UntilEnd::of(Pieces { pieces, at: 0 });
     let mut buf = [0; 20];
-    assert_same(&rt, &read_of(&rt, &mut reader, &mut buf[..0]), &0);
+    assert_same(&rt, read_of(&rt, &mut reader, &mut buf[..0]), 0);
     for given in [6, 0, 0, 0] {
-        assert_same(&rt, &read_of(&rt, &mut reader, &mut buf), &given);
+        assert_same(&rt, read_of(&rt, &mut reader, &mut buf), given);
     }
 }
 
@@ -238,5 +233,5 @@ fn a_fault_is_answered_with_the_index_of_the_next_request(rt: HostRuntime) {
     }
     let wanted =
         b"0,0,fault record 1: unknown kind\n15,7,fault record 1000000000000: too long\n3,1,fault record 2: no such worker\n1,2,fault more than 16000000 records\n";
-    assert_same(&rt, &text.as_slice(), &wanted.as_slice());
+    assert_same(&rt, text.as_slice(), wanted.as_slice());
 }

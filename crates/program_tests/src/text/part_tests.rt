@@ -70,7 +70,7 @@ fn assert_parts(
     requires { 1 ≤ most }
 {
     let (found, met) = parts_of(rt, alloc, pieces, most);
-    assert_same(rt, &(found.as_slice(), met), &(counts, fault));
+    assert_same(rt, (found.as_slice(), met), (counts, fault));
 }
 
 #[test]

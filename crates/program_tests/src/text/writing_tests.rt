@@ -94,7 +94,7 @@ fn a_write_that_fails_is_the_last_call(rt: HostRuntime) {
     for call in 0..OUTPUT.len() {
         let writer = lapse_at(alloc, call, false);
         let right = replies_leave(alloc, &history, writer, cut, &OUTPUT[..call], (call + 1, 0));
-        assert_same(&rt, &(call, right), &(call, true));
+        assert_same(&rt, (call, right), (call, true));
     }
 }
 
@@ -107,7 +107,7 @@ fn a_write_that_a_signal_interrupts_is_tried_again(rt: HostRuntime) {
         writer.error = ErrorKind::Interrupted;
         let calls = (OUTPUT.len() + 1, 1);
         let right = replies_leave(alloc, &history, writer, Ok(()), OUTPUT, calls);
-        assert_same(&rt, &(call, right), &(call, true));
+        assert_same(&rt, (call, right), (call, true));
     }
 }
 
@@ -120,6 +120,6 @@ fn a_text_that_was_written_whole_is_flushed_once(rt: HostRuntime) {
     for (is_stuck, answer) in [(false, Ok(())), (true, Err(WriteFault::Write))] {
         let writer = lapse_at(alloc, OUTPUT.len(), is_stuck);
         let right = replies_leave(alloc, &history, writer, answer, OUTPUT, calls);
-        assert_same(&rt, &(is_stuck, right), &(is_stuck, true));
+        assert_same(&rt, (is_stuck, right), (is_stuck, true));
     }
 }

@@ -1,6 +1,6 @@
 use Rattle.std.proofs.Common.{arith, ◌≤◌, ◌+◌, ◌-◌, take, drop}
 use Rattle.std.proofs.lemmas.Grind.{common_steps}
-use Rattle.auction_reading.proofs.BufferLemmas.{ends_later, held, moved}
+use Rattle.record_reading.proofs.BufferLemmas.{ends_later, held, moved}
 use Rattle.auction_reading.proofs.ProgressLemmas.{reads_on_before}
 use Rattle.auction_reading.proofs.plain_text.take_lines.Goals as goal
 

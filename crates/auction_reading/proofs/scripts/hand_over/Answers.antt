@@ -2,7 +2,7 @@ use Rattle.std.proofs.Common.{◌≡◌, ◌∙◌, ◌++◌, List, ℕ, ap, ap�
 use Rattle.std.proofs.lemmas.Result.{IfErr-weaker, on_ok_weaker}
 use Rattle.std.specs.Fmt.{option_append}
 use Rattle.auction_reading.proofs.ProgressLemmas.{front, read_up_to_front}
-use Rattle.auction_reading.proofs.SoFar.{known_all}
+use Rattle.record_reading.proofs.BufferLemmas.{known_all}
 use Rattle.auction_reading.proofs.scripts.hand_over.Goals as goal
 
 pub returns-clause-input : goal.returns-clause-input

@@ -2,7 +2,7 @@ use Rattle.std.proofs.Common.{arith, ◌≡◌, []}
 use Rattle.std.proofs.lemmas.Grind.{common_steps}
 use Rattle.std.proofs.lemmas.Result.{IfErr-weaker, on_ok_weaker}
 use Rattle.auction_reading.proofs.ProgressLemmas.{read_on_alone, read_to_end}
-use Rattle.auction_reading.proofs.SoFar.{known_all}
+use Rattle.record_reading.proofs.BufferLemmas.{known_all}
 use Rattle.auction_reading.proofs.scripts.read_input.Goals as goal
 
 pub returns-then-filled-eq0-clause-input : goal.returns-then-filled-eq0-clause-input

@@ -1,5 +1,5 @@
 use Rattle.std.proofs.lemmas.Result.{IfErr-weaker, on_ok_weaker}
-use Rattle.auction_reading.proofs.SoFar.{known_all}
+use Rattle.record_reading.proofs.BufferLemmas.{known_all}
 use Rattle.auction_reading.proofs.scripts.read_rest.Goals as goal
 
 pub returns-clause-input : goal.returns-clause-input

@@ -3,7 +3,8 @@ use Rattle.std.specs.Prelude.{slice_index_or}
 use Rattle.std.proofs.lemmas.Bool.{false≢true}
 use Rattle.item_shards.specs.OpeningBooks.{rows_of_book}
 use Rattle.item_shards.specs.OpeningRows.{rows_by}
-use Rattle.auction_run.proofs.ScriptLemmas.{is_short, is_long, one_worker_more}
+use Rattle.auction_run.proofs.CheckLemmas.{is_short, is_long}
+use Rattle.run_phases.proofs.ScriptLemmas.{one_worker_more}
 use Rattle.auction_run.proofs.checks.are_short.Goals as goal
 
 pub overflow_sub-counts : goal.overflow_sub-counts

@@ -2,7 +2,8 @@ use Rattle.std.proofs.Common.{◌∙◌, refl, sym, subst, arith, rules}
 use Rattle.std.proofs.lemmas.Bool.{false≢true}
 use Rattle.std.proofs.lemmas.List.{length-map}
 use Rattle.auction_run.specs.GoingOn.{IsShortOn}
-use Rattle.auction_run.proofs.ScriptLemmas.{asked_here, one_worker_more}
+use Rattle.auction_run.proofs.CheckLemmas.{asked_here}
+use Rattle.run_phases.proofs.ScriptLemmas.{one_worker_more}
 use Rattle.auction_run.proofs.checks.are_short_on.Goals as goal
 
 pub is_short_on-requires : goal.is_short_on-requires

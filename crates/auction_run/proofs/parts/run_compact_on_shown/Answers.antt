@@ -5,10 +5,10 @@ use Rattle.auction_rows.specs.Book.{Book}
 use Rattle.auction_window.specs.Published.{book_of}
 use Rattle.phase_floor.specs.States.{IsBookOf}
 use Rattle.auction_run.specs.GoingOn.{AnswersNextRun, IsCheckedOn, IsReadyFor, fault_of}
-use Rattle.auction_run.specs.Outcomes.{HasShownFirstAfter}
+use Rattle.run_phases.specs.Outcomes.{HasShownFirstAfter}
 use Rattle.auction_run.proofs.AnswerLemmas.{not_given_back}
-use Rattle.auction_run.proofs.BoardLemmas.{none_shown}
-use Rattle.auction_run.proofs.ScriptLemmas.{checked_on, checked_on_first, few_on}
+use Rattle.run_phases.proofs.BoardLemmas.{none_shown}
+use Rattle.auction_run.proofs.CheckLemmas.{checked_on, checked_on_first, few_on}
 use Rattle.auction_run.proofs.parts.run_compact_on_shown.Goals as goal
 
 pub run_on_checked-requires-clause-ready : goal.run_on_checked-requires-clause-ready

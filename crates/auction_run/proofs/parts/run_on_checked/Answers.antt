@@ -5,11 +5,12 @@ use Rattle.auction_window.specs.Published.{book_of}
 use Rattle.phase_floor.specs.States.{JoinedState, IsBookOf}
 use Rattle.phase_workers.proofs.WorkLemmas.{err_as}
 use Rattle.auction_run.specs.declared.checks.Stopped.TheVariants.{Failed}
-use Rattle.auction_run.specs.Boards.{HasShownAfter}
-use Rattle.auction_run.specs.GoingOn.{BeginsWith, fault_of}
-use Rattle.auction_run.specs.Outcomes.{HasShownFirstAfter, IsOutcome}
+use Rattle.run_phases.specs.Boards.{HasShownAfter}
+use Rattle.run_phases.specs.Beginning.{BeginsWith}
+use Rattle.auction_run.specs.GoingOn.{fault_of}
+use Rattle.run_phases.specs.Outcomes.{HasShownFirstAfter, IsOutcome}
 use Rattle.auction_run.proofs.AnswerLemmas.{answered_stopped}
-use Rattle.auction_run.proofs.BoardLemmas.{up_to_date}
+use Rattle.run_phases.proofs.BoardLemmas.{up_to_date}
 use Rattle.auction_run.proofs.GoingOnLemmas.{begins_of, left_book}
 use Rattle.auction_run.proofs.parts.run_on_checked.Goals as goal
 

@@ -6,13 +6,13 @@ use Rattle.auction_rows.specs.Book.{Book}
 use Rattle.auction_window.specs.Published.{book_of}
 use Rattle.phase_floor.specs.States.{IsBookOf}
 use Rattle.phase_workers.proofs.WorkLemmas.{err_as}
-use Rattle.auction_run.specs.declared.checks.RunFault.TheVariants.{Memory}
+use Rattle.run_phases.specs.declared.faults.RunFault.TheVariants.{Memory}
 use Rattle.auction_run.specs.declared.checks.Stopped.TheVariants.{Failed}
 use Rattle.auction_run.specs.GoingOn.{AnswersNextRun, IsCheckedOn, IsReadyFor, fault_of}
-use Rattle.auction_run.specs.Outcomes.{HasShownFirstAfter}
-use Rattle.auction_run.specs.Phases.{lists}
+use Rattle.run_phases.specs.Outcomes.{HasShownFirstAfter}
+use Rattle.run_laws.specs.Serving.{lists}
 use Rattle.auction_run.proofs.AnswerLemmas.{answered_stopped, not_given_back}
-use Rattle.auction_run.proofs.BoardLemmas.{none_shown}
+use Rattle.run_phases.proofs.BoardLemmas.{none_shown}
 use Rattle.auction_run.proofs.parts.run_on_shown.Goals as goal
 
 pub run_on_checked-requires-clause-ready : goal.run_on_checked-requires-clause-ready

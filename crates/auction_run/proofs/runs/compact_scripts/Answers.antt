@@ -1,7 +1,7 @@
 use Rattle.std.proofs.Common.{◌++◌, ◌∷◌, append_assoc, ap, sym, ◌∙◌}
 use Rattle.std.specs.Vec.Iter.{into_iter_items}
 use Rattle.phase_workers.proofs.ThreadLemmas.{none_left, all_done}
-use Rattle.auction_run.specs.Phases.{lists}
+use Rattle.run_laws.specs.Serving.{lists}
 use Rattle.auction_run.proofs.runs.compact_scripts.Goals as goal
 
 pub loop-script-preserved : goal.loop-script-preserved

@@ -1,6 +1,6 @@
 use Rattle.std.proofs.Common.{◌≡◌, ◌++◌}
 use Rattle.std.specs.Vec.Iter.{into_iter_items}
-use Rattle.auction_run.specs.Phases.{lists}
+use Rattle.run_laws.specs.Serving.{lists}
 use Rattle.auction_run.proofs.runs.compact_scripts.Given as goal
 
 -- the compact scripts, and the lists to come, are the scripts

@@ -4,12 +4,13 @@ use Rattle.std.specs.Prelude.{IfOk}
 use Rattle.std.proofs.lemmas.Result.{IfErr-weaker, IfOk-weaker}
 use Rattle.phase_workers.proofs.WorkLemmas.{err_as}
 use Rattle.item_shards.specs.OpeningBooks.{opening_of, rows_of_book}
-use Rattle.auction_run.specs.declared.checks.RunFault.TheVariants.{Memory}
-use Rattle.auction_run.specs.declared.runs.Outcome.{Outcome}
-use Rattle.auction_run.specs.GoingOn.{BeginsWith}
-use Rattle.auction_run.specs.Outcomes.{HasShownAll, HasShownFirst, IsOutcome}
+use Rattle.run_phases.specs.declared.faults.RunFault.TheVariants.{Memory}
+use Rattle.run_phases.specs.declared.course.Outcome.{Outcome}
+use Rattle.run_phases.specs.Beginning.{BeginsWith}
+use Rattle.auction_run.specs.Runs.{HasShownAll, HasShownFirst}
+use Rattle.run_phases.specs.Outcomes.{IsOutcome}
 use Rattle.auction_run.proofs.AnswerLemmas.{answered, answered_memory}
-use Rattle.auction_run.proofs.BoardLemmas.{none_shown, up_to_date}
+use Rattle.run_phases.proofs.BoardLemmas.{none_shown, up_to_date}
 use Rattle.auction_run.proofs.GoingOnLemmas.{begins_resumed, left_book, of_both}
 use Rattle.auction_run.proofs.runs.run_checked.Given as given
 use Rattle.auction_run.proofs.runs.run_checked.Goals as goal

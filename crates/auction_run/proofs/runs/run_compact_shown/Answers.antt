@@ -2,10 +2,10 @@ use Rattle.std.proofs.Common.{◌≡◌, [], subst}
 use Rattle.std.specs.Prelude.{IfErr}
 use Rattle.phase_workers.proofs.WorkLemmas.{err_as}
 use Rattle.item_shards.specs.OpeningBooks.{opening_of, rows_of_book}
-use Rattle.auction_run.specs.Outcomes.{AnswersRun, HasShownFirst}
+use Rattle.auction_run.specs.Runs.{AnswersRun, HasShownFirst}
 use Rattle.auction_run.proofs.AnswerLemmas.{all, answered_first, not_first}
-use Rattle.auction_run.proofs.BoardLemmas.{none_shown}
-use Rattle.auction_run.proofs.ScriptLemmas.{checked, checked_first}
+use Rattle.run_phases.proofs.BoardLemmas.{none_shown}
+use Rattle.auction_run.proofs.CheckLemmas.{checked, checked_first}
 use Rattle.auction_run.proofs.runs.run_compact_shown.Goals as goal
 
 pub run_checked-requires-clause-workers : goal.run_checked-requires-clause-workers

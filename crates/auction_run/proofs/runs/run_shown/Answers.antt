@@ -2,12 +2,12 @@ use Rattle.std.proofs.Common.{◌≡◌, ◌∙◌, [], ap, subst, sym}
 use Rattle.std.specs.Prelude.{IfErr}
 use Rattle.item_shards.specs.OpeningBooks.{opening_of, rows_of_book}
 use Rattle.phase_workers.proofs.WorkLemmas.{err_as}
-use Rattle.auction_run.specs.declared.checks.RunFault.TheVariants.{Memory}
-use Rattle.auction_run.specs.Beginning.{AreShort, HaveWorkers}
-use Rattle.auction_run.specs.Outcomes.{AnswersRun, HasShownFirst}
-use Rattle.auction_run.specs.Phases.{lists}
+use Rattle.run_phases.specs.declared.faults.RunFault.TheVariants.{Memory}
+use Rattle.run_phases.specs.Beginning.{AreShort, HaveWorkers}
+use Rattle.auction_run.specs.Runs.{AnswersRun, HasShownFirst}
+use Rattle.run_laws.specs.Serving.{lists}
 use Rattle.auction_run.proofs.AnswerLemmas.{all, answered_first, answered_memory, not_first}
-use Rattle.auction_run.proofs.BoardLemmas.{none_shown}
+use Rattle.run_phases.proofs.BoardLemmas.{none_shown}
 use Rattle.auction_run.proofs.runs.run_shown.Goals as goal
 
 pub run_checked-requires-clause-workers : goal.run_checked-requires-clause-workers

@@ -1,6 +1,5 @@
-use Rattle.std.proofs.Common.{◌≡◌, ◌∙◌, ◌++◌, [], List, take, ap, sym}
-use Rattle.std.proofs.lemmas.List.{append-nil, take_more, take_all}
-use Rattle.auction_rows.specs.declared.rows.Entry.{Entry}
+use Rattle.std.proofs.Common.{◌∙◌, ap}
+use Rattle.std.proofs.lemmas.List.{take_all}
 use Rattle.auction_rows.specs.History.{rows_of}
 use Rattle.auction_window.proofs.RowLemmas.{one_more}
 use Rattle.auction_window.proofs.phases.rows_of.Goals as goal

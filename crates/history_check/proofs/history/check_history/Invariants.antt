@@ -1,5 +1,5 @@
 use Rattle.item_shards.specs.OpeningBooks.{opening_of, rows_of_book}
-use Rattle.history_check.specs.Taking.{IsReading}
+use Rattle.history_check.proofs.ReadingLemmas.{IsReading}
 use Rattle.history_check.proofs.history.check_history.Given as goal
 
 abbrev pub invariant-loop-number : goal.invariant-loop-number

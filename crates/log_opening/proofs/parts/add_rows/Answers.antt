@@ -51,3 +51,6 @@ returns-in-Err-clause-first c = λ book start. (
 
 pub returns-in_default-clause-first : goal.returns-in_default-clause-first
 returns-in_default-clause-first c = λ book start. (c.loop-place.rows.items, c.loop-place.invariant.added book start)
+
+pub returns-in-Err-clause-same : goal.returns-in-Err-clause-same
+returns-in-Err-clause-same c = same_then c.args.auction.now c.loop-place.auction c.add.new.self c.loop-place.invariant.same c.add.ensures.same

@@ -9,13 +9,13 @@ use Rattle.phase_floor.proofs.close.merge_all.Goals as goal
 pub merge_own-requires-clause-known : goal.merge_own-requires-clause-known
 merge_own-requires-clause-known c =
     let left = into_iter_items c.loop-own.own-iterator in let next = into_iter_items c.next.new.self in
-    first_known (map state_of c.args.shards.now.items) (map state_of c.loop-own.shards.items) (flat_map from_the_last c.args.slices.items) (flat_map from_the_last left)
+    first_known (map state_of c.args.shards.now) (map state_of c.loop-own.shards) (flat_map from_the_last c.args.slices.items) (flat_map from_the_last left)
     (from_the_last c.in-Some.own) (flat_map from_the_last next) (ap (flat_map from_the_last) c.in-Some.ensures.steps.0) c.loop-own.invariant.merged
 
 pub merge_own-requires-clause-can : goal.merge_own-requires-clause-can
 merge_own-requires-clause-can c =
     let left = into_iter_items c.loop-own.own-iterator in let next = into_iter_items c.next.new.self in
-    first_can (map state_of c.args.shards.now.items) (map state_of c.loop-own.shards.items) (flat_map from_the_last c.args.slices.items) (flat_map from_the_last left)
+    first_can (map state_of c.args.shards.now) (map state_of c.loop-own.shards) (flat_map from_the_last c.args.slices.items) (flat_map from_the_last left)
     (from_the_last c.in-Some.own) (flat_map from_the_last next) (ap (flat_map from_the_last) c.in-Some.ensures.steps.0) c.loop-own.invariant.merged
 
 pub loop-own-preserved : goal.loop-own-preserved
@@ -23,7 +23,7 @@ loop-own-preserved c =
     let left = into_iter_items c.loop-own.own-iterator in let next = into_iter_items c.next.new.self in
     let step = c.in-Some.ensures.steps in record {
       len = omega (arith, step.1, c.loop-own.invariant.len, ap length step.0);
-      merged = merged_next (map state_of c.args.shards.now.items) (map state_of c.loop-own.shards.items) (flat_map from_the_last c.args.slices.items) (flat_map from_the_last left)
+      merged = merged_next (map state_of c.args.shards.now) (map state_of c.loop-own.shards) (flat_map from_the_last c.args.slices.items) (flat_map from_the_last left)
           (from_the_last c.in-Some.own) (flat_map from_the_last next) (ap (flat_map from_the_last) step.0) c.loop-own.invariant.merged
-          (map state_of c.merge_own.new.shards.items) c.merge_own.ensures;
+          (map state_of c.merge_own.new.shards) c.merge_own.ensures;
     }

@@ -9,5 +9,5 @@ use Rattle.phase_floor.proofs.close.merge_all.Given as goal
 abbrev pub invariant-loop-own : goal.invariant-loop-own
 invariant-loop-own l = let left = into_iter_items l.own-iterator in record {
   len : length left ≡ into_iter_len l.own-iterator;
-  merged : AreToMerge (map state_of l.fn.shards.items) (map state_of l.shards.items) (flat_map from_the_last l.fn.slices.items) (flat_map from_the_last left);
+  merged : AreToMerge (map state_of l.fn.shards) (map state_of l.shards) (flat_map from_the_last l.fn.slices.items) (flat_map from_the_last left);
 }

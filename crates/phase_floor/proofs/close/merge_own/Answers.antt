@@ -7,29 +7,26 @@ use Rattle.phase_floor.proofs.Turns.{first_known, first_can, merged_next, last_f
 use Rattle.phase_floor.proofs.close.merge_own.Goals as goal
 
 pub loop-object-init : goal.loop-object-init
-loop-object-init c = record { one = c.requires.shards; known = c.requires.known; can = c.requires.can; whole = refl }
-
-pub merge-requires-clause-shards : goal.merge-requires-clause-shards
-merge-requires-clause-shards c = c.loop-object.invariant.one
+loop-object-init c = record { known = c.requires.known; can = c.requires.can; whole = refl }
 
 pub merge-requires-clause-known : goal.merge-requires-clause-known
 merge-requires-clause-known c =
     let pair : Object × Slice = (c.in-Some.object, c.in-Some.slice) in let rest = c.pop.new.self in
     let is = last_first c.loop-object.slices rest pair c.in-Some.ensures.last in
-    (first_known (map state_of c.args.shards.now.items) (map state_of c.loop-object.shards.items) (from_the_last c.args.slices) (from_the_last c.loop-object.slices) (pair ∷ []) (from_the_last rest) is c.loop-object.invariant).0
+    (first_known (map state_of c.args.shards.now) (map state_of c.loop-object.shards) (from_the_last c.args.slices) (from_the_last c.loop-object.slices) (pair ∷ []) (from_the_last rest) is c.loop-object.invariant).0
 
 pub merge-requires-clause-can : goal.merge-requires-clause-can
 merge-requires-clause-can c =
     let pair : Object × Slice = (c.in-Some.object, c.in-Some.slice) in let rest = c.pop.new.self in
     let is = last_first c.loop-object.slices rest pair c.in-Some.ensures.last in
-    (first_can (map state_of c.args.shards.now.items) (map state_of c.loop-object.shards.items) (from_the_last c.args.slices) (from_the_last c.loop-object.slices) (pair ∷ []) (from_the_last rest) is c.loop-object.invariant).0
+    (first_can (map state_of c.args.shards.now) (map state_of c.loop-object.shards) (from_the_last c.args.slices) (from_the_last c.loop-object.slices) (pair ∷ []) (from_the_last rest) is c.loop-object.invariant).0
 
 pub loop-object-preserved : goal.loop-object-preserved
 loop-object-preserved c =
     let pair : Object × Slice = (c.in-Some.object, c.in-Some.slice) in let rest = c.pop.new.self in
     let is = last_first c.loop-object.slices rest pair c.in-Some.ensures.last in
-    merged_next (map state_of c.args.shards.now.items) (map state_of c.loop-object.shards.items) (from_the_last c.args.slices) (from_the_last c.loop-object.slices) (pair ∷ []) (from_the_last rest) is c.loop-object.invariant
-    (map state_of c.merge.new.shards.items) c.merge.ensures
+    merged_next (map state_of c.args.shards.now) (map state_of c.loop-object.shards) (from_the_last c.args.slices) (from_the_last c.loop-object.slices) (pair ∷ []) (from_the_last rest) is c.loop-object.invariant
+    (map state_of c.merge.new.self) c.merge.ensures
 
 pub loop-object-smaller : goal.loop-object-smaller
 loop-object-smaller c = shorter c.loop-object.slices c.pop.new.self (c.in-Some.object, c.in-Some.slice) c.in-Some.ensures.last

@@ -5,7 +5,7 @@ use Rattle.phase_floor.proofs.Turns.{AreToMerge}
 use Rattle.phase_floor.proofs.close.merge_own.Given as goal
 
 abbrev pub invariant-loop-object : goal.invariant-loop-object
-invariant-loop-object l = AreToMerge (map state_of l.fn.shards.items) (map state_of l.shards.items) (from_the_last l.fn.slices) (from_the_last l.slices)
+invariant-loop-object l = AreToMerge (map state_of l.fn.shards) (map state_of l.shards) (from_the_last l.fn.slices) (from_the_last l.slices)
 
 abbrev pub decreases-loop-object : goal.decreases-loop-object
 decreases-loop-object l = length l.slices

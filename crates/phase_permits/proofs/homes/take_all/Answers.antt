@@ -1,7 +1,20 @@
-use Rattle.std.proofs.Common.{◌≡◌, ◌≢◌, refl, sym, ◌∙◌, arith}
+use Rattle.std.proofs.Common.{◌≡◌, ◌≢◌, refl, sym, ap, ◌∙◌, arith}
 use Rattle.std.proofs.lemmas.Bool.{eq-eqb, ne_eqb, or_from}
+use Rattle.shard_boxes.specs.Keys.{KeyState, SeatState, holds_at}
+use Rattle.shard_boxes.proofs.SeatLemmas.{taking-other}
 use Rattle.phase_permits.proofs.TakeLemmas.{taken_none, taken_more, taken_turned}
 use Rattle.phase_permits.proofs.homes.take_all.Goals as goal
+
+-- the greater shard is taken after the lesser one
+pub take-on_other-requires-clause-rising : goal.take-on_other-requires-clause-rising
+take-on_other-requires-clause-rising g c t from =
+    ap (λ (key : KeyState). holds_at key t) c.take-on_item.ensures.key
+    ∙ ap (λ (seat : SeatState). seat.holds) (taking-other c.args.key.now c.in-Some-Some.item t _ (λ same. omega (arith, from, same))) ∙ c.requires.ready.idle t
+
+pub take-on_item-requires-in-Some-Some-2-clause-rising : goal.take-on_item-requires-in-Some-Some-2-clause-rising
+take-on_item-requires-in-Some-Some-2-clause-rising g c t from =
+    ap (λ (key : KeyState). holds_at key t) c.take-on_other-in-Some-Some-2.ensures.key
+    ∙ ap (λ (seat : SeatState). seat.holds) (taking-other c.args.key.now c.in-Some-Some.other t _ (λ same. omega (arith, from, same))) ∙ c.requires.ready.idle t
 
 pub returns-in-None-Some : goal.returns-in-None-Some
 returns-in-None-Some g c =

@@ -1,4 +1,4 @@
-use Rattle.std.proofs.Common.{◌∙◌, arith, sym}
+use Rattle.std.proofs.Common.{◌∙◌, arith, refl, sym}
 use Rattle.std.proofs.lemmas.Bool.{false≢true}
 use Rattle.program_serving.proofs.limits.most_of_a_part.Goals as goal
 
@@ -10,3 +10,9 @@ returns-then-not-has_room-clause-room c = λ many. absurd (omega (arith, many))
 
 pub returns-then-not-has_room-clause-full : goal.returns-then-not-has_room-clause-full
 returns-then-not-has_room-clause-full c = λ room some few. absurd (false≢true (sym c.if-not-has_room.true ∙ c.has_room.ensures.full room))
+
+pub returns-clause-asked : goal.returns-clause-asked
+returns-clause-asked c = λ some. omega arith
+
+pub returns-clause-full : goal.returns-clause-full
+returns-clause-full c = λ room some few. refl

@@ -1,4 +1,4 @@
-use Rattle.std.proofs.Common.{ℕ, ◌≡◌, ◌<◌, ◌≤◌, IfNone, IfSome, length}
+use Rattle.std.proofs.Common.{ℕ, ◌≡◌, ◌<◌, ◌≤◌, IfNone, IfSome}
 use Rattle.auction_run.specs.GoingOn.{IsShortOn}
 use Rattle.closing_laws.specs.Standing.{counters_at, stores}
 use Rattle.run_laws.specs.Serving.{script_of}

@@ -6,7 +6,7 @@ use Rattle.auction_text.specs.Moved.{gone_by}
 use Rattle.auction_text.specs.Scripts.{Asked, asked_of}
 use Rattle.program_opening.specs.declared.faults.Fault.{Fault}
 use Rattle.program_serving.specs.PartRuns.{BeginsAt, ServesPart, done_of, gone_with}
-use Rattle.program_serving.specs.ServeFaults.{AreToldAt, FailsPart, IsPartFault}
+use Rattle.program_serving.specs.ServeFaults.{FailsPart, IsPartFault}
 use Rattle.program_serving.specs.Serving.{AreTold}
 use Rattle.program_serving.specs.declared.parts.Served.{Served}
 use Rattle.program_opening.proofs.ErrorLemmas.{error_is}
@@ -180,3 +180,6 @@ returns-in_default-with_phases-clause-cause g c =
             past = omega (arith, c.in_default-with_phases.ensures.none, c.in-Some-with_scripts.ensures.phases, count);
           }))),
     ))
+
+pub returns-clause-rows : goal.returns-clause-rows
+returns-clause-rows g c = omega (arith, c.in-Some.ensures, c.len.ensures, c.args.part.input.rows.ok.0)

@@ -1,4 +1,4 @@
-use Rattle.std.proofs.Common.{[], refl}
+use Rattle.std.proofs.Common.{◌∙◌, [], refl}
 use Rattle.auction_text.specs.Moved.{gone_by}
 use Rattle.program_opening.specs.Faults.{of_telling}
 use Rattle.program_serving.specs.ServeFaults.{AreToldAt}
@@ -9,8 +9,7 @@ use Rattle.program_serving.proofs.session.tell_fault.Goals as goal
 
 pub returns-clause-told : goal.returns-clause-told
 returns-clause-told g c =
-    let text = c.in_ok-answer.ensures.text in
-    (c.in_ok-tell.ensures.logged, same_appended _ _ _ _ c.in_ok-tell.ensures.told cc)
+    (c.in_ok-tell.ensures.logged, same_appended _ _ _ _ c.in_ok-tell.ensures.told (c.as_slice-2.ensures.value ∙ c.in_ok-answer.ensures.text))
 
 pub returns-in_err-tell-clause-so_far : goal.returns-in_err-tell-clause-so_far
 returns-in_err-tell-clause-so_far g c =
@@ -20,6 +19,5 @@ returns-in_err-tell-clause-so_far g c =
     let new = c.tell.new.self in
     let fault = c.in_err-tell.field-0.0 in
     let answer = fault_answer c.args.options.now (gone_by c.args.before.now) c.args.met in
-    let text = c.in_ok-answer.ensures.text in
     error_is c.from_residual-in_err-tell.result (of_telling fault) (λ f. AreToldAt log contents old new f [] answer) c.from_residual-in_err-tell.ensures
-    (told_so_far log contents old new fault [] [] _ answer c.in_err-tell.ensures.fault (if_known (log old.log) _ refl) cc)
+    (told_so_far log contents old new fault [] [] _ answer c.in_err-tell.ensures.fault (if_known (log old.log) _ refl) (c.as_slice-2.ensures.value ∙ c.in_ok-answer.ensures.text))

@@ -1,65 +1,65 @@
-use Rattle.std.proofs.Common.{rules, ◌≡◌, ◌∙◌, ◌∷◌, ◌++◌, List, [], None, Some, ap, refl, subst, sym, append_assoc}
+use Rattle.std.proofs.Common.{◌≡◌, ◌∙◌, ◌∷◌, ◌++◌, List, [], None, Some, ap, refl, subst, sym, append_assoc}
 use Rattle.std.proofs.lemmas.List.{append-nil}
 use Rattle.phase_laws.specs.Order.{part}
 use Rattle.auction_rows.specs.declared.rows.Entry.{Entry}
 use Rattle.worker_journals.specs.Journals.{entry_worker}
 use Rattle.auction_text.specs.Order.{comes_before}
 use Rattle.auction_text.specs.Turns.{late}
-use Rattle.auction_text.proofs.OwnTurns.{AreOf, late_by_index, part_own}
+use Rattle.auction_text.proofs.OwnTurns.{AreOf, HasLast, late_by_index, part_own, pass_on}
 use Rattle.auction_text.proofs.TurnLemmas.{late-late, late-in_turn}
+use Rattle.auction_text.proofs.writing.reply_order.late_as_committed.Goals.{then-is_late+in_ok-push, else-is_late}
 use Rattle.auction_text.proofs.writing.reply_order.late_as_committed.Goals as goal
 
-pub loop-entry-init : goal.loop-entry-init
-loop-entry-init c =
-    let entries : c.into_iter-entry-iterator.result ≡ part entry_worker c.args.worker c.args.history.now.entries = search rules in
-    record {
-      own = subst (AreOf c.args.worker) (sym entries) (part_own c.args.worker c.args.history.now.entries);
-      turn = record { last = None; next_is = refl; own = tt; holds = ap (λ (es : List Entry). es ++ late comes_before None c.into_iter-entry-iterator.result) c.new-entries.ensures.items ∙ ap (late comes_before None) entries };
-    }
+pub loop-next-init : goal.loop-next-init
+loop-next-init c =
+    let worker = c.args.worker in
+    let left = c.of_worker-left.result in
+    let all = late comes_before None (part entry_worker worker c.args.history.now.entries) in
+    let turn : HasLast worker 0 (λ last. c.new-entries.result.items ++ late comes_before last left ≡ all) =
+    record { last = None; next_is = refl; own = tt; holds = ap (λ (es : List Entry). es ++ late comes_before None left) c.new-entries.ensures.items ∙ ap (late comes_before None) c.of_worker-left.ensures } in
+    let on =
+    pass_on worker 0 c.pass_rising-next.result c.new-entries.result.items all left c.pass_rising-next.new.self
+    (subst (AreOf worker) (sym c.of_worker-left.ensures) (part_own worker c.args.history.now.entries)) turn c.pass_rising-next.ensures in
+    record { own = on.0; turn = on.1 }
 
-pub loop-entry-preserved-in-Continue-1 : goal.loop-entry-preserved-in-Continue-1
-loop-entry-preserved-in-Continue-1 c =
-    let inv = c.loop-entry.invariant in
+pub loop-next-preserved : goal.loop-next-preserved
+loop-next-preserved c =
+    let worker = c.args.worker in
+    let inv = c.loop-next.invariant in
     let e = c.in-Some.entry in
-    let own = subst (AreOf c.args.worker) c.in-Some.ensures.steps inv.own in
-    let is_late = late_by_index c.args.worker c.loop-entry.next inv.turn.last e inv.turn.next_is inv.turn.own own.0 ∙ sym c.is_late.ensures ∙ c.if-is_late.true in
-    let pushed : c.push.new.self.items ≡ c.loop-entry.entries.items ++ e ∷ [] = c.in_ok-push.ensures.items in
-    record {
-      own = own.1;
-      turn = record {
-        last = inv.turn.last;
-        next_is = inv.turn.next_is;
-        own = inv.turn.own;
-        holds = ap (λ (es : List Entry). es ++ late comes_before inv.turn.last c.next.new.self) pushed
-            ∙ append_assoc c.loop-entry.entries.items (e ∷ []) (late comes_before inv.turn.last c.next.new.self)
-            ∙ ap (λ (es : List Entry). c.loop-entry.entries.items ++ es)
-            (sym (late-late comes_before inv.turn.last e c.next.new.self is_late) ∙ ap (late comes_before inv.turn.last) (sym c.in-Some.ensures.steps))
-            ∙ inv.turn.holds;
-      };
-    }
-
-pub loop-entry-preserved : goal.loop-entry-preserved
-loop-entry-preserved c =
-    let inv = c.loop-entry.invariant in
-    let e = c.in-Some.entry in
-    let own = subst (AreOf c.args.worker) c.in-Some.ensures.steps inv.own in
-    let in_turn = late_by_index c.args.worker c.loop-entry.next inv.turn.last e inv.turn.next_is inv.turn.own own.0 ∙ sym c.is_late.ensures ∙ c.if-is_late.false in
-    record {
-      own = own.1;
-      turn = record {
-        last = Some e;
-        next_is = search rules;
-        own = own.0;
-        holds = ap (λ (es : List Entry). c.loop-entry.entries.items ++ es)
-            (sym (late-in_turn comes_before inv.turn.last e c.next.new.self in_turn) ∙ ap (late comes_before inv.turn.last) (sym c.in-Some.ensures.steps))
-            ∙ inv.turn.holds;
-      };
-    }
+    let left = c.next.new.self in
+    let own = subst (AreOf worker) c.in-Some.ensures.steps inv.own in
+    let late_is = late_by_index worker c.loop-next.next inv.turn.last e inv.turn.next_is inv.turn.own own.0 ∙ sym c.is_late.ensures in
+    let all = late comes_before None (part entry_worker worker c.args.history.now.entries) in
+    let turn : HasLast worker c.if-is_late.next (λ last. c.if-is_late.entries.items ++ late comes_before last left ≡ all) = elim c.if-is_late.branch [
+      | then-is_late+in_ok-push w ↦
+          rw (w.entries-is, w.next-is) (record {
+            last = inv.turn.last;
+            next_is = inv.turn.next_is;
+            own = inv.turn.own;
+            holds = ap (λ (es : List Entry). es ++ late comes_before inv.turn.last left) w.in_ok-push.ensures.items
+                ∙ append_assoc c.loop-next.entries.items (e ∷ []) (late comes_before inv.turn.last left)
+                ∙ ap (λ (es : List Entry). c.loop-next.entries.items ++ es)
+                (sym (late-late comes_before inv.turn.last e left (late_is ∙ w.if-is_late.true)) ∙ ap (late comes_before inv.turn.last) (sym c.in-Some.ensures.steps))
+                ∙ inv.turn.holds;
+          })
+      | else-is_late w ↦
+          rw (w.entries-is, w.next-is) (record {
+            last = Some e;
+            next_is = rw w.from-next.ensures (rw w.index.ensures refl);
+            own = own.0;
+            holds = ap (λ (es : List Entry). c.loop-next.entries.items ++ es)
+                (sym (late-in_turn comes_before inv.turn.last e left (late_is ∙ w.if-is_late.false)) ∙ ap (late comes_before inv.turn.last) (sym c.in-Some.ensures.steps))
+                ∙ inv.turn.holds;
+          })
+    ] in
+    let on = pass_on worker c.if-is_late.next c.pass_rising-next-in-Some.result c.if-is_late.entries.items all left c.pass_rising-next-in-Some.new.self own.1 turn c.pass_rising-next-in-Some.ensures in
+    record { own = on.0; turn = on.1 }
 
 pub returns : goal.returns
 unfolding late
 returns c =
-    let inv = c.loop-entry.invariant in
-    sym (append-nil c.loop-entry.entries.items)
-    ∙ ap (λ (es : List Entry). c.loop-entry.entries.items ++ late comes_before inv.turn.last es) (sym c.in-None.ensures.steps.0)
+    let inv = c.loop-next.invariant in
+    sym (append-nil c.loop-next.entries.items)
+    ∙ ap (λ (es : List Entry). c.loop-next.entries.items ++ late comes_before inv.turn.last es) (sym c.in_default.ensures.steps.0)
     ∙ inv.turn.holds

@@ -7,9 +7,9 @@ use Rattle.auction_text.proofs.OwnTurns.{AreOf, HasLast}
 use Rattle.auction_text.proofs.writing.reply_order.late_as_committed.Given as goal
 
 -- the late entries so far, and those of the entries that are left
-abbrev pub invariant-loop-entry : goal.invariant-loop-entry
-invariant-loop-entry l = record {
-  own : AreOf l.worker l.entry-iterator;
+abbrev pub invariant-loop-next : goal.invariant-loop-next
+invariant-loop-next l = record {
+  own : AreOf l.worker l.left;
   turn : HasLast l.worker l.next (λ last.
-      l.entries.items ++ late comes_before last l.entry-iterator ≡ late comes_before None (part entry_worker l.worker l.history.entries));
+      l.entries.items ++ late comes_before last l.left ≡ late comes_before None (part entry_worker l.worker l.history.entries));
 }

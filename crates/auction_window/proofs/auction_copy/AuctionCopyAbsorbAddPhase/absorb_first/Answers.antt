@@ -23,3 +23,6 @@ invariant_of-self-2 g c =
     let begins = comparable_shorter old c.added.inside.phases c.agrees.ensures (omega arith) in
     let added = rw c.deref.ensures.value at c.in_ok-add_rows.ensures.book in
     rw c.again.ensures (has_next c.added.invariant old begins long c.in-Some.auction held c.add_rows.new.self c.add_rows.ensures.opening added)
+
+pub returns-clause-absorbed : goal.returns-clause-absorbed
+returns-clause-absorbed g c = c.again.ensures ∙ c.added.view_is

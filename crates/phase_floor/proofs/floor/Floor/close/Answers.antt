@@ -1,5 +1,6 @@
-use Rattle.std.proofs.Common.{◌++◌, ◌+◌, Bool, List, map, length, sym, ap, ◌∙◌, subst, arith}
+use Rattle.std.proofs.Common.{◌≡◌, ◌++◌, ◌+◌, Bool, List, map, length, sym, ap, ◌∙◌, subst, arith}
 use Rattle.std.proofs.lemmas.List.{length-map}
+use Rattle.auction_rows.specs.declared.rows.Entry.{Entry}
 use Rattle.shard_boxes.specs.Closed.{AreSpent}
 use Rattle.shard_boxes.specs.Keys.{BoxId, KeyState}
 use Rattle.shard_boxes.specs.States.{state_of}
@@ -7,13 +8,15 @@ use Rattle.worker_journals.specs.Histories.{HistoryView}
 use Rattle.worker_journals.specs.Merged.{AreByWorker, added}
 use Rattle.worker_journals.proofs.AddedLemmas.{added_front, last_merged}
 use Rattle.closing_laws.specs.Phases.{journal_of}
-use Rattle.phase_floor.specs.Closings.{at_start}
+use Rattle.phase_floor.specs.Closings.{HasReconciled}
 use Rattle.phase_floor.specs.Floors.{FloorState, IsOpen}
 use Rattle.phase_permits.specs.Workers.{IsEmptyIf}
 use Rattle.phase_floor.proofs.Closings.{nothing_added, in_order, are_spent}
 use Rattle.phase_floor.proofs.Cold.{all_kept, has_settled}
 use Rattle.phase_floor.proofs.Leaving.{shards_one, slices_known, slices_can, reconciled, kept_left, leaves}
+use Rattle.phase_floor.proofs.floor.Floor.close.Given as given
 use Rattle.phase_floor.proofs.floor.Floor.close.Goals as goal
+use Rattle.phase_floor.proofs.floor.Floor.close.Goals.{After-reconciled-shards}
 
 pub of-requires : goal.of-requires
 of-requires g c =
@@ -32,77 +35,80 @@ add_phase-requires-clause-by_worker g c =
     subst AreByWorker (sym e.parts.journals_are)
     (in_order initial workers c.args.self (subst (IsOpen initial workers) c.self.view_is c.self.invariant.1) c.args.receipts.items c.requires e.finished)
 
-pub close_kept-shards-requires : goal.close_kept-shards-requires
-close_kept-shards-requires g c =
+pub close_kept-given-requires : goal.close_kept-given-requires
+close_kept-given-requires g c =
     let e = c.in_ok-journals.ensures in let initial = g.N.PhaseName.initial in let workers = g.N.PhaseName.workers in
     let spent = are_spent initial workers c.args.self (subst (IsOpen initial workers) c.self.view_is c.self.invariant.1) c.args.receipts.items c.requires e.finished in
     subst (λ (boxes : List BoxId). AreSpent boxes workers c.in_ok-journals.field-0.keys.items) (sym (ap (λ (f : FloorState). f.boxes) c.self.view_is))
     (subst (λ (keys : List KeyState). AreSpent c.args.self.boxes workers keys) (sym e.parts.keys_are) spent)
 
-pub merge_all-requires-clause-shards : goal.merge_all-requires-clause-shards
-merge_all-requires-clause-shards g c =
+pub reconciled-shards-requires-clause-shards : goal.reconciled-shards-requires-clause-shards
+reconciled-shards-requires-clause-shards g c =
     let initial = g.N.PhaseName.initial in let workers = g.N.PhaseName.workers in let receipts = c.args.receipts.items in
     let e = c.in_ok-journals.ensures in let h = c.in_ok-add_phase.ensures in let parts = c.in_ok-journals.field-0 in
     let is_open = subst (IsOpen initial workers) c.self.view_is c.self.invariant.1 in
     let same = all_kept g.K.Kind.IS_JOINED c.args.self receipts parts.slices.items (subst (IsEmptyIf g.K.Kind.IS_JOINED) (ap (λ (f : FloorState). f.stocks) c.self.view_is) c.self.invariant.0) c.requires e.slices in
-    shards_one initial workers c.args.self is_open receipts c.requires e.finished (map state_of c.close_kept-shards.result.0.items) c.args.history.now c.add_phase.new.self parts.journals.items parts.stashes.items parts.keys.items parts.counters.items parts.slices.items e.parts same h.added h.lawful c.close_kept-shards.ensures.closed
+    shards_one initial workers c.args.self is_open receipts c.requires e.finished (map state_of c.close_kept-given.result.0.items) c.args.history.now c.add_phase.new.self parts.journals.items parts.stashes.items parts.keys.items parts.counters.items parts.slices.items e.parts same h.added h.lawful c.close_kept-given.ensures.closed
 
-pub merge_all-requires-clause-known : goal.merge_all-requires-clause-known
-merge_all-requires-clause-known g c =
+pub reconciled-shards-requires-clause-known : goal.reconciled-shards-requires-clause-known
+reconciled-shards-requires-clause-known g c =
     let initial = g.N.PhaseName.initial in let workers = g.N.PhaseName.workers in let receipts = c.args.receipts.items in
     let e = c.in_ok-journals.ensures in let h = c.in_ok-add_phase.ensures in let parts = c.in_ok-journals.field-0 in
     let is_open = subst (IsOpen initial workers) c.self.view_is c.self.invariant.1 in
     let same = all_kept g.K.Kind.IS_JOINED c.args.self receipts parts.slices.items (subst (IsEmptyIf g.K.Kind.IS_JOINED) (ap (λ (f : FloorState). f.stocks) c.self.view_is) c.self.invariant.0) c.requires e.slices in
-    slices_known initial workers c.args.self is_open receipts c.requires e.finished (map state_of c.close_kept-shards.result.0.items) c.args.history.now c.add_phase.new.self parts.journals.items parts.stashes.items parts.keys.items parts.counters.items parts.slices.items e.parts same h.added h.lawful c.close_kept-shards.ensures.closed
+    slices_known initial workers c.args.self is_open receipts c.requires e.finished (map state_of c.close_kept-given.result.0.items) c.args.history.now c.add_phase.new.self parts.journals.items parts.stashes.items parts.keys.items parts.counters.items parts.slices.items e.parts same h.added h.lawful c.close_kept-given.ensures.closed
 
-pub merge_all-requires-clause-can : goal.merge_all-requires-clause-can
-merge_all-requires-clause-can g c =
+pub reconciled-shards-requires-clause-can : goal.reconciled-shards-requires-clause-can
+reconciled-shards-requires-clause-can g c =
     let initial = g.N.PhaseName.initial in let workers = g.N.PhaseName.workers in let receipts = c.args.receipts.items in
     let e = c.in_ok-journals.ensures in let h = c.in_ok-add_phase.ensures in let parts = c.in_ok-journals.field-0 in
     let is_open = subst (IsOpen initial workers) c.self.view_is c.self.invariant.1 in
     let same = all_kept g.K.Kind.IS_JOINED c.args.self receipts parts.slices.items (subst (IsEmptyIf g.K.Kind.IS_JOINED) (ap (λ (f : FloorState). f.stocks) c.self.view_is) c.self.invariant.0) c.requires e.slices in
-    slices_can initial workers c.args.self is_open receipts c.requires e.finished (map state_of c.close_kept-shards.result.0.items) c.args.history.now c.add_phase.new.self parts.journals.items parts.stashes.items parts.keys.items parts.counters.items parts.slices.items e.parts same h.added h.lawful c.close_kept-shards.ensures.closed
+    slices_can initial workers c.args.self is_open receipts c.requires e.finished (map state_of c.close_kept-given.result.0.items) c.args.history.now c.add_phase.new.self parts.journals.items parts.stashes.items parts.keys.items parts.counters.items parts.slices.items e.parts same h.added h.lawful c.close_kept-given.ensures.closed
+
+module _ (g : given.Over) (c : After-reconciled-shards g) where
+  is_open : IsOpen g.N.PhaseName.initial g.N.PhaseName.workers c.args.self
+  is_open = subst (IsOpen g.N.PhaseName.initial g.N.PhaseName.workers) c.self.view_is c.self.invariant.1
+
+  opening_is : c.self.inside.opening ≡ c.args.self.opening
+  opening_is = ap (λ (f : FloorState). f.opening) c.self.view_is
+
+  limit_is : c.self.inside.limit ≡ c.args.self.limit
+  limit_is = ap (λ (f : FloorState). f.limit) c.self.view_is
+
+  abbrev entries : List Entry
+  entries = added c.args.history.now.entries c.add_phase.new.self.entries
+
+  -- the phase has reconciled
+  did : HasReconciled g.N.PhaseName.initial c.args.self c.args.receipts.items (map state_of c.reconciled-shards.result) entries
+  did =
+      let receipts = c.args.receipts.items in let e = c.in_ok-journals.ensures in let h = c.in_ok-add_phase.ensures in let parts = c.in_ok-journals.field-0 in
+      let same = all_kept g.K.Kind.IS_JOINED c.args.self receipts parts.slices.items (subst (IsEmptyIf g.K.Kind.IS_JOINED) (ap (λ (f : FloorState). f.stocks) c.self.view_is) c.self.invariant.0) c.requires e.slices in
+      reconciled g.N.PhaseName.initial g.N.PhaseName.workers c.args.self is_open receipts c.requires e.finished (map state_of c.close_kept-given.result.0.items) c.args.history.now c.add_phase.new.self parts.journals.items parts.stashes.items parts.keys.items
+      parts.counters.items parts.slices.items e.parts same h.added h.lawful c.close_kept-given.ensures.closed (map state_of c.reconciled-shards.result) c.reconciled-shards.ensures
 
 pub invariant_of-state : goal.invariant_of-state
 invariant_of-state g c =
-    let initial = g.N.PhaseName.initial in let workers = g.N.PhaseName.workers in let receipts = c.args.receipts.items in
-    let e = c.in_ok-journals.ensures in let h = c.in_ok-add_phase.ensures in let parts = c.in_ok-journals.field-0 in
-    let is_open = subst (IsOpen initial workers) c.self.view_is c.self.invariant.1 in
-    let same = all_kept g.K.Kind.IS_JOINED c.args.self receipts parts.slices.items (subst (IsEmptyIf g.K.Kind.IS_JOINED) (ap (λ (f : FloorState). f.stocks) c.self.view_is) c.self.invariant.0) c.requires e.slices in
-    kept_left initial workers c.args.self is_open receipts c.requires e.finished (added c.args.history.now.entries c.add_phase.new.self.entries)
-    c.reset_clocks.new.shards.items (reconciled initial workers c.args.self is_open receipts c.requires e.finished (map state_of c.close_kept-shards.result.0.items) c.args.history.now c.add_phase.new.self parts.journals.items parts.stashes.items parts.keys.items parts.counters.items parts.slices.items e.parts same h.added h.lawful c.close_kept-shards.ensures.closed (map state_of c.reset_clocks.new.shards.items) (c.reset_clocks.ensures ∙ ap (map at_start) c.merge_all.ensures))
-    c.self.inside.opening c.self.inside.limit parts.counters.items (ap (λ (f : FloorState). f.opening) c.self.view_is) (ap (λ (f : FloorState). f.limit) c.self.view_is) e.parts.counters_are
+    let after = (goal.at.invariant_of-state g c).After-reconciled-shards in
+    let e = c.in_ok-journals.ensures in
+    kept_left g.N.PhaseName.initial g.N.PhaseName.workers c.args.self (is_open g after) c.args.receipts.items c.requires e.finished (entries g after) c.reconciled-shards.result (did g after)
+    c.self.inside.opening c.self.inside.limit c.in_ok-journals.field-0.counters.items (opening_is g after) (limit_is g after) e.parts.counters_are
 
 pub returns-clause-closed : goal.returns-clause-closed
-returns-clause-closed g c =
-    let initial = g.N.PhaseName.initial in let workers = g.N.PhaseName.workers in let receipts = c.args.receipts.items in
-    let e = c.in_ok-journals.ensures in let h = c.in_ok-add_phase.ensures in let parts = c.in_ok-journals.field-0 in
-    let is_open = subst (IsOpen initial workers) c.self.view_is c.self.invariant.1 in
-    let same = all_kept g.K.Kind.IS_JOINED c.args.self receipts parts.slices.items (subst (IsEmptyIf g.K.Kind.IS_JOINED) (ap (λ (f : FloorState). f.stocks) c.self.view_is) c.self.invariant.0) c.requires e.slices in
-    reconciled initial workers c.args.self is_open receipts c.requires e.finished (map state_of c.close_kept-shards.result.0.items) c.args.history.now c.add_phase.new.self parts.journals.items parts.stashes.items parts.keys.items parts.counters.items parts.slices.items e.parts same h.added h.lawful c.close_kept-shards.ensures.closed
-    (map state_of c.reset_clocks.new.shards.items) (c.reset_clocks.ensures ∙ ap (map at_start) c.merge_all.ensures)
+returns-clause-closed g c = did g (goal.at.returns-clause-closed g c).After-reconciled-shards
 
 pub returns-clause-joined : goal.returns-clause-joined
 returns-clause-joined g c joined =
-    let initial = g.N.PhaseName.initial in let workers = g.N.PhaseName.workers in let receipts = c.args.receipts.items in
-    let e = c.in_ok-journals.ensures in let h = c.in_ok-add_phase.ensures in let parts = c.in_ok-journals.field-0 in
-    let is_open = subst (IsOpen initial workers) c.self.view_is c.self.invariant.1 in
-    let same = all_kept g.K.Kind.IS_JOINED c.args.self receipts parts.slices.items (subst (IsEmptyIf g.K.Kind.IS_JOINED) (ap (λ (f : FloorState). f.stocks) c.self.view_is) c.self.invariant.0) c.requires e.slices in
+    let after = (goal.at.returns-clause-joined g c).After-reconciled-shards in
     let cold = ap (λ (f : FloorState). f.stocks) (sym c.self.view_is) ∙ subst (λ (b : Bool). IsEmptyIf b c.self.inside.stocks.items) joined c.self.invariant.0 in
-    let states = map state_of c.reset_clocks.new.shards.items in
-    has_settled initial c.args.self receipts states (added c.args.history.now.entries c.add_phase.new.self.entries) cold c.requires
-    (reconciled initial workers c.args.self is_open receipts c.requires e.finished (map state_of c.close_kept-shards.result.0.items) c.args.history.now c.add_phase.new.self parts.journals.items parts.stashes.items parts.keys.items parts.counters.items parts.slices.items e.parts same h.added h.lawful c.close_kept-shards.ensures.closed
-    states (c.reset_clocks.ensures ∙ ap (map at_start) c.merge_all.ensures))
+    has_settled g.N.PhaseName.initial c.args.self c.args.receipts.items (map state_of c.reconciled-shards.result) (entries g after) cold c.requires (did g after)
 
 pub returns-clause-leaves : goal.returns-clause-leaves
 returns-clause-leaves g c =
-    let initial = g.N.PhaseName.initial in let workers = g.N.PhaseName.workers in let receipts = c.args.receipts.items in
-    let e = c.in_ok-journals.ensures in let h = c.in_ok-add_phase.ensures in let parts = c.in_ok-journals.field-0 in
-    let is_open = subst (IsOpen initial workers) c.self.view_is c.self.invariant.1 in
-    let same = all_kept g.K.Kind.IS_JOINED c.args.self receipts parts.slices.items (subst (IsEmptyIf g.K.Kind.IS_JOINED) (ap (λ (f : FloorState). f.stocks) c.self.view_is) c.self.invariant.0) c.requires e.slices in
-    leaves initial workers c.args.self is_open receipts c.requires e.finished (added c.args.history.now.entries c.add_phase.new.self.entries)
-    c.reset_clocks.new.shards.items (reconciled initial workers c.args.self is_open receipts c.requires e.finished (map state_of c.close_kept-shards.result.0.items) c.args.history.now c.add_phase.new.self parts.journals.items parts.stashes.items parts.keys.items parts.counters.items parts.slices.items e.parts same h.added h.lawful c.close_kept-shards.ensures.closed (map state_of c.reset_clocks.new.shards.items) (c.reset_clocks.ensures ∙ ap (map at_start) c.merge_all.ensures))
-    c.self.inside.opening c.self.inside.limit parts.counters.items (ap (λ (f : FloorState). f.opening) c.self.view_is) (ap (λ (f : FloorState). f.limit) c.self.view_is) e.parts.counters_are
+    let after = (goal.at.returns-clause-leaves g c).After-reconciled-shards in
+    let e = c.in_ok-journals.ensures in let parts = c.in_ok-journals.field-0 in
+    leaves g.N.PhaseName.initial g.N.PhaseName.workers c.args.self (is_open g after) c.args.receipts.items c.requires e.finished (entries g after) c.reconciled-shards.result (did g after)
+    c.self.inside.opening c.self.inside.limit parts.counters.items (opening_is g after) (limit_is g after) e.parts.counters_are
     (c.self.inside.phase + 1) parts.stashes.items (ap (λ (f : FloorState). f.phase + 1) c.self.view_is) e.parts.stashes_are
 
 pub returns-clause-history : goal.returns-clause-history

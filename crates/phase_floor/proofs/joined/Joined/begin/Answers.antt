@@ -1,11 +1,13 @@
 use Rattle.std.proofs.Common.{◌≡◌, ◌+◌, ◌<◌, ◌≤◌, ◌^◌, List, get_or, map, length, refl, sym, ap, ◌∙◌, subst}
 use Rattle.shard_boxes.specs.declared.limits.TheConstants.{MOST_COMMITS}
 use Rattle.shard_boxes.specs.States.{ShardState, AreInitial, state_of}
+use Rattle.auction_shards.specs.Shards.{AreOfOne}
 use Rattle.phase_permits.specs.Stashes.{StashState}
 use Rattle.phase_floor.specs.Begins.{AreKits, asked_in_all}
 use Rattle.phase_floor.specs.Floors.{AreStocksOf, stash_at}
 use Rattle.phase_floor.specs.States.{JoinedState, IsKept, joined_of, states_of}
 use Rattle.phase_floor.proofs.Begins.{waiting_within, within}
+use Rattle.phase_floor.proofs.Shards.{one_of_kept}
 use Rattle.phase_floor.proofs.joined.Joined.begin.Goals as goal
 
 pub new_kits-requires-clause-fit : goal.new_kits-requires-clause-fit
@@ -22,7 +24,7 @@ new_kits-requires-clause-stocked g c = c.requires.given.stocks.stocked
 pub invariant_of-floor : goal.invariant_of-floor
 invariant_of-floor g c =
     let is = c.self.view_is in
-    let states : map state_of c.self.inside.shards.items ≡ g.N.PhaseName.initial = ap states_of is ∙ c.requires.can.shards in (
+    let states : map state_of c.self.inside.shards ≡ g.N.PhaseName.initial = ap states_of is ∙ c.requires.can.shards in (
       c.requires.cold,
       record {
         kept = subst (λ s. IsKept c.self.inside.opening c.self.inside.limit s c.self.inside.counters.items) states c.self.invariant;
@@ -47,7 +49,7 @@ new_kits-requires-clause-few g c =
     subst (λ n. n ≤ 16) (ap (λ (s : JoinedState). length s.counters) c.self.view_is ∙ c.requires.can.workers ∙ sym c.requires.can.quotas) c.self.invariant.few_workers
 
 pub open-requires-clause-opening : goal.open-requires-clause-opening
-open-requires-clause-opening g c = ap states_of c.self.view_is ∙ c.requires.can.shards
+open-requires-clause-opening g c = ap (map state_of) c.into_vec.ensures ∙ ap states_of c.self.view_is ∙ c.requires.can.shards
 
 pub open-requires-clause-few : goal.open-requires-clause-few
 open-requires-clause-few g c =
@@ -71,13 +73,20 @@ give-permits-requires-clause-kits g c =
     subst (λ n. AreKits c.self.inside.phase c.args.stocks.items c.args.stashes.items c.args.quotas.now n c.in-Ok.kits.items) c.requires.can.quotas
     (subst (λ (stashes : List StashState). AreKits c.self.inside.phase c.args.stocks.items stashes c.args.quotas.now (length c.args.quotas.now) c.in-Ok.kits.items) c.deref.ensures.value c.in-Ok.ensures.each)
 
+pub from_vec-requires : goal.from_vec-requires
+from_vec-requires g c = subst AreOfOne (ap (map state_of) (sym (ap (λ shards. shards.items) c.in-Err.ensures.err ∙ c.into_vec.ensures))) (one_of_kept c.self.inside.opening c.self.inside.limit _ _ c.self.invariant)
+
 pub invariant_of-state : goal.invariant_of-state
 invariant_of-state g c =
-    subst (λ (states : List ShardState). IsKept c.self.inside.opening c.self.inside.limit states c.self.inside.counters.items) (ap (λ shards. map state_of shards.items) (sym c.in-Err.ensures.err)) c.self.invariant
+    subst (λ (states : List ShardState). IsKept c.self.inside.opening c.self.inside.limit states c.self.inside.counters.items)
+    (ap (map state_of) (sym (c.from_vec.ensures ∙ ap (λ shards. shards.items) c.in-Err.ensures.err ∙ c.into_vec.ensures))) c.self.invariant
 
 pub returns-in-Err-clause-refused : goal.returns-in-Err-clause-refused
-returns-in-Err-clause-refused g c =
-    (ap (λ shards. joined_of c.self.inside.opening c.self.inside.limit c.self.inside.phase shards.items c.self.inside.counters.items) c.in-Err.ensures.err ∙ c.self.view_is, refl)
+returns-in-Err-clause-refused g c = (
+  ap (λ shards. joined_of c.self.inside.opening c.self.inside.limit c.self.inside.phase shards c.self.inside.counters.items) (c.from_vec.ensures ∙ ap (λ shards. shards.items) c.in-Err.ensures.err ∙ c.into_vec.ensures)
+      ∙ c.self.view_is,
+  refl,
+)
 
 pub returns-in-Ok-open-clause-begun : goal.returns-in-Ok-open-clause-begun
 returns-in-Ok-open-clause-begun g c = record {

@@ -13,12 +13,12 @@ set_commits-requires c = stores_within c.self.inside.counters.items c.self.invar
 
 pub invariant_of-result : goal.invariant_of-result
 invariant_of-result c =
-    let states = map state_of c.self.inside.shards.items in
+    let states = map state_of c.self.inside.shards in
     subst (λ counters. IsKept c.self.inside.opening c.self.inside.limit states counters) (sym c.set_commits.ensures) (kept_next c.self.inside.counters.items c.self.inside.opening c.self.inside.limit states c.self.invariant)
 
 pub returns-clause-stands : goal.returns-clause-stands
 returns-clause-stands c = λ book stands.
-    let states = map state_of c.self.inside.shards.items in
+    let states = map state_of c.self.inside.shards in
     subst (λ counters. StandFor states counters book []) (sym c.set_commits.ensures)
     (stand_next c.self.inside.counters.items states book (subst (λ state. StandsFor state book) (sym c.self.view_is) stands))
 
@@ -32,4 +32,4 @@ returns-clause-of_a_book c = λ none.
 
 pub returns-clause-next : goal.returns-clause-next
 returns-clause-next c =
-    ap (λ counters. joined_of c.self.inside.opening c.self.inside.limit 0 c.self.inside.shards.items counters) c.set_commits.ensures ∙ ap for_next_run c.self.view_is
+    ap (λ counters. joined_of c.self.inside.opening c.self.inside.limit 0 c.self.inside.shards counters) c.set_commits.ensures ∙ ap for_next_run c.self.view_is

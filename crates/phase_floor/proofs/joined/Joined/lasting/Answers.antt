@@ -6,7 +6,7 @@ use Rattle.phase_floor.proofs.NextRunLemmas.{kept_longer}
 use Rattle.phase_floor.proofs.joined.Joined.lasting.Goals as goal
 
 pub invariant_of-result : goal.invariant_of-result
-invariant_of-result c = kept_longer c.self.inside.opening c.self.inside.limit (map state_of c.self.inside.shards.items) c.self.inside.counters.items c.self.invariant
+invariant_of-result c = kept_longer c.self.inside.opening c.self.inside.limit (map state_of c.self.inside.shards) c.self.inside.counters.items c.self.invariant
 
 pub returns-clause-lasts : goal.returns-clause-lasts
 returns-clause-lasts c = ap lasting c.self.view_is

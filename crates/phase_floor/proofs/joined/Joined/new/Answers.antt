@@ -9,10 +9,10 @@ pub invariant_of-result : goal.invariant_of-result
 invariant_of-result c =
     let shards = c.in_ok-shards.shards in let counters = c.in_ok-counters.counters in
     let many : length (replicate c.args.workers no_counters) ≡ c.args.workers = simp length-replicate in
-    blank_kept c.args.opening MOST_OF_A_WORKER shards.items counters.items c.args.shards c.args.workers c.in_ok-shards.ensures.blank (omega (arith, c.in_ok-shards.ensures.len, shards.ok.0)) c.in_ok-counters.ensures
+    blank_kept c.args.opening MOST_OF_A_WORKER shards counters.items c.args.shards c.args.workers c.in_ok-shards.ensures.blank c.in_ok-shards.ensures.count c.in_ok-counters.ensures
     (omega arith) c.requires.shards c.requires.workers (ap length c.in_ok-counters.ensures ∙ many)
 
 pub returns-clause-stands : goal.returns-clause-stands
 returns-clause-stands c =
     let shards = c.in_ok-shards.shards in let counters = c.in_ok-counters.counters in
-    blank_stands c.args.opening MOST_OF_A_WORKER shards.items counters.items c.args.shards c.args.workers c.in_ok-shards.ensures.blank (omega (arith, c.in_ok-shards.ensures.len, shards.ok.0)) c.in_ok-counters.ensures
+    blank_stands c.args.opening MOST_OF_A_WORKER shards counters.items c.args.shards c.args.workers c.in_ok-shards.ensures.blank c.in_ok-shards.ensures.count c.in_ok-counters.ensures

@@ -1,4 +1,5 @@
-use Rattle.std.proofs.Common.{◌<◌, ◌≤◌, ◌∷◌, [], All, take, sym, ap, subst, ◌∙◌, arith}
+use Rattle.std.proofs.Common.{◌<◌, ◌≤◌, ◌∷◌, [], All, length, take, sym, ap, subst, ◌∙◌, arith}
+use Rattle.std.proofs.lemmas.List.{take_all}
 use Rattle.std.proofs.lemmas.List.Elements.{All-get_or}
 use Rattle.auction_rows.specs.Book.{Book, worker_of}
 use Rattle.auction_rows.specs.History.{GoOn, IsBook}
@@ -7,7 +8,7 @@ use Rattle.item_shards.proofs.SerialLemmas.{next_goes_on, one_more}
 use Rattle.phase_permits.specs.declared.worker.Counters.{Counters}
 use Rattle.closing_laws.specs.Standing.{counters_at}
 use Rattle.phase_floor.specs.Resuming.{counters_in}
-use Rattle.phase_floor.specs.States.{IsBookOf}
+use Rattle.phase_floor.specs.States.{IsBookOf, StandsFor}
 use Rattle.phase_floor.proofs.ResumeLemmas.{before_fewer, each_next}
 use Rattle.phase_floor.proofs.joined.Joined.resume.Goals as goal
 
@@ -46,3 +47,36 @@ loop-row-preserved c =
           ∙ ap (λ b. counters_in b w) (sym more);
       book = subst (IsBookOf c.add_row.new.self) (sym more) (added.book (take i rows) was.book (subst (λ o. GoOn o (take i rows) (r ∷ [])) (sym was.opening) goes_on));
     }
+
+pub returns-clause-opening : goal.returns-clause-opening
+returns-clause-opening c = c.loop-row.invariant.opening
+
+pub returns-clause-limit : goal.returns-clause-limit
+returns-clause-limit c = c.loop-row.invariant.limit
+
+pub returns-clause-phase : goal.returns-clause-phase
+returns-clause-phase c = c.loop-row.invariant.phase
+
+pub returns-clause-shards : goal.returns-clause-shards
+returns-clause-shards c = c.loop-row.invariant.shards
+
+pub returns-clause-workers : goal.returns-clause-workers
+returns-clause-workers c = c.loop-row.invariant.workers
+
+pub returns-clause-counters : goal.returns-clause-counters
+returns-clause-counters c =
+    let rows = c.rows-row-items.result.now in let i = c.loop-row.row-index in let was = c.loop-row.invariant in
+    let done : length rows ≤ i = omega arith in
+    λ w low. was.counters w low ∙ ap (λ b. counters_in b w) (take_all i rows done ∙ c.rows-row-items.ensures.rows)
+
+pub returns-clause-stands : goal.returns-clause-stands
+returns-clause-stands c =
+    let rows = c.rows-row-items.result.now in let i = c.loop-row.row-index in let was = c.loop-row.invariant in
+    let done : length rows ≤ i = omega arith in
+    subst (StandsFor c.loop-row.joined) (take_all i rows done ∙ c.rows-row-items.ensures.rows) was.book.stands
+
+pub returns-clause-book : goal.returns-clause-book
+returns-clause-book c =
+    let rows = c.rows-row-items.result.now in let i = c.loop-row.row-index in let was = c.loop-row.invariant in
+    let done : length rows ≤ i = omega arith in
+    subst (IsBookOf c.loop-row.joined) (take_all i rows done ∙ c.rows-row-items.ensures.rows) was.book

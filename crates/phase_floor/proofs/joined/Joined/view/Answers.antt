@@ -1,30 +1,15 @@
-use Rattle.std.proofs.Common.{sym, ap, ◌∙◌}
-use Rattle.auction_rows.specs.declared.requests.Object.TheVariants.{Item, User, Category}
-use Rattle.auction_rows.specs.declared.requests.Request.TheVariants.{ViewItem, ViewBids, ViewCategory, ViewUser}
+use Rattle.std.proofs.Common.{[], map, sym, ap, ◌∙◌, subst}
+use Rattle.std.proofs.lemmas.Option.{IfSome_then}
 use Rattle.auction_rows.specs.Replies.{reply}
-use Rattle.phase_floor.proofs.Views.{replies}
+use Rattle.shard_boxes.specs.States.{state_of}
+use Rattle.auction_shards.specs.Shards.{ShardsStandFor}
+use Rattle.phase_floor.specs.States.{JoinedState, states_of}
+use Rattle.phase_floor.proofs.Shards.{opening_kept}
 use Rattle.phase_floor.proofs.joined.Joined.view.Goals as goal
 
-pub returns-in-ViewItem-clause-book : goal.returns-in-ViewItem-clause-book
-returns-in-ViewItem-clause-book c = λ book worker stands.
-    let opening = c.args.self.now.opening in let item = c.in-ViewItem.item in let shard = c.shard.result.now in
-    replies shard (Item item) opening c.view_item.result (ViewItem item) c.shard.ensures.opening c.view_item.ensures.book book (c.shard.ensures.books book stands) worker
-    ∙ ap (reply opening book worker) (sym c.in-ViewItem.is)
-
-pub returns-in-ViewBids-clause-book : goal.returns-in-ViewBids-clause-book
-returns-in-ViewBids-clause-book c = λ book worker stands.
-    let opening = c.args.self.now.opening in let item = c.in-ViewBids.item in let shard = c.shard-in-ViewBids in
-    replies shard.result.now (Item item) opening c.view_bids.result (ViewBids item) shard.ensures.opening c.view_bids.ensures.book book (shard.ensures.books book stands) worker
-    ∙ ap (reply opening book worker) (sym c.in-ViewBids.is)
-
-pub returns-in-ViewCategory-clause-book : goal.returns-in-ViewCategory-clause-book
-returns-in-ViewCategory-clause-book c = λ book worker stands.
-    let opening = c.args.self.now.opening in let category = c.in-ViewCategory.category in let shard = c.shard-in-ViewCategory in
-    replies shard.result.now (Category category) opening c.view_category.result (ViewCategory category) shard.ensures.opening c.view_category.ensures.book book (shard.ensures.books book stands) worker
-    ∙ ap (reply opening book worker) (sym c.in-ViewCategory.is)
-
-pub returns-in-ViewUser-clause-book : goal.returns-in-ViewUser-clause-book
-returns-in-ViewUser-clause-book c = λ book worker stands.
-    let opening = c.args.self.now.opening in let user = c.in-ViewUser.user in let shard = c.shard-in-ViewUser in
-    replies shard.result.now (User user) opening c.view_user.result (ViewUser user) shard.ensures.opening c.view_user.ensures.book book (shard.ensures.books book stands) worker
-    ∙ ap (reply opening book worker) (sym c.in-ViewUser.is)
+pub returns-clause-book : goal.returns-clause-book
+returns-clause-book c =
+    let opening_is = opening_kept c.self.inside.opening c.self.inside.limit (map state_of c.self.inside.shards) c.self.inside.counters.items c.self.invariant ∙ ap (λ (s : JoinedState). s.opening) c.self.view_is in
+    IfSome_then c.view.result c.view.ensures.book (λ seen each. λ book worker stands.
+    each book worker (subst (λ (s : JoinedState). ShardsStandFor (states_of s) book []) (sym c.self.view_is) stands.shards)
+    ∙ ap (λ opening. reply opening book worker c.args.request.now) opening_is)

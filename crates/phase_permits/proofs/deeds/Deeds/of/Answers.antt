@@ -1,22 +1,14 @@
-use Rattle.std.proofs.Common.{rules, ap}
+use Rattle.std.proofs.Common.{ap}
 use Rattle.auction_rows.specs.StoreReplies.{reply_of}
-use Rattle.phase_permits.proofs.ArmLemmas.{bid_arm, buy_arm, comment_arm}
+use Rattle.phase_permits.proofs.ArmLemmas.{buy_arm, comment_arm}
 use Rattle.phase_permits.proofs.deeds.Deeds.of.Goals as goal
 
-pub returns-in-BidStored-clause-good : goal.returns-in-BidStored-clause-good
-returns-in-BidStored-clause-good g c seen initial workers boxes key w held its =
-    let of = c.in-StoreBid in
-    bid_arm c.args.request.now (reply_of c.args.reply) its of.bidder of.item of.amount of.time c.in-BidStored.id _ of.is (ap reply_of c.in-BidStored.is)
-
 pub returns-in-CommentStored-clause-good : goal.returns-in-CommentStored-clause-good
-returns-in-CommentStored-clause-good g c seen initial workers boxes key w held its =
+returns-in-CommentStored-clause-good c seen initial workers boxes key w held its =
     let of = c.in-StoreComment in
     comment_arm c.args.request.now (reply_of c.args.reply) its of.author of.about of.item of.stars of.is
 
 pub returns-in-Bought-clause-good : goal.returns-in-Bought-clause-good
-returns-in-Bought-clause-good g c seen initial workers boxes key w held its =
+returns-in-Bought-clause-good c seen initial workers boxes key w held its =
     let of = c.in-BuyNow in
     buy_arm c.args.request.now (reply_of c.args.reply) its of.buyer of.item of.quantity of.time c.in-Bought.field-0 of.is (ap reply_of c.in-Bought.is)
-
-pub returns-in-BidStored-clause-owed : goal.returns-in-BidStored-clause-owed
-returns-in-BidStored-clause-owed g c = search rules

@@ -1,4 +1,5 @@
 use Rattle.std.proofs.Common.{◌<◌, List, [], ◌∷◌, Some, slice_get, refl, sym, ap, subst, ◌∙◌, arith}
+use Rattle.std.specs.Prelude.{IfSome}
 use Rattle.auction_rows.specs.declared.requests.Object.TheVariants.{Category}
 use Rattle.auction_rows.specs.declared.values.Opening.{Opening}
 use Rattle.auction_rows.specs.Requests.{shard_of}
@@ -10,7 +11,7 @@ use Rattle.shard_boxes.specs.Lines.{after_line, seen_line}
 use Rattle.shard_boxes.specs.States.{ShardState, state_of}
 use Rattle.phase_permits.specs.Workers.{IsIdle}
 use Rattle.phase_permits.proofs.KeyLemmas.{idle_put}
-use Rattle.phase_tests.proofs.permits.ClosedLemmas.{first_lies}
+use Rattle.phase_tests.proofs.permits.ClosedLemmas.{first_has}
 use Rattle.phase_tests.proofs.boxes.line_tests.put_by_hand.Goals as goal
 
 pub list-line-requires-clause-here : goal.list-line-requires-clause-here
@@ -43,8 +44,7 @@ close_one-shards-requires-clause-idle g c =
     subst IsIdle (sym (c.put.ensures ∙ (λ i. putting (take.key i) (take.number i) line)))
     (idle_put key 0 seen line (omega (arith, take.seats, c.requires.four)) (λ s. (c.in_ok-boxes.ensures.unused s).0))
 
-pub category_seen-requires : goal.category_seen-requires
-category_seen-requires g c =
-    let first = ap (λ (shards : List Shard). slice_get shards 0) (sym c.deref.ensures.value) ∙ sym c.in-Some.ensures.value in
-    first_lies (Category 0) refl g.N.PhaseName.initial g.N.PhaseName.workers (c.put.new.key ∷ []) c.close_one-shards.result.items c.in-Some.shard.now c.requires.four c.close_one-shards.ensures
-    first
+pub assert_listed-requires : goal.assert_listed-requires
+assert_listed-requires g c =
+    subst (λ (shards : List Shard). IfSome (slice_get shards 0) (λ shard. LiesIn shard (Category 0))) (sym c.deref.ensures.value)
+    (first_has (Category 0) refl g.N.PhaseName.initial g.N.PhaseName.workers (c.put.new.key ∷ []) c.close_one-shards.result.items c.requires.four c.close_one-shards.ensures)

@@ -1,5 +1,5 @@
 use Rattle.std.proofs.Common.{◌≡◌, ℕ, ◌*◌, ◌-◌, ◌^◌, ◌≤◌, ◌<◌, min, arith}
-use Rattle.worker_journals.specs.Sides.{HasListRoom}
+use Rattle.request_scripts.specs.ShortRequests.{HasListRoom}
 use Rattle.worker_journals.proofs.sides.Sides.with_room.Goals as goal
 
 one_each : (len capacity room : ℕ) → len ≡ 0 → room ≤ capacity → HasListRoom room len capacity

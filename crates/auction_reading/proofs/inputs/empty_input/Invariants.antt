@@ -1,8 +1,0 @@
-use Rattle.std.proofs.Common.{◌≡◌, [], replicate, vec_len}
-use Rattle.auction_reading.proofs.inputs.empty_input.Given as goal
-
-abbrev pub invariant-loop : goal.invariant-loop
-invariant-loop l = record {
-  empty : l.scripts.items ≡ replicate l.counter [];
-  count : vec_len l.scripts ≡ l.counter;
-}

@@ -1,7 +1,0 @@
-use Rattle.std.proofs.Common.{◌≡◌, ◌++◌}
-use Rattle.auction_run.specs.Ranking.{hot_ones}
-use Rattle.auction_run.proofs.choice.candidates.Given as goal
-
--- the candidates so far and those of the rows that are left are those of the table
-abbrev pub invariant-loop-object : goal.invariant-loop-object
-invariant-loop-object l = l.candidates.items ++ hot_ones l.threshold l.object-iterator ≡ hot_ones l.threshold l.heats.entries

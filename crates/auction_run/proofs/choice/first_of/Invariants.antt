@@ -1,6 +1,0 @@
-use Rattle.std.proofs.Common.{◌≡◌, map, take}
-use Rattle.auction_run.proofs.choice.first_of.Given as goal
-
--- the objects of the candidates so far
-abbrev pub invariant-loop-candidate : goal.invariant-loop-candidate
-invariant-loop-candidate l = l.hot.keys ≡ map (λ c. c.object) (take l.candidate-index l.candidates)

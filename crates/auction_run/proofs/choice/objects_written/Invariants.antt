@@ -1,7 +1,0 @@
-use Rattle.std.proofs.Common.{◌≡◌, take}
-use Rattle.auction_rows.specs.Choosing.{objects_written}
-use Rattle.auction_run.proofs.choice.objects_written.Given as goal
-
--- those of the entries so far
-abbrev pub invariant-loop-entry : goal.invariant-loop-entry
-invariant-loop-entry l = l.objects.items ≡ objects_written (take l.entry-index l.entries)

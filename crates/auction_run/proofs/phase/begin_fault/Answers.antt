@@ -1,5 +1,0 @@
-use Rattle.std.proofs.Common.{refl}
-use Rattle.auction_run.proofs.phase.begin_fault.Goals as goal
-
-pub returns : goal.returns
-returns c = refl

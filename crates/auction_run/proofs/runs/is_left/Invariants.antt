@@ -1,7 +1,0 @@
-use Rattle.std.proofs.Common.{◌≡◌, ℕ, ◌<◌, ◌≤◌, length}
-use Rattle.run_laws.specs.Serving.{script_of}
-use Rattle.auction_run.specs.Phases.{waiting_in}
-use Rattle.auction_run.proofs.runs.is_left.Given as goal
-
-abbrev pub invariant-loop-worker : goal.invariant-loop-worker
-invariant-loop-worker l = (w : ℕ) → w < l.worker → (length (script_of l.scripts w) ≤ l.first) × (length (waiting_in l.stashes w) ≡ 0)

@@ -1,7 +1,0 @@
-use Rattle.std.proofs.Common.{sym, ◌∙◌}
-use Rattle.std.proofs.lemmas.Bool.{false≢true}
-use Rattle.auction_run.proofs.PhaseLemmas.{even_joined}
-use Rattle.auction_run.proofs.runs.next_hot.Goals as goal
-
-pub returns-then-phase-eq0-clause-split : goal.returns-then-phase-eq0-clause-split
-returns-then-phase-eq0-clause-split c = λ split. absurd (false≢true (sym (even_joined c.phase.ensures c.if-phase-eq0.true) ∙ split))

@@ -1,9 +1,0 @@
-use Rattle.std.proofs.Common.{◌≡◌, ℕ, [], length}
-use Rattle.auction_run.specs.Phases.{waiting_in}
-use Rattle.auction_run.proofs.runs.no_stashes.Given as goal
-
-abbrev pub invariant-loop-worker : goal.invariant-loop-worker
-invariant-loop-worker l = record {
-  len : length l.stashes.items ≡ l._worker;
-  none : (w : ℕ) → waiting_in l.stashes.items w ≡ [];
-}

@@ -1,9 +1,0 @@
-use Rattle.std.proofs.Common.{rules, sym, subst}
-use Rattle.auction_run.specs.Boards.{CanShow}
-use Rattle.auction_run.proofs.runs.show_phase.Goals as goal
-
-pub publish-requires : goal.publish-requires
-publish-requires g c = λ watched. subst (CanShow g.B.Board.has c.args.board.now) (sym c.in_ok-rows.ensures) (c.requires watched)
-
-pub returns : goal.returns
-returns g c = search rules

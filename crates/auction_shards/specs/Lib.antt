@@ -1,0 +1,4 @@
+pub mod Shards
+pub mod Making
+pub mod Writing
+pub mod Merging

@@ -1,0 +1,6 @@
+use Rattle.std.proofs.Common.{◌≡◌, subst}
+use Rattle.std.specs.Prelude.{◌↔◌, List, IsTrue, ℕ}
+use Rattle.auction_text.proofs.writing.replies.ReplyText.is_of.Goals as goal
+
+pub returns : goal.returns
+returns c = subst (λ (told : List ℕ). IsTrue c.is_text_of.result ↔ (c.args.text.now ≡ told)) c.set_reply.ensures c.is_text_of.ensures

@@ -1,3 +1,0 @@
-//! Tests of `phase_workers`: the fault that it tells where a worker met one.
-mod testing;
-mod tests;

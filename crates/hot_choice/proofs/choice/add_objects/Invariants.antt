@@ -1,0 +1,10 @@
+use Rattle.std.proofs.Common.{◌≡◌, ◌++◌}
+use Rattle.auction_rows.specs.Choosing.{objects_written}
+use Rattle.hot_choice.proofs.choice.add_objects.Given as goal
+
+-- those of the entries so far are added
+abbrev pub invariant-loop-entry : goal.invariant-loop-entry
+invariant-loop-entry l = record {
+  all : l.yielded ++ l.entry-iterator ≡ l.journal.entries;
+  added : l.objects.items ≡ l.fn.objects.items ++ objects_written l.yielded;
+}

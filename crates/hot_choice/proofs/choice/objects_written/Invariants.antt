@@ -1,0 +1,7 @@
+use Rattle.std.proofs.Common.{◌≡◌, take}
+use Rattle.auction_rows.specs.Choosing.{objects_written}
+use Rattle.hot_choice.proofs.choice.objects_written.Given as goal
+
+-- those of the entries so far
+abbrev pub invariant-loop-entry : goal.invariant-loop-entry
+invariant-loop-entry l = l.objects.items ≡ objects_written (take l.entry-index l.entries)

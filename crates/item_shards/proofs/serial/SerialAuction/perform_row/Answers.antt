@@ -1,0 +1,49 @@
+use Rattle.std.proofs.Common.{◌≡◌, ◌<◌, Option, None, Some, ◌++◌, sym, ap, subst, ◌∙◌, option_to_list}
+use Rattle.std.proofs.lemmas.List.{append-nil}
+use Rattle.auction_rows.specs.Book.{Book}
+use Rattle.auction_rows.specs.Replies.{reply, row_of}
+use Rattle.auction_rows.specs.declared.rows.Row.{Row}
+use Rattle.item_shards.specs.Serial.{serial_opening, HoldsBook}
+use Rattle.item_shards.proofs.SerialLemmas.{goes_on, worker_of_added}
+use Rattle.item_shards.proofs.serial.SerialAuction.perform_row.Goals as goal
+
+pub returns-in_default-clause-book : goal.returns-in_default-clause-book
+returns-in_default-clause-book c = λ b holds not_full.
+    let start = serial_opening c.args.self.now in
+    let none = c.in_default.ensures.view (reply start b c.args.worker c.args.request.now) in
+    subst (λ (after : Book). HoldsBook c.args.self.now after) (sym (ap (λ (o : Option Row). b ++ option_to_list o) none ∙ append-nil b)) holds
+
+pub store-requires : goal.store-requires
+store-requires c =
+    let start = serial_opening c.args.self.now in
+    let w = c.args.worker in
+    let request = c.args.request.now in
+    let b = c.requires.room.book in
+    let row = c.in-Some-row_of_store.row in
+    let is : row_of w request (reply start b w request) ≡ Some row =
+    ap (row_of w request) (sym (c.in-Some.ensures.reply b c.requires.room.holds)) ∙ sym c.row_of_store.ensures ∙ c.in-Some-row_of_store.is in
+    record {
+      book = b;
+      holds = c.requires.room.holds;
+      not_full = c.requires.room.not_full;
+      goes_on = goes_on start b w request row is;
+      worker = subst (λ v. v < 16) (sym (worker_of_added start b w request row is)) c.requires.worker;
+    }
+
+pub returns-in_ok-store-clause-book : goal.returns-in_ok-store-clause-book
+returns-in_ok-store-clause-book c = λ b holds not_full.
+    let start = serial_opening c.args.self.now in
+    let w = c.args.worker in
+    let request = c.args.request.now in
+    let added : row_of w request (reply start b w request) ≡ Some c.in-Some-row_of_store.row =
+    ap (row_of w request) (sym (c.in-Some.ensures.reply b holds)) ∙ sym c.row_of_store.ensures ∙ c.in-Some-row_of_store.is in
+    subst (λ (o : Option Row). HoldsBook c.store.new.self (b ++ option_to_list o)) (sym added) (c.in_ok-store.ensures.stored b holds not_full)
+
+pub returns-in_default-row_of_store-clause-book : goal.returns-in_default-row_of_store-clause-book
+returns-in_default-row_of_store-clause-book c = λ b holds not_full.
+    let start = serial_opening c.args.self.now in
+    let w = c.args.worker in
+    let request = c.args.request.now in
+    let none : row_of w request (reply start b w request) ≡ None =
+    ap (row_of w request) (sym (c.in-Some.ensures.reply b holds)) ∙ sym c.row_of_store.ensures ∙ c.in_default-row_of_store.is in
+    subst (λ (after : Book). HoldsBook c.args.self.now after) (sym (ap (λ (o : Option Row). b ++ option_to_list o) none ∙ append-nil b)) holds

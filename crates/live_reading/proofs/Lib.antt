@@ -1,0 +1,6 @@
+pub mod LineBufferLemmas
+pub mod LiveLineLemmas
+pub mod LivePartLemmas
+pub mod LiveTakingLemmas
+pub mod MarkLemmas
+pub mod TakingLemmas

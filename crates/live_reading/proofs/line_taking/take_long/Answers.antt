@@ -1,0 +1,13 @@
+use Rattle.std.proofs.Common.{arith, ◌≡◌, ◌+◌, ◌∙◌, ap, refl}
+use Rattle.csv.specs.Reading.{default_config, records}
+use Rattle.live_reading.specs.LiveLines.{first_worker}
+use Rattle.live_reading.proofs.LiveTakingLemmas.{from_long}
+use Rattle.live_reading.proofs.line_taking.take_long.Goals as goal
+
+pub returns-clause-takes : goal.returns-clause-takes
+returns-clause-takes g c =
+    let workers = c.args.workers in
+    let place : c.in-Some.place ≡ c.args.taken.now.count + 1 = omega (arith, c.in-Some.ensures) in
+    from_long g.R.Read.remaining workers c.args.lines.now c.skip_line.new.lines c.args.taken.now _ c.clear.new.self c.in_ok-worker.worker c.in-Some.place c.requires.no_feed c.requires.full
+    c.clear.ensures.underneath c.clear.ensures.held c.in_ok-skip_line.ensures.passes
+    (c.in_ok-worker.ensures.value ∙ ap (λ xs. first_worker workers (records default_config xs)) c.held.ensures.value) place refl

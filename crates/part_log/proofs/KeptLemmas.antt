@@ -1,0 +1,44 @@
+-- What a log has accepted of its file, as the file is cut or added to.
+use Rattle.std.proofs.Common.{◌≡◌, ◌∙◌, ℕ, Bool, List, Option, None, Some, ap, arith, le_of_eq, length-append, refl, subst, sym, take}
+use Rattle.std.proofs.lemmas.List.{length-take-le, take-append-le, take-take}
+use Rattle.std.specs.Io.KnownBytes.{append_known}
+use Rattle.std.specs.Option.{option_map}
+use Rattle.part_log.specs.Files.{HoldsSoMany, IsKeptIn}
+
+pub cut_twice : (kept : ℕ) (known : Option (List ℕ)) → option_map (take kept) (option_map (take kept) known) ≡ option_map (take kept) known
+cut_twice kept None = refl
+cut_twice kept (Some bytes) = ap Some (take-take kept kept bytes (omega arith))
+
+cut_holds : (held : Option (List ℕ)) (kept : ℕ) (ended : Bool) → HoldsSoMany held kept → IsKeptIn (option_map (take kept) held) kept ended
+cut_holds None kept ended many = (tt, λ goes_on. tt)
+cut_holds (Some bytes) kept ended many = let long = length-take-le kept bytes many in (le_of_eq (sym long), λ goes_on. long)
+
+grown_holds : (held : Option (List ℕ)) (kept : ℕ) (bytes : List ℕ) → HoldsSoMany held kept → HoldsSoMany (append_known held bytes) kept
+grown_holds None kept bytes many = tt
+grown_holds (Some known) kept bytes many = omega (arith, many, length-append known bytes)
+
+grown_cut : (held : Option (List ℕ)) (kept : ℕ) (bytes : List ℕ) → HoldsSoMany held kept → option_map (take kept) (append_known held bytes) ≡ option_map (take kept) held
+grown_cut None kept bytes many = refl
+grown_cut (Some known) kept bytes many = ap Some (take-append-le kept known bytes many)
+
+module _ (held synced new_held new_synced : Option (List ℕ)) (kept : ℕ) (ended : Bool)
+    (is : IsKeptIn held kept ended) (same : option_map (take kept) held ≡ option_map (take kept) synced) where
+  -- cut to what was accepted, it holds just this
+  pub cut_kept : new_held ≡ option_map (take kept) held → new_synced ≡ option_map (take kept) synced → IsKeptIn new_held kept ended × (option_map (take kept) new_held ≡ option_map (take kept) new_synced)
+  cut_kept cut cut_synced =
+      (subst (λ h. IsKeptIn h kept ended) (sym cut) (cut_holds held kept ended is.0), ap (option_map (take kept)) (cut ∙ same ∙ sym cut_synced))
+
+  pub cut_found : new_held ≡ option_map (take kept) held → new_synced ≡ option_map (take kept) synced → new_held ≡ option_map (take kept) new_synced
+  cut_found cut cut_synced = cut ∙ same ∙ sym (cut_twice kept synced) ∙ ap (option_map (take kept)) (sym cut_synced)
+
+  -- not cut, it is as it was
+  pub not_cut : new_held ≡ held → new_synced ≡ synced → IsKeptIn new_held kept ended × (option_map (take kept) new_held ≡ option_map (take kept) new_synced)
+  not_cut stays stays_synced =
+      (subst (λ h. IsKeptIn h kept ended) (sym stays) is, ap (option_map (take kept)) stays ∙ same ∙ ap (option_map (take kept)) (sym stays_synced))
+
+  -- with bytes at its end that are not accepted, it holds what was
+  pub grown : (bytes : List ℕ) → new_held ≡ append_known held bytes → new_synced ≡ synced → HoldsSoMany new_held kept × (option_map (take kept) new_held ≡ option_map (take kept) new_synced)
+  grown bytes more stays_synced = (
+    subst (λ h. HoldsSoMany h kept) (sym more) (grown_holds held kept bytes is.0),
+    ap (option_map (take kept)) more ∙ grown_cut held kept bytes is.0 ∙ same ∙ ap (option_map (take kept)) (sym stays_synced),
+  )

@@ -1,0 +1,11 @@
+use Rattle.std.proofs.Common.{◌∷◌, [], map, subst, arith}
+use Rattle.phase_floor.specs.Begins.{empty_stash}
+use Rattle.phase_floor.specs.Closings.{AreReceiptsOf}
+use Rattle.phase_floor.proofs.Receipts.{begun_receipts}
+use Rattle.phase_tests.proofs.calls.split.split_phase.Goals as goal
+
+pub perform-requires : goal.perform-requires
+perform-requires g c =
+    let begun = c.in_ok-floor in
+    let receipts = begun_receipts begun.floor (8 ∷ []) (map empty_stash (8 ∷ [])) begun.permits.items begun.ensures.permits in
+    (subst (AreReceiptsOf begun.floor) c.only-permit.ensures receipts).1 0 (omega (arith, begun.ensures.workers))

@@ -1,0 +1,82 @@
+use Rattle.std.proofs.Common.{◌≡◌, ℕ, ◌+◌, ◌-◌, ◌≤◌, List, [], ◌∷◌, ◌++◌, length, refl, sym, ap, subst, ◌∙◌, arith}
+use Rattle.std.proofs.lemmas.Bool.{false≢true}
+use Rattle.std.specs.List.{AllByRecursion}
+use Rattle.auction_rows.specs.declared.requests.Request.{Request}
+use Rattle.shard_boxes.specs.Keys.{BoxId}
+use Rattle.shard_boxes.specs.States.{ShardState}
+use Rattle.worker_journals.specs.Journals.{JournalView}
+use Rattle.phase_permits.specs.Workers.{WorkerState}
+use Rattle.phase_permits.specs.Performing.{HaveOpening}
+use Rattle.phase_workers.specs.Tasks.{task, tasks, CanBeDone}
+use Rattle.phase_workers.specs.Working.{stashed, ArePermitsOf, IsPermitOf}
+use Rattle.phase_tests.proofs.workers.fault_tests.fault_at_the_end.Goals as goal
+
+-- the task of one worker, who has no script
+alone : (initial : List ShardState) (boxes : List BoxId) (permit : WorkerState) (permits : List WorkerState) (scripts : List (List Request))
+    → permits ≡ permit ∷ [] → scripts ≡ [] ∷ [] → CanBeDone initial boxes (task permit [] 0)
+    → AllByRecursion (CanBeDone initial boxes) (tasks permits scripts 0)
+alone initial boxes permit permits scripts is are can =
+    subst (λ (ps : List WorkerState). AllByRecursion (CanBeDone initial boxes) (tasks ps scripts 0)) (sym is)
+    (subst (λ (ss : List (List Request)). AllByRecursion (CanBeDone initial boxes) (tasks (permit ∷ []) ss 0)) (sym are) (can, tt))
+
+of_one : (permit : WorkerState) (permits : List WorkerState) → permits ≡ permit ∷ [] → IsPermitOf 0 0 permit → ArePermitsOf 0 0 permits
+of_one permit permits is of = subst (λ (ps : List WorkerState). ArePermitsOf 0 0 ps) (sym is) (of, tt)
+
+none_is_short : 0 ≤ 1000000
+none_is_short = omega arith
+
+given_none : (left : ℕ) → left ≡ 0 → left ≤ 0 - 0
+given_none left none = omega (arith, none)
+
+one_waits : (before waiting : List (ℕ × Request)) (call : ℕ × Request) → before ≡ [] → waiting ≡ before ++ call ∷ [] → length waiting ≡ 1
+one_waits before waiting call none is = ap length is ∙ ap (λ (calls : List (ℕ × Request)). length (calls ++ call ∷ [])) none
+
+few_tries : (tries waiting left : ℕ) → tries ≡ 0 → waiting ≡ 1 → left ≡ 0 → tries + waiting + left ≤ 1000000000
+few_tries tries waiting left none one empty = omega (arith, none, one, empty)
+
+pub serve_all-requires-clause-can : goal.serve_all-requires-clause-can
+serve_all-requires-clause-can g c = λ lifetimes within.
+    let permit = c.new-permit.result in
+    let made = c.new-permit.ensures in
+    let left = ap (λ (p : WorkerState). p.left) made in
+    alone g.N.PhaseName.initial c.args.boxes.now permit _ _
+    (c.push_reserved.ensures.items ∙ ap (λ (l : List WorkerState). l ++ permit ∷ []) c.in_ok-permits.ensures.items)
+    c.requires.scripts
+    (record {
+      boxes_are = ap (λ (p : WorkerState). p.key.boxes) made ∙ c.requires.of;
+      opening_is = subst (HaveOpening g.N.PhaseName.initial) (sym (ap (λ (p : WorkerState). p.opening) made)) c.requires.users;
+      short = none_is_short;
+      given = given_none permit.left left;
+      tries = few_tries permit.tries (length (stashed permit)) permit.left
+          (ap (λ (p : WorkerState). p.tries) made)
+          (ap (λ (p : WorkerState). length (stashed p)) made ∙ one_waits _ _ _ c.in_ok-stash.ensures.empty c.push.ensures.added) left;
+    })
+
+pub serve_all-requires-clause-of : goal.serve_all-requires-clause-of
+serve_all-requires-clause-of g c = λ lifetimes within.
+    let permit = c.new-permit.result in
+    let made = c.new-permit.ensures in
+    of_one permit _
+    (c.push_reserved.ensures.items ∙ ap (λ (l : List WorkerState). l ++ permit ∷ []) c.in_ok-permits.ensures.items)
+    (record {
+      phase_is = ap (λ (p : WorkerState). p.journal.phase) made ∙ ap (λ (j : JournalView). j.phase) c.in_ok-journal.ensures;
+      worker_is = ap (λ (p : WorkerState). p.key.worker) made ∙ c.requires.worker;
+    })
+
+pub new-permit-requires : goal.new-permit-requires
+new-permit-requires g c =
+    let journal = c.in_ok-journal.ensures in
+    let waits = one_waits _ _ _ c.in_ok-stash.ensures.empty c.push.ensures.added in
+    let zero = c.default-counters.ensures in
+    let none = zero.1.1.1.1 in
+    record {
+      key = c.requires.unused;
+      worker = ap (λ (j : JournalView). j.worker) journal ∙ sym c.requires.worker;
+      empty = ap (λ (j : JournalView). j.entries) journal;
+      identities = refl;
+      room = omega (arith, waits, ap (λ (j : JournalView). j.room) journal);
+      stash_room = tt;
+      limit = omega (arith, waits, none);
+      counted = record { items = omega (arith, zero.0, none); bids = omega (arith, zero.1.0, none); comments = omega (arith, zero.1.1.0, none); buys = omega (arith, zero.1.1.1.0, none) };
+      stored = λ item hot own. absurd (false≢true hot);
+    }

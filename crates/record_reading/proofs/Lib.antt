@@ -1,0 +1,14 @@
+pub mod AskingLemmas
+pub mod BufferLemmas
+pub mod DigitLemmas
+pub mod KindLemmas
+pub mod LateRows
+pub mod LineLemmas
+pub mod NameLemmas
+pub mod NumberLemmas
+pub mod NumeralLemmas
+pub mod PlainFieldLemmas
+pub mod PlainLineLemmas
+pub mod QuotedFieldLemmas
+pub mod RecordsLeft
+pub mod WholeLineLemmas

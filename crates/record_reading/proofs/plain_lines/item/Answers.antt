@@ -1,0 +1,10 @@
+use Rattle.std.proofs.Common.{◌∙◌, sym}
+use Rattle.record_reading.proofs.PlainLineLemmas.{item_in_place}
+use Rattle.record_reading.proofs.plain_lines.item.Goals as goal
+
+pub returns : goal.returns
+returns c =
+    item_in_place c.args.text.now c.args.at c.in_ok-seller.seller c.in_ok-seller.at_category c.in_ok-category.category c.in_ok-category.at_name c.in_ok-field.field.now _
+    c.in_ok-field.at_start c.in_ok-start.start c.in_ok-start.at_closes c.in_ok-closes.closes c.in_ok-closes.at_time c.in_ok-time.time _ c.in_ok-time.next
+    c.in_ok-seller.ensures c.in_ok-category.ensures c.in_ok-field.ensures (sym c.read_name.ensures ∙ c.in_ok-name.was)
+    c.in_ok-start.ensures c.in_ok-closes.ensures c.in_ok-time.ensures

@@ -1,0 +1,2 @@
+pub mod ShortRequests
+pub mod Scripts

@@ -1,0 +1,145 @@
+//! A worker's script, compact: in few bytes a request.
+ghost use Rattle.std.specs.Prelude.{◌≡◌, ◌<◌, ◌++◌, ◌∷◌, ◌==◌, [], Some, length, slice_get, vec_len, vec_capacity, IfOk, IfSome, OnOk, OnErr};
+
+use crate::short_request::{ShortRequest, facts_stored, keep_request};
+use auction_rows::{Facts, Request};
+use std::alloc::{AllocError, Global};
+use std::marker::Model;
+
+// For how many requests more a full script asks for room, at least.
+const REQUESTS_MORE: usize = 128;
+
+/// A worker's script, compact: its requests in their order, each in 32 bytes; the facts of items
+/// that they store lie in a list of their own. Contracts see the list of requests.
+#[derive(Drop)]
+pub struct Script {
+    requests: Vec<ShortRequest>,
+    facts: Vec<Facts>,
+}
+
+impl Model for Script {
+    ghost use Rattle.std.specs.Prelude.{List};
+    ghost use Rattle.auction_rows.specs.declared.requests.Request.{Request as Asked};
+    ghost use Rattle.request_scripts.specs.ShortRequests.{requests_from, HaveRequests};
+
+    ghost Value = { List Asked };
+
+    ghost view = { λ s. requests_from s.facts.items s.requests.items };
+
+    ghost invariant = { λ s. HaveRequests s.facts.items s.requests.items };
+}
+
+impl Script {
+    ghost use Rattle.auction_rows.specs.declared.requests.Request.{Request as Asked};
+    ghost use Rattle.request_scripts.specs.Scripts.{only_bid};
+
+    /// A script with no request.
+    pub fn new(alloc: Global) -> Script
+        ensures { result ≡ [] }
+    {
+        Script {
+            requests: Vec::new(alloc),
+            facts: Vec::new(alloc),
+        }
+    }
+
+    /// The script of these requests.
+    pub fn of(alloc: Global, requests: &[Request]) -> Result<Script, AllocError>
+        ensures { IfOk result (λ script. script ≡ requests.now) }
+    {
+        let mut script = Script::new(alloc);
+        for request in requests {
+            script.push(request)?;
+        }
+        Ok(script)
+    }
+
+    /// Adds a request. If memory is refused, the script has the requests that it had.
+    #[inline(always)]
+    pub fn push(&mut self, request: &Request) -> Result<(), AllocError>
+        ensures pushed { OnOk result (self.new ≡ self.old ++ request.now ∷ []) }
+        ensures refused { OnErr result (self.new ≡ self.old) }
+    {
+        self.facts.reserve(facts_stored(request))?;
+        make_room(&mut self.requests)?;
+        let short = keep_request(&mut self.facts, request);
+        self.requests.push_reserved(short);
+        Ok(())
+    }
+
+    /// How many requests there are.
+    #[inline(always)]
+    pub fn len(&self) -> usize
+        ensures { result ≡ length self.now }
+    {
+        self.requests.len()
+    }
+
+    /// Whether there is no request.
+    pub fn is_empty(&self) -> bool
+        ensures { result ≡ (length self.now == 0) }
+    {
+        self.requests.is_empty()
+    }
+
+    /// The request at a place from 0, made whole.
+    #[inline(always)]
+    pub fn request(&self, place: usize) -> Request
+        requires { place < length self.now }
+        ensures { slice_get self.now place ≡ Some result }
+    {
+        self.requests[place].whole(&self.facts)
+    }
+
+    /// The request at a place from 0, if it is a bid: the compiler knows the kind of what is given.
+    #[inline(always)]
+    pub fn bid(&self, place: usize) -> Option<Request>
+        requires { place < length self.now }
+        ensures bid { IfSome result (λ bid. slice_get self.now place ≡ Some bid) }
+        ensures all { (request : Asked) → slice_get self.now place ≡ Some request →
+            result ≡ only_bid request }
+    {
+        match self.requests[place] {
+            ShortRequest::StoreBid(bidder, item, amount, time) => Some(Request::StoreBid {
+                bidder,
+                item,
+                amount,
+                time,
+            }),
+            _ => None,
+        }
+    }
+
+    /// All requests, made whole.
+    pub fn to_requests(&self, alloc: Global) -> Result<Vec<Request>, AllocError>
+        ensures { IfOk result (λ requests. requests.items ≡ self.now) }
+    {
+        let mut requests = Vec::with_capacity(alloc, self.len())?;
+        for place in 0..self.len() {
+            requests.push(self.request(place))?;
+        }
+        Ok(requests)
+    }
+}
+
+// Room for one request more.
+#[inline(always)]
+fn make_room(requests: &mut Vec<ShortRequest>) -> Result<(), AllocError>
+    ensures same { requests.new.items ≡ requests.old.items }
+    ensures room { OnOk result (vec_len requests.new < vec_capacity requests.new) }
+{
+    if requests.len() < requests.capacity() {
+        return Ok(());
+    }
+    make_more_room(requests)
+}
+
+// Room for many requests more, apart so that the test is inlined.
+#[cold]
+#[inline(never)]
+fn make_more_room(requests: &mut Vec<ShortRequest>) -> Result<(), AllocError>
+    ensures same { requests.new.items ≡ requests.old.items }
+    ensures room { OnOk result (vec_len requests.new < vec_capacity requests.new) }
+{
+    requests.reserve(REQUESTS_MORE)
+}

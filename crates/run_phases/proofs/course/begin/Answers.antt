@@ -1,0 +1,15 @@
+use Rattle.std.proofs.Common.{◌∙◌, ap, refl}
+use Rattle.worker_journals.specs.Histories.{HistoryView}
+use Rattle.worker_journals.specs.Merged.{merged}
+use Rattle.worker_journals.proofs.HistoryLemmas.{merged_nothing}
+use Rattle.run_phases.proofs.RunLemmas.{begun}
+use Rattle.run_phases.proofs.course.begin.Goals as goal
+
+pub returns : goal.returns
+returns c =
+    record {
+      limit = refl;
+      running = λ rows policy begins. begun c.args.state.opening rows policy c.args.scripts.now _
+          begins.phase_is refl begins.stands begins.shards_are begins.workers_are begins.commits
+          (ap (λ (h : HistoryView). h.entries) c.new.ensures) c.new-2.ensures.items c.in_ok-no_stashes.ensures.len c.in_ok-no_stashes.ensures.empty (ap (λ (h : HistoryView). merged h.last) c.new.ensures ∙ merged_nothing);
+    }

@@ -1,0 +1,26 @@
+use Rattle.std.proofs.Common.{true, refl, sym, subst}
+use Rattle.phase_workers.proofs.WorkLemmas.{err_as}
+use Rattle.run_phases.specs.Phases.{IsMet}
+use Rattle.run_phases.proofs.PhaseLemmas.{ended_phase, can_perform}
+use Rattle.run_phases.proofs.phase.perform_joined_phase.Goals as goal
+
+pub begin_joined_phase-requires : goal.begin_joined_phase-requires
+begin_joined_phase-requires g c = record { shards = c.requires.shards; workers = c.requires.workers; joined = c.requires.joined; first = c.requires.plan.1; may = c.requires.may }
+
+pub returns-in_err-begun-clause-fault : goal.returns-in_err-begun-clause-fault
+returns-in_err-begun-clause-fault g c =
+    let scripts = c.args.plan.round.scripts.now in
+    err_as c.from_residual.result c.in_err-begun.field-0.0 (IsMet scripts) c.from_residual.ensures.1 (subst (IsMet scripts) (sym c.in_err-begun.ensures.fault) tt)
+
+pub perform_begun-requires-clause-ready : goal.perform_begun-requires-clause-ready
+perform_begun-requires-clause-ready g c κs within = can_perform c.requires.plan.1 c.requires.may c.in_ok-begun.ensures.begun c.requires.plan.0 true
+
+pub returns-clause-performed : goal.returns-clause-performed
+returns-clause-performed g c =
+    let phase = c.in_ok-state.ensures in
+    record {
+      history = phase.history;
+      last = phase.last;
+      closed = ended_phase c.requires.plan.1 c.requires.may c.in_ok-begun.ensures.begun c.requires.shards true c.requires.joined phase.ended;
+      sets_are = refl;
+    }

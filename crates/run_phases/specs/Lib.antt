@@ -1,0 +1,7 @@
+pub mod Phases
+pub mod Serving
+pub mod Beginning
+pub mod Running
+pub mod Closed
+pub mod Outcomes
+pub mod Boards

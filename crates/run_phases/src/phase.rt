@@ -1,0 +1,323 @@
+//! One phase of a run, joined or split: how the run goes on with its scripts in it, and what it
+//! gives each worker.
+ghost use Rattle.std.specs.Prelude.{◌≡◌, ◌++◌, ◌-◌, ◌<◌, ◌^◌, ℕ, List, length, min, slice_index, IfOk, OnOk, [], false, IfErr, true};
+ghost use Rattle.run_laws.specs.Run.{first_index};
+ghost use Rattle.run_laws.specs.Serving.{script_of};
+ghost use Rattle.run_laws.specs.Phases.{is_split};
+ghost use Rattle.worker_journals.specs.Merged.{added, merged};
+ghost use Rattle.phase_permits.specs.Stashes.{StashState};
+ghost use Rattle.phase_floor.specs.declared.floor.BeginFault.TheVariants.{Memory};
+ghost use Rattle.phase_floor.specs.States.{states_of};
+ghost use Rattle.phase_workers.specs.Tasks.{tasks};
+ghost use Rattle.run_phases.specs.Phases.{IsMet, IsPlanOf, MayPerform};
+ghost use Rattle.run_phases.specs.declared.faults.RunFault.{RunFault};
+ghost use Rattle.run_phases.specs.Closed.{HasPerformedPhase};
+ghost use Rattle.run_phases.specs.Serving.{CanPerform, HasBegunPhase, HasEnded};
+
+use crate::faults::RunFault;
+use auction_rows::{Object, Policy};
+use indexmap::IndexSet;
+use phase_floor::{BeginFault, Floor, Joined, JoinedFloor, SplitFloor};
+use phase_permits::{JoinedPermit, Kind, Permit, SplitPermit, Stash};
+use phase_workers::{Gate, Round, serve_all};
+use shard_boxes::PhaseName;
+use std::alloc::{AllocError, Global};
+use std::marker::Brand;
+use std::sync::Wait;
+use std::thread::Threads;
+use worker_journals::{History, Script};
+
+/// What a run performs.
+#[derive(Drop)]
+pub struct Workload<'a, G> {
+    /// The scripts of its workers.
+    pub scripts: &'a [Script],
+    /// How they are divided into phases.
+    pub policy: Policy,
+    /// What is told of each request, before and after it.
+    pub gate: &'a G,
+}
+
+/// A run between two phases.
+#[derive(Drop)]
+pub(crate) struct Running {
+    pub(crate) state: Joined,
+    pub(crate) history: History,
+    pub(crate) hot: Vec<IndexSet<Object>>,
+    pub(crate) stashes: Vec<Stash>,
+}
+
+/// A phase of a run: how the scripts are divided, and the round that goes on with each.
+#[derive(Drop)]
+pub(crate) struct PhasePlan<'a, G> {
+    pub(crate) policy: Policy,
+    // It goes on at the first index that reaches the phase.
+    pub(crate) round: Round<'a, G>,
+}
+
+impl<'a, G> PhasePlan<'a, G> {
+    ghost use Rattle.run_phases.specs.Phases.{IsPlanOf};
+
+    /// The plan of a phase.
+    pub(crate) fn new(work: &Workload<'a, G>, phase: u64) -> PhasePlan<'a, G>
+        requires { phase < 2 ^ 31 }
+        ensures scripts { result.round.scripts.now ≡ work.entry.now.scripts.now }
+        ensures policy { result.policy ≡ work.entry.now.policy }
+        ensures plan { IsPlanOf result phase }
+    {
+        let round = Round {
+            scripts: work.scripts,
+            first: first_index(work.policy, phase),
+            phase,
+            gate: work.gate,
+        };
+        PhasePlan {
+            policy: work.policy,
+            round,
+        }
+    }
+}
+
+// The first index that reaches a phase: each two phases before it took both quotas.
+fn first_index(policy: Policy, phase: u64) -> u64
+    requires { phase < 2 ^ 31 }
+    ensures { result ≡ first_index policy phase }
+{
+    let joined = u64::from(policy.joined_quota);
+    let split = u64::from(policy.split_quota);
+    let before = phase / 2 * (joined + split);
+    if phase % 2 == 0 {
+        return before;
+    }
+    before + joined
+}
+
+/// How many requests each worker is given: the quota, or what is left of its script from its
+/// request `first` on.
+#[inline(always)]
+pub(crate) fn worker_quotas(
+    alloc: Global,
+    scripts: &[Script],
+    quota: u32,
+    first: u64,
+) -> Result<Vec<u32>, AllocError>
+    ensures len { IfOk result (λ quotas. length quotas.items ≡ length scripts.now) }
+    ensures each { IfOk result (λ quotas. (worker : ℕ) → worker < length scripts.now →
+        slice_index quotas.items worker
+        ≡ min quota (length (script_of scripts.now worker) - first)) }
+{
+    let mut quotas = Vec::with_capacity(alloc, scripts.len())?;
+    for script in scripts {
+        let left = (script.len() as u64).saturating_sub(first);
+        quotas.push(left.min(u64::from(quota)) as u32)?;
+    }
+    Ok(quotas)
+}
+
+/// One phase, from its begin to its close: its entries go to the end of the history. Its hot set
+/// is not yet among those of the run.
+#[inline(always)]
+pub(crate) fn perform_phase<R: Threads + Wait + Sync, G: Gate + Sync>(
+    rt: &R,
+    alloc: Global,
+    running: Running,
+    hot: &IndexSet<Object>,
+    plan: PhasePlan<'_, G>,
+) -> Result<Running, RunFault>
+    requires plan { IsPlanOf plan running.state.phase }
+    requires may { MayPerform plan.policy plan.round.scripts.now running.state
+        running.stashes.items hot.now.keys }
+    ensures performed { IfOk result (HasPerformedPhase plan.entry.policy
+        plan.entry.round.scripts.now hot.now.keys running) }
+    ensures fault { IfErr result (IsMet plan.entry.round.scripts.now) }
+{
+    if running.state.phase() % 2 == 0 {
+        return perform_joined_phase::<Brand, R, G>(rt, alloc, running, plan);
+    }
+    perform_split_phase::<Brand, R, G>(rt, alloc, running, hot, plan)
+}
+
+/// What a run answers where a phase does not begin.
+pub(crate) fn begin_fault(fault: BeginFault) -> RunFault
+    requires { fault ≡ Memory }
+    ensures { result ≡ RunFault.Memory }
+{
+    match fault {
+        BeginFault::Memory => RunFault::Memory,
+        BeginFault::UnknownHot | BeginFault::TooLong => unreachable!(),
+    }
+}
+
+/// A joined phase, under a name of its shards and workers.
+pub(crate) fn perform_joined_phase<N, R, G>(
+    rt: &R,
+    alloc: Global,
+    running: Running,
+    plan: PhasePlan<'_, G>,
+) -> Result<Running, RunFault>
+where
+    N: PhaseName + Send + Sync,
+    R: Threads + Wait + Sync,
+    G: Gate + Sync,
+    requires shards { states_of running.state ≡ N.initial }
+    requires workers { length running.state.counters ≡ N.workers }
+    requires joined { is_split running.state.phase ≡ false }
+    requires plan { IsPlanOf plan running.state.phase }
+    requires may { MayPerform plan.policy plan.round.scripts.now running.state
+        running.stashes.items [] }
+    ensures performed { IfOk result (HasPerformedPhase plan.entry.policy
+        plan.entry.round.scripts.now [] running) }
+    ensures fault { IfErr result (IsMet plan.entry.round.scripts.now) }
+{
+    let Running {
+        state,
+        mut history,
+        hot,
+        stashes,
+    } = running;
+    let begun = begin_joined_phase::<N, R, G>(rt, alloc, state, stashes, &plan)?;
+    let (state, stashes) = perform_begun(rt, alloc, &mut history, begun, plan.round)?;
+    Ok(Running {
+        state,
+        history,
+        hot,
+        stashes,
+    })
+}
+
+// Begins a joined phase: each worker is given its quota, and what waits in its stash.
+fn begin_joined_phase<N, R, G>(
+    rt: &R,
+    alloc: Global,
+    state: Joined,
+    stashes: Vec<Stash>,
+    plan: &PhasePlan<'_, G>,
+) -> Result<(JoinedFloor<N>, Vec<JoinedPermit<N>>), RunFault>
+where
+    N: PhaseName,
+    R: Wait,
+    requires shards { states_of state ≡ N.initial }
+    requires workers { length state.counters ≡ N.workers }
+    requires joined { is_split state.phase ≡ false }
+    requires first { plan.now.round.first ≡ first_index plan.now.policy state.phase }
+    requires may { MayPerform plan.now.policy plan.now.round.scripts.now state
+        stashes.items [] }
+    ensures begun { IfOk result (λ begun.
+        HasBegunPhase plan.entry.now.policy plan.entry.now.round.scripts.now state
+        stashes.items [] begun.0 begun.1.items) }
+    ensures fault { IfErr result (λ fault. fault ≡ RunFault.Memory) }
+{
+    let quotas = worker_quotas(
+        alloc,
+        plan.round.scripts,
+        plan.policy.joined_quota,
+        plan.round.first,
+    )?;
+    match state.begin_joined::<N, R>(rt, alloc, &quotas, stashes) {
+        Ok(begun) => Ok(begun),
+        Err((_state, _stashes, fault)) => Err(begin_fault(fault)),
+    }
+}
+
+/// A split phase, under a name of its shards and workers. Nothing waits in the stashes before it.
+pub(crate) fn perform_split_phase<N, R, G>(
+    rt: &R,
+    alloc: Global,
+    running: Running,
+    hot: &IndexSet<Object>,
+    plan: PhasePlan<'_, G>,
+) -> Result<Running, RunFault>
+where
+    N: PhaseName + Send + Sync,
+    R: Threads + Wait + Sync,
+    G: Gate + Sync,
+    requires shards { states_of running.state ≡ N.initial }
+    requires workers { length running.state.counters ≡ N.workers }
+    requires split { is_split running.state.phase ≡ true }
+    requires plan { IsPlanOf plan running.state.phase }
+    requires may { MayPerform plan.policy plan.round.scripts.now running.state
+        running.stashes.items hot.now.keys }
+    ensures performed { IfOk result (HasPerformedPhase plan.entry.policy
+        plan.entry.round.scripts.now hot.now.keys running) }
+    ensures fault { IfErr result (IsMet plan.entry.round.scripts.now) }
+{
+    let Running {
+        state,
+        mut history,
+        hot: hot_before,
+        stashes,
+    } = running;
+    drop(stashes);
+    let begun = begin_split_phase::<N, R, G>(rt, alloc, state, hot, &plan)?;
+    let (state, stashes) = perform_begun(rt, alloc, &mut history, begun, plan.round)?;
+    Ok(Running {
+        state,
+        history,
+        hot: hot_before,
+        stashes,
+    })
+}
+
+// Begins a split phase: each worker is given its quota and an empty stash. Before it nothing waits.
+fn begin_split_phase<N, R, G>(
+    rt: &R,
+    alloc: Global,
+    state: Joined,
+    hot: &IndexSet<Object>,
+    plan: &PhasePlan<'_, G>,
+) -> Result<(SplitFloor<N>, Vec<SplitPermit<N>>), RunFault>
+where
+    N: PhaseName,
+    R: Wait,
+    requires shards { states_of state ≡ N.initial }
+    requires workers { length state.counters ≡ N.workers }
+    requires split { is_split state.phase ≡ true }
+    requires first { plan.now.round.first ≡ first_index plan.now.policy state.phase }
+    requires may { (stashes : List StashState) × MayPerform plan.now.policy
+        plan.now.round.scripts.now state stashes hot.now.keys }
+    ensures begun { IfOk result (λ begun.
+        HasBegunPhase plan.entry.now.policy plan.entry.now.round.scripts.now state
+        [] hot.now.keys begun.0 begun.1.items) }
+    ensures fault { IfErr result (λ fault. fault ≡ RunFault.Memory) }
+{
+    let quotas = worker_quotas(
+        alloc,
+        plan.round.scripts,
+        plan.policy.split_quota,
+        plan.round.first,
+    )?;
+    match state.begin_split::<N, R>(rt, alloc, &quotas, hot) {
+        Ok(begun) => Ok(begun),
+        Err((_state, fault)) => Err(begin_fault(fault)),
+    }
+}
+
+// What a phase of either kind does once it has begun: its workers do their tasks, and it closes.
+fn perform_begun<N, K, R, G>(
+    rt: &R,
+    alloc: Global,
+    history: &mut History,
+    begun: (Floor<N, K>, Vec<Permit<N, K>>),
+    round: Round<'_, G>,
+) -> Result<(Joined, Vec<Stash>), RunFault>
+where
+    N: PhaseName + Send + Sync,
+    K: Kind + Send,
+    R: Threads + Wait + Sync,
+    G: Gate + Sync,
+    requires ready { CanPerform K.IS_JOINED N.initial begun.0 begun.1.items
+        round.scripts.now round.phase round.first }
+    ensures history { OnOk result (history.new.entries
+        ≡ history.old.entries ++ added history.old.entries history.new.entries) }
+    ensures last { OnOk result
+        (merged history.new.last ≡ added history.old.entries history.new.entries) }
+    ensures ended { IfOk result (λ ended. HasEnded K.IS_JOINED N.initial begun.0
+        (tasks begun.1.items round.entry.scripts.now round.entry.first)
+        (added history.old.entries history.new.entries) ended.0 ended.1.items) }
+    ensures fault { IfErr result (IsMet round.entry.scripts.now) }
+{
+    let (floor, permits) = begun;
+    let receipts = serve_all(rt, alloc, floor.boxes(), permits, round)?;
+    let ended = floor.close(rt, alloc, history, receipts)?;
+    Ok(ended)
+}

@@ -1,0 +1,51 @@
+use Rattle.std.proofs.Common.{◌≡◌, Option, Some, None, refl, ap, subst, ◌∙◌}
+use Rattle.std.specs.Prelude.{IfSome, IfNone}
+use Rattle.auction_rows.specs.declared.replies.Refusal.{Refusal}
+use Rattle.auction_rows.specs.declared.requests.BidEntry.{BidEntry}
+use Rattle.auction_rows.specs.declared.requests.ItemId.{ItemId}
+use Rattle.auction_rows.specs.declared.requests.Object.TheVariants.{Item}
+use Rattle.item_shards.specs.declared.shard.Shard.{Shard}
+use Rattle.item_shards.specs.Contents.{after_acts, bid_on}
+use Rattle.item_shards.specs.Looking.{events_of}
+use Rattle.item_shards.specs.ShardContents.{contents, HasChanged}
+use Rattle.shard_boxes.specs.Helds.{HeldState}
+use Rattle.shard_boxes.specs.Lines.{after_line, bid_acts, line_of}
+use Rattle.shard_boxes.specs.States.{state_of}
+use Rattle.shard_boxes.proofs.EventLemmas.{line_done, line_follows}
+use Rattle.shard_boxes.proofs.key.Held.bid.Goals as goal
+
+-- a bid that is refused or stored is its two acts
+bid_done : (old new : Shard) (item : ItemId) (bid : BidEntry) (refused : Option Refusal) → IfSome refused (λ _. contents new ≡ contents old) → IfNone refused (HasChanged old new (Item item) (bid_on bid))
+    → contents new ≡ after_acts (contents old) (events_of (contents old) (bid_acts item bid refused))
+bid_done old new item bid None same stored = stored
+bid_done old new item bid (Some reason) same stored = same
+
+pub returns-clause-line : goal.returns-clause-line
+returns-clause-line g c =
+    let acts = c.of-3.ensures ∙ c.bid_acts-acts.ensures in
+    let found = c.of-found.ensures ∙ ap (λ (h : HeldState). h.shard) c.self.view_is in
+    λ i. line_of (c.of.ensures i) (c.of-2.ensures i) (acts i) (found i)
+
+pub returns-clause-follows : goal.returns-clause-follows
+returns-clause-follows g c =
+    line_follows c.args.self.now.shard c.args.number c.args.index (bid_acts c.args.item c.args.bid c.try_bid-refused.result) _ (returns-clause-line g c) c.requires.later
+
+pub returns-clause-after : goal.returns-clause-after
+returns-clause-after g c =
+    let old = c.self.inside.shard in
+    let new = c.set_clock.new.self in
+    let tried = c.try_bid-refused in
+    let clocked = c.set_clock.ensures in
+    let acts = c.of-3.ensures ∙ c.bid_acts-acts.ensures in
+    let line = line_of c.of.result c.of-2.result c.of-3.result c.of-found.result in
+    subst (λ (h : HeldState). state_of new ≡ after_line (state_of h.shard) line) c.self.view_is
+    (line_done old c.args.number c.args.index (bid_acts c.args.item c.args.bid tried.result) line
+    (λ i. line_of (c.of.ensures i) (c.of-2.ensures i) (acts i) (c.of-found.ensures i))
+    new refl
+    (record {
+      number = clocked.same.number ∙ tried.ensures.same.number;
+      shards = clocked.same.shards ∙ tried.ensures.same.shards;
+      opening = clocked.same.opening ∙ tried.ensures.same.opening;
+    })
+    (clocked.contents ∙ bid_done old tried.new.self c.args.item c.args.bid tried.result tried.ensures.refused tried.ensures.stored)
+    clocked.clock)
