@@ -4,6 +4,7 @@ import subprocess
 import sys
 from typing import NamedTuple
 
+import clients
 import instructions
 import loads
 import postgres
@@ -31,6 +32,12 @@ DELAY, LATEST = "requests until a deferred reply, median", "requests until a def
 AT_ONCE, REDIS, REDIS_LOGGED, POSTGRES_LOGGED = "all read first", "Redis, no log", "Redis, log synced", "PostgreSQL, log synced"
 WAITS = {"microseconds until a reply, median": 0.5, "microseconds until a reply, 99th percentile": 0.99, "microseconds until a reply, 99.9th percentile": 0.999}
 WHOLE_RATE, OPENING = "requests a second, whole command", "seconds to open a log"
+# Of many clients of a server.
+SERVERS = {"examples/front.py, no log": (clients.Front, False), REDIS: (clients.Redis, False),
+           "examples/front.py, log synced": (clients.Front, True), REDIS_LOGGED: (clients.Redis, True)}
+CLIENTS_RATE = "requests a second"
+CLIENT_WAITS = ("milliseconds until a reply, median", "milliseconds until a reply, 99th percentile")
+
 # So many requests of a part at most, and in all so many parts: with a log each waits for the disk.
 MOST_OF_PARTS, PARTS_UNLOGGED, PARTS_LOGGED = (1, 10, 100, 1000), 100_000, 200
 
@@ -378,8 +385,33 @@ def live_postgres(systems, asked):
         yield live_row(POSTGRES_LOGGED, WHOLE_RATE, rate, done)._replace(workers=asked.workers)
 
 
+def many_clients(systems, asked):
+    """Bids on one item from many clients of examples/front.py and of Redis, in turns, with a synced log and without."""
+    if "redis" in asked.skip or not clients.are_there():
+        return
+    for way in clients.WAYS:
+        way = way._replace(requests=way.requests // 10) if asked.fast else way
+        say(f"{ONE_ITEM.name}, {way.name()}")
+        tries = [{system: served(systems, way, *server) for system, server in SERVERS.items()} for _ in range(asked.tries)]
+        for system in SERVERS:
+            found = zip(*(told[system] for told in tries))
+            yield from (client_row(way, system, *one) for one in zip((CLIENTS_RATE, *CLIENT_WAITS), found))
+
+
+def served(systems, way, made, is_logged):
+    """What one new server makes of a load."""
+    few = way._replace(requests=way.requests // 4) if is_logged and way.clients == 1 else way
+    with made(systems.built["program"], systems.folder, is_logged) as server:
+        return clients.load(server, few)
+
+
+def client_row(way, system, measure, found):
+    return row_of("clients", ONE_ITEM._replace(name=way.name()), Policy(), measure, Tries.of(found), way.clients, way.requests, system)
+
+
 # What measures the figures of other tables, and of "delay" what no clock says.
-APART = {"delay": late_replies, "checking": checking, "instructions": by_instructions, "work": work_beside_plain, "windows": windows, "live": live}
+APART = {"delay": late_replies, "checking": checking, "instructions": by_instructions, "work": work_beside_plain, "windows": windows, "live": live,
+         "clients": many_clients}
 
 PARTS = list(dict.fromkeys((*TOGETHER, *APART)))
 

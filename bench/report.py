@@ -11,8 +11,8 @@ import lite
 import measures
 import plots
 import redis_server
-from figures import (ALL_THREADS, ANSWER, AUCTION, DELAY, FIRST_THREAD, INSTRUCTIONS, LATEST, MEMORY, PUBLISHING, RATE, RUN, SCRIPTS, SECONDS,
-                     OPENING, SYSTEMS, UNSPLIT, VIEW, WAITS, WHOLE_RATE, Figure)
+from figures import (ALL_THREADS, ANSWER, AUCTION, CLIENT_WAITS, CLIENTS_RATE, DELAY, FIRST_THREAD, INSTRUCTIONS, LATEST, MEMORY, OPENING, PUBLISHING, RATE,
+                     RUN, SCRIPTS, SECONDS, SYSTEMS, UNSPLIT, VIEW, WAITS, WHOLE_RATE, Figure)
 from measures import BIDDING, LARGE, ONE_ITEM, UNIFORM, Policy
 from programs import ROOT
 
@@ -277,13 +277,30 @@ def opened(rows):
     return "".join(f"A log of {row.requests:,} rows is opened in {number(row.value)} s.\n" for row in values(rows, measure=OPENING))
 
 
+def many_clients(rows):
+    """For each server the rate by clients, with its range, and how long a reply takes."""
+    rows = values(rows, table="clients")
+    ways = list(dict.fromkeys(row.load for row in rows))
+    systems = list(dict.fromkeys(row.system for row in rows))
+    rates = [[system, *(ranged(values(rows, system=system, load=way, measure=CLIENTS_RATE)[0]) for way in ways)] for system in systems]
+    waits = [[system, *(" / ".join(number(value(rows, system=system, load=way, measure=measure)) for measure in CLIENT_WAITS) for way in ways)]
+             for system in systems]
+    return table(["Requests per second, bids on one item", *ways], rates) + "\n" + table(["ms until a reply, median / 99th percentile", *ways], waits)
+
+
+def ranged(row):
+    """Two digits, with the least and the greatest try."""
+    return f"{in_words(row.value)} ({in_words(row.least)} to {in_words(row.greatest)})"
+
+
 # What the plots show. Those of tables stand above them.
 PLOTS = {"workers": "Requests per second by number of workers", "skew": "Throughput by skew, relative to plain Rust with a lock per shard",
          "memory": "Memory by requests", "delay": "Throughput against the delay of deferred views, by split quota",
          "live": "Throughput by the most requests of a part, with a log and without"}
 
 TABLES = {"workers": by_workers, "skew": by_skew, "quotas": by_quotas, "shards": by_shards, "threshold": by_threshold, "whole": whole,
-          "memory": memory, "checking": checking, "work": work_beside_plain, "instructions": instructions, "windows": windows, "live": live}
+          "memory": memory, "checking": checking, "work": work_beside_plain, "instructions": instructions, "windows": windows, "live": live,
+          "clients": many_clients}
 
 
 def shown_plot(name):

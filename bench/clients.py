@@ -1,0 +1,102 @@
+"""Many clients of a server, for bench/run: bids on one item that redis-benchmark sends to examples/front.py over the program, and to Redis."""
+import csv
+import os
+import re
+import shutil
+import socket
+import subprocess
+import sys
+from typing import NamedTuple
+
+import loads
+import redis_server
+from programs import ROOT
+
+BENCHMARK, FRONT = "redis-benchmark", f"{ROOT}/examples/front.py"
+
+# The item that all bid on, as a row of a log and as a request.
+ROW, ITEM = '0,+item,0,0,"Vase",1,100000000,1,1000000\n', ("ITEM", "0", "0", "Vase", "1", "100000000", "1", "1000000")
+
+
+class Way(NamedTuple):
+    """How many clients there are, how many requests of each are under way, and how many are sent in all."""
+    clients: int
+    pipeline: int
+    requests: int
+
+    def name(self):
+        return f"{self.clients} client{'s' * (self.clients > 1)}" + f", pipelines of {self.pipeline}" * (self.pipeline > 1)
+
+
+WAYS = (Way(1, 1, 10_000), Way(16, 1, 50_000), Way(100, 1, 60_000), Way(100, 16, 200_000))
+
+
+class Found(NamedTuple):
+    """What redis-benchmark tells: requests a second, and milliseconds until a reply."""
+    rate: float
+    median: float
+    late: float
+
+
+def are_there():
+    return redis_server.is_there() and shutil.which(BENCHMARK) is not None
+
+
+def load(server, way):
+    """One load of a server: each client waits for its replies before it sends more."""
+    words = [BENCHMARK, "-p", server.port, "-c", way.clients, "-P", way.pipeline, "-n", way.requests, "--csv", *server.bid]
+    said = subprocess.run([str(word) for word in words], capture_output=True, text=True, check=True).stdout
+    told = next(csv.DictReader(line for line in said.splitlines() if line.startswith('"')))
+    return Found(*(float(told[name]) for name in ("rps", "p50_latency_ms", "p99_latency_ms")))
+
+
+class Front:
+    """examples/front.py over the program, with the item, as long as a `with` over it. Its log, if it has one, is synced before each reply."""
+
+    bid = ("BID", "1", "0.0", "500", "5")
+
+    def __init__(self, program, folder, is_logged):
+        self.log = f"{folder}/front.log" if is_logged else None
+        self.words = [sys.executable, "-B", FRONT, "--port", "0", *(["--log", self.log] if is_logged else []), program, "--split", "4096"]
+
+    def __enter__(self):
+        if self.log:
+            write_row(self.log)
+        self.process = subprocess.Popen(self.words, stderr=subprocess.PIPE, text=True)
+        self.port = int(re.search(r", (\d+)\)", self.process.stderr.readline())[1])
+        if not self.log:
+            self.put_up_the_item()
+        return self
+
+    def put_up_the_item(self):
+        with socket.create_connection(("127.0.0.1", self.port)) as client:
+            client.sendall(redis_server.packed(*ITEM))
+            if not client.recv(100).startswith(b"+item 0.0"):
+                raise SystemExit(f"{FRONT}: no item")
+
+    def __exit__(self, *_):
+        self.process.terminate()
+        self.process.communicate()
+        if self.log:
+            os.unlink(self.log)
+
+
+class Redis(redis_server.Server):
+    """Redis with the item, as long as a `with` over it; a bid is a call of its script."""
+
+    def __init__(self, _, folder, is_logged):
+        super().__init__(is_logged)
+        self.row = f"{folder}/row"
+
+    def __enter__(self):
+        super().__enter__()
+        write_row(self.row)
+        self.open(loads.read_load(self.row, 1)[0])
+        self.port = self.socket.getpeername()[1]
+        self.bid = ("EVALSHA", self.script, "0", "bid", "0.0", "1", "500", "5")
+        return self
+
+
+def write_row(path):
+    with open(path, "w") as text:
+        text.write(ROW)
