@@ -274,11 +274,11 @@ def work_beside_plain(systems, asked):
 
 
 def windows(systems, asked):
-    """What `bench_windows` tells: views of windows alone, and beside a run."""
+    """What `example_watch --measure` tells: views of windows alone, and beside a run."""
     if "windows" not in systems.built:
         return
     say("windows")
-    said = subprocess.run([systems.built["windows"]], capture_output=True, text=True, check=True).stdout
+    said = subprocess.run([systems.built["windows"], "--measure"], capture_output=True, text=True, check=True).stdout
     beside = "alone"
     for line in said.splitlines():
         if found := re.match(r"shown to (nobody|(\d+) windows): ([^,]+)(?:, (\S+) of it to publish)?", line):

@@ -9,7 +9,8 @@
 //! - `lock`: a thread for each worker, one lock round everything.
 //! - `shards`: a thread for each worker, a lock for each shard, taken in ascending order.
 //! - `phases`: phases by quotas, locks as in `shards`; in split phases each worker has a slice of each hot record. Threads are
-//!   started for each phase, and a phase of at most 256 requests is done by one thread, as in the proved program.
+//!   started for each phase, unless they save no time: it has at most 128 requests a worker, or at least half of its requests take
+//!   one shard, as far as a sample tells. The rule and the sample are those of the proved program.
 use std::collections::HashMap;
 use std::hash::{BuildHasherDefault, Hasher};
 use std::io::{BufRead, BufReader, Write};
@@ -633,11 +634,25 @@ struct Hand<'a> {
 }
 
 impl Hand<'_> {
+    /// How many requests of its script a phase gives it.
+    fn left(&self, quota: u32) -> usize {
+        (quota as usize).min(self.script.len() - self.next)
+    }
+
+    /// The request at a place of what it is to perform: first comes what waits.
+    fn request_at(&self, place: usize, quota: u32) -> Option<&Request> {
+        match place.checked_sub(self.stash.len()) {
+            None => self.script.get(self.stash[place] as usize),
+            Some(given) if given < self.left(quota) => self.script.get(self.next + given),
+            Some(_) => None,
+        }
+    }
+
     fn joined_phase(&mut self, options: &Options) {
         for place in std::mem::take(&mut self.stash) {
             self.perform::<true>(options, place as usize);
         }
-        let end = (self.next + options.joined as usize).min(self.script.len());
+        let end = self.next + self.left(options.joined);
         for place in self.next..end {
             self.perform::<true>(options, place);
         }
@@ -648,7 +663,7 @@ impl Hand<'_> {
         self.slices.clear();
         self.slices
             .extend(hot.objects.iter().map(|object| Slice::new(*object)));
-        let end = (self.next + options.split as usize).min(self.script.len());
+        let end = self.next + self.left(options.split);
         for place in self.next..end {
             let request = self.script[place];
             match self.perform_hot(options, hot, &request) {
@@ -843,19 +858,62 @@ fn merge_slice(shard: &mut Shard, shards: u32, object: Object, slice: &Slice) {
     }
 }
 
-/// The most requests of a phase that one thread does alone.
-const SHORT: usize = 256;
+/// With at most so many requests a worker, one thread does a phase as soon as several.
+const SHORT: usize = 128;
 
-/// Does a phase of every worker: each in a thread, or one after the other where the phase is short.
-fn each_hand<'a>(hands: &mut [Hand<'a>], quota: u32, act: impl Fn(&mut Hand<'a>) + Sync) {
-    let most: usize = hands
+/// About so many requests of a longer phase are looked at, so many in a row: scripts may have a period.
+const LOOKS: usize = 64;
+const IN_A_ROW: usize = 8;
+
+/// Whether one thread does a phase as soon as several: it is short, or at least half of its requests take one shard, as far as
+/// some of them tell. A hot object takes none.
+fn is_for_one_thread(hands: &[Hand<'_>], quota: u32, hot: Option<&Hot>) -> bool {
+    let requests: usize = hands
         .iter()
-        .map(|hand| hand.stash.len() + (quota as usize).min(hand.script.len() - hand.next))
+        .map(|hand| hand.stash.len() + hand.left(quota))
         .sum();
+    let Some(shards) = hands.first().map(|hand| hand.store.shards()) else {
+        return true;
+    };
+    if requests <= SHORT * hands.len() {
+        return true;
+    }
+    let stride = requests / (LOOKS / IN_A_ROW);
+    let mut looked_at = 0;
+    let mut taking = vec![0; shards as usize];
+    for hand in hands {
+        let places = (0..LOOKS).map(|look| look / IN_A_ROW * stride + look % IN_A_ROW);
+        for request in places.map_while(|place| hand.request_at(place, quota)) {
+            looked_at += 1;
+            let object = first_touched(request);
+            if hot.and_then(|hot| hot.find(object)).is_none() {
+                taking[object.shard(shards) as usize] += 1;
+            }
+        }
+    }
+    taking.iter().any(|taking| 2 * taking >= looked_at)
+}
+
+/// The object that a request touches, of two the first.
+fn first_touched(request: &Request) -> Object {
+    match *request {
+        Request::Item { facts, .. } => Object::Category(facts.category),
+        Request::Bid { item, .. }
+        | Request::Comment { item, .. }
+        | Request::Buy { item, .. }
+        | Request::ViewItem(item)
+        | Request::ViewBids(item) => Object::Item(item),
+        Request::ViewCategory(category) => Object::Category(category),
+        Request::ViewUser(user) => Object::User(user),
+    }
+}
+
+/// Does a phase of every worker: each in a thread, or one after the other.
+fn each_hand<'a>(hands: &mut [Hand<'a>], in_turn: bool, act: impl Fn(&mut Hand<'a>) + Sync) {
     let Some((first, others)) = hands.split_first_mut() else {
         return;
     };
-    if most <= SHORT {
+    if in_turn {
         act(first);
         others.iter_mut().for_each(act);
         return;
@@ -889,13 +947,11 @@ fn run_phases(
         .iter()
         .any(|hand| hand.next < hand.script.len() || !hand.stash.is_empty())
     {
-        each_hand(&mut hands, options.joined, |hand| {
-            hand.joined_phase(options)
-        });
+        let in_turn = is_for_one_thread(&hands, options.joined, None);
+        each_hand(&mut hands, in_turn, |hand| hand.joined_phase(options));
         let hot = choose(&mut hands, options);
-        each_hand(&mut hands, options.split, |hand| {
-            hand.split_phase(options, &hot)
-        });
+        let in_turn = is_for_one_thread(&hands, options.split, Some(&hot));
+        each_hand(&mut hands, in_turn, |hand| hand.split_phase(options, &hot));
         merge(&mut hands, &hot);
     }
     hands.into_iter().map(|hand| hand.me).collect()

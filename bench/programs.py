@@ -8,7 +8,7 @@ HERE = os.path.dirname(os.path.abspath(__file__))
 ROOT = os.path.dirname(HERE)
 
 # What the options call the crates' programs.
-CRATES = {"program": "rubis_auction", "load": "rubis_load", "referee": "rubis_check", "windows": "bench_windows"}
+CRATES = {"program": "rubis_auction", "load": "rubis_load", "referee": "rubis_check", "windows": "example_watch"}
 
 # The programs that are not needed where a part is left out.
 OF_PARTS = {"referee": "checking", "windows": "windows"}

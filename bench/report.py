@@ -245,7 +245,7 @@ def most_gain(rows, loads):
         total, first = (value(own, load=load, measure=measure) for measure in (ALL_THREADS, FIRST_THREAD))
         shared = (total - first) / (count - 1) * count
         gains.append(total / (total - shared + shared / figures.MOST_WORKERS))
-    return (f"\nThe first thread reads, executes the share of one worker, and writes.\n"
+    return (f"\nThe first thread reads and executes the share of one worker, joins what all have read, and writes.\n"
             f"If time followed instructions, {figures.MOST_WORKERS} workers on as many processors would make a whole command "
             f"{from_to(gains)} times as fast as one worker on these loads. More processors would not help.\n")
 
@@ -364,7 +364,7 @@ def gain(rows):
     if not (split and unsplit):
         return LEFT_OUT
     return (f"{in_words(split)} requests per second instead of {in_words(unsplit)} "
-            f"(all bids on one item, {in_workers(rows[0].workers)}, `--split {LARGE[1]}`)")
+            f"(all bids on one item, {in_workers(rows[0].workers)}, `--fast`)")
 
 
 def usual(rows):
@@ -401,7 +401,7 @@ def heading(asked, systems, rows, when, seconds):
     if "referee" in systems.built:
         lines.append(f"    rubis_check {' '.join(measures.auction_words(figures.MOST_WORKERS))} --order --history=HISTORY < LOAD")
     if "windows" in systems.built:
-        lines.append("    bench_windows")
+        lines.append("    example_watch --measure")
     lines.append("")
     if systems.server:
         lines.append(f"PostgreSQL {systems.server_version} executes as many of the first {systems.few():,} requests of each load as it can in "

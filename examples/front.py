@@ -27,13 +27,11 @@ BUFFER = memoryview(bytearray(16384))  # for all clients, since what is read is 
 MOST_FAILURES = 5  # starts of the program in a row that answer nothing
 
 # Of each kind of request the place of its time, or 0 if it has none.
-TIMES = {b"ITEM": 6, b"BID": 4, b"BUYNOW": 4, b"COMMENT": 0, b"VIEWITEM": 0, b"VIEWBIDS": 0, b"VIEWCATEGORY": 0, b"VIEWUSER": 0}
-# Of each kind of request that names an item the place of its id.
-ITEMS = {b"bid": 2, b"buynow": 2, b"comment": 3, b"viewitem": 1, b"viewbids": 1}
+TIMES = {b"item": 6, b"bid": 4, b"buynow": 4, b"comment": 0, b"viewitem": 0, b"viewbids": 0, b"viewcategory": 0, b"viewuser": 0}
 COUNTS = {b"*%d\r" % count: count for count in range(1, 100)}
 SIZES = {size: b"$%d\r" % size for size in range(MOST_BYTES)}
 
-OTHERS = {b"": b"-ERR Protocol error\r\n", b"PING": b"+PONG\r\n", b"PLACES": b"+OK\r\n", b"QUIT": b"+OK\r\n", b"COMMAND": b"*0\r\n"}
+OTHERS = {b"": b"-ERR Protocol error\r\n", b"ping": b"+PONG\r\n", b"places": b"+OK\r\n", b"quit": b"+OK\r\n", b"command": b"*0\r\n"}
 FULL, ENDS = b"-ERR max number of clients reached\r\n", b"-ERR the auction ends\r\n"
 UNKNOWN = b"-UNKNOWN whether this was done: the auction ended before its reply\r\n"
 
@@ -60,21 +58,14 @@ def split(data):
     return (commands, rest) if len(rest) <= MOST_BYTES else ([*commands, [b""]], b"")
 
 
-def record_of(kind, words):
-    """A request as one record without its worker, whatever its words are: the program checks them. A longer one has a fault, however it ends."""
-    if words[TIMES[kind] :][:1] == [b"*"]:
-        words[TIMES[kind]] = b"%d" % (time.time_ns() // 1_000_000)
-    words[0] = kind.lower()
+def record_of(words, place):
+    """A request, with its time at this place, as one record without its worker. The program checks its words; a longer record has a fault, however it ends."""
+    if words[place:][:1] == [b"*"]:
+        words[place] = b"%d" % (time.time_ns() // 1_000_000)
     record = b",".join(words)
     if b'"' in record or record.count(b",") >= len(words):
         record = b",".join(b'"%s"' % word.replace(b'"', b'""') for word in words)
     return record[:MOST_BYTES]
-
-
-def item_of(record):
-    """The item that a record names, if it names one."""
-    fields = record.split(b",")
-    return next(iter(fields[ITEMS.get(fields[0], len(fields)) :]), None)
 
 
 class Request:
@@ -95,33 +86,33 @@ class Audit:
 
     def __init__(self, folder, number, log):
         folder.mkdir(parents=True, exist_ok=True)
-        paths = [folder / f"{number}.{kind}" for kind in ("csv", "history")]
         with open(log if log and log.exists() else "/dev/null", "rb") as rows:
             # The program of a front that was killed may still be writing it.
             fcntl.flock(rows, fcntl.LOCK_SH | fcntl.LOCK_NB)
-            with open(paths[0], "wb") as copy:
-                copy.writelines(row for row in rows if row.endswith(b"\n"))
-        self.files = self.input, self.history = open(paths[0], "ab", buffering=0), open(paths[1], "wb", buffering=0)
+            self.input, self.history = (open(folder / f"{number}.{kind}", "wb") for kind in ("csv", "history"))
+            self.input.writelines(row for row in rows if row.endswith(b"\n"))
+        self.keep((), ())
 
     def keep(self, lines, requests):
         self.input.write(b"".join(b"%d,%s\n" % (request.client.worker, request.record) for request in requests))
         self.history.write(b"\n".join((*lines, b"")))
+        self.input.flush()
+        self.history.flush()
 
 
 class Engine(asyncio.SubprocessProtocol):
     """The program, and what it is asked for. What comes while it is busy is its next part, so that all of it waits for the disk once."""
 
     def __init__(self, asked):
-        self.asked, self.clients, self.sessions = asked, set(), cycle(range(asked.workers))
+        self.asked, self.sessions = asked, cycle(range(asked.workers))
         self.waiting, self.unanswered, self.group, self.stdin, self.audit, self.is_stopping = [], deque(), [], None, None, False
-        self.failures = self.requests = self.groups = self.seconds = self.sent_at = 0
+        self.clients = self.failures = self.requests = self.groups = self.seconds = self.sent_at = 0
         self.starts = max((int(path.stem) for path in asked.audit.glob("*.csv")), default=0) if asked.audit else 0
-        self.share_out()
 
-    def share_out(self):
-        """Sets how many requests a client may have under way, beyond which it is read no further, and how many bytes of it are read at a time."""
-        self.share = max(8, min(MOST_UNDER_WAY // 4 // max(1, len(self.clients)), MOST_OF_A_CLIENT))
-        self.buffer = BUFFER[: 32 * self.share]
+    def count(self, change):
+        """Counts clients, and sets how many requests each may have under way, beyond which it is read no further."""
+        self.clients += change
+        self.share = max(8, min(MOST_UNDER_WAY // 4 // max(1, self.clients), MOST_OF_A_CLIENT))
 
     async def start(self):
         """Starts the program, which goes on from the log."""
@@ -164,7 +155,7 @@ class Engine(asyncio.SubprocessProtocol):
         except (LookupError, OSError, ValueError) as fault:
             say(f"no history, or none that can be kept: {fault!r}")
             self.is_stopping = True
-            self.process.kill()
+            self.process.close()  # kills it, and nothing more of it is taken
 
     def take(self, lines):
         """Takes lines of the program, and releases the replies before which nothing is unanswered."""
@@ -217,14 +208,12 @@ class Engine(asyncio.SubprocessProtocol):
         while True:
             status = await self.exited
             say(f"the program ended with status {status}")
-            lost, self.unanswered, self.stdin = [*self.answered, *self.unanswered], deque(), None
+            lost, self.unanswered, self.stdin, self.audit = [*self.answered, *self.unanswered], deque(), None, None
             for request in lost:
                 request.reply = None
                 if not request.record.startswith(b"view"):
                     request.end(UNKNOWN)
             self.waiting[:0] = [request for request in lost if not request.is_released]
-            for file in self.audit.files if self.audit else ():
-                file.close()
             self.failures += 1
             if self.is_stopping or status == 1 or self.asked.log is None or self.failures > MOST_FAILURES:
                 break
@@ -239,14 +228,11 @@ class Engine(asyncio.SubprocessProtocol):
         self.is_stopping = True
         self.send()
 
-    def busiest_item(self):
-        """The item that most requests of the last group of replies name, if any does, and how many these are."""
-        items = Counter(item for request in self.group if (item := item_of(request.record)))
-        return next(((item.decode(errors="replace"), count) for item, count in items.most_common(1)), ("none", 0))
-
     def info(self):
-        item, count = self.busiest_item()
-        counts = {"connected_clients": len(self.clients), "requests": self.requests, "under_way": len(self.unanswered) + len(self.waiting),
+        # But for the name of a new item, only the id of an item has a point.
+        words = (word for request in self.group if b"item" not in request.record[:5] for word in request.record.decode().split(","))
+        item, count = next(iter(Counter(word for word in words if "." in word).most_common(1)), ("none", 0))
+        counts = {"connected_clients": self.clients, "requests": self.requests, "under_way": len(self.unanswered) + len(self.waiting),
                   "starts": self.starts, "groups": self.groups, "group_microseconds": int(1e6 * self.seconds / max(1, self.groups)),
                   "last_group_requests": len(self.group), "busiest_item": item, "busiest_item_requests": count}
         text = "".join(f"{name}:{count}\r\n" for name, count in counts.items()).encode()
@@ -262,35 +248,32 @@ class Client(asyncio.BufferedProtocol):
     def connection_made(self, transport):
         self.transport = transport
         transport.set_write_buffer_limits(MOST_UNSENT)
-        if len(self.engine.clients) < MOST_CLIENTS and len(self.engine.unanswered) + len(self.engine.waiting) < MOST_UNDER_WAY:
-            self.engine.clients.add(self)
-            self.engine.share_out()
-        else:
+        self.engine.count(+1)
+        if self.engine.clients > MOST_CLIENTS or len(self.engine.unanswered) + len(self.engine.waiting) >= MOST_UNDER_WAY:
             transport.write(FULL)
             transport.close()
 
     def connection_lost(self, _):
-        self.engine.clients.discard(self)
-        self.engine.share_out()
+        self.engine.count(-1)
 
     def get_buffer(self, _):
-        return self.engine.buffer
+        return BUFFER[: 32 * self.engine.share]
 
     def buffer_updated(self, size):
-        commands, self.rest = split(self.rest + self.engine.buffer[:size])
+        commands, self.rest = split(self.rest + BUFFER[:size])
         for words in commands:
             if words and not self.is_over:
                 self.take(words)
         self.tell()
 
     def take(self, words):
-        kind = words[0].upper()
+        kind = words[0] = words[0].lower()
         if kind in TIMES:
-            self.requests.append(Request(self, record_of(kind, words)))
+            self.requests.append(Request(self, record_of(words, TIMES[kind])))
             return self.engine.ask(self.requests[-1])
-        self.is_over |= kind in (b"", b"QUIT")
-        self.has_places |= kind == b"PLACES"
-        reply = self.engine.info() if kind == b"INFO" else OTHERS.get(kind, b"-ERR unknown command\r\n")
+        self.is_over |= kind in (b"", b"quit")
+        self.has_places |= kind == b"places"
+        reply = self.engine.info() if kind == b"info" else OTHERS.get(kind, b"-ERR unknown command\r\n")
         return self.requests.append(Request(self, reply=reply))
 
     def tell(self):

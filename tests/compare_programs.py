@@ -26,7 +26,7 @@ from program import TESTS, Tally, build_shim, described, run
 KEPT = TESTS / "out"
 TOLD_EVERY = 100
 ROOM = 65536
-# What waits and what comes in a phase is performed by one thread up to 256 requests.
+# One thread performs a phase of at most 128 requests of each worker. These are what waits, no more than a split phase had, and what comes: half for each.
 MOST_OF_A_PHASE = 128
 LINE_ENDS = (b"\r\n", b"\r", b"\n\n", b"\n\r\n", b"\r\r\n")
 FILLERS = (
@@ -39,7 +39,7 @@ FILLERS = (
 
 
 def without_threads(options: Options) -> Options:
-    most = MOST_OF_A_PHASE // options.workers
+    most = MOST_OF_A_PHASE // 2
     return replace(options, joined=min(options.joined, most), split=min(options.split, most))
 
 

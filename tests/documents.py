@@ -2,13 +2,15 @@
 """Shows that the documents speak of what there is: a name in backticks is in the code, a path and a link lead to a file, in commands too, each block of code of
 docs/TUTORIAL.md is in the file named above it, each definition that the pages of definitions (docs/DEFINITIONS.md, docs/ENGINE_DEFINITIONS.md) quote is, except
 for layout, that of the file named above it, each name in a table with a column of files is in a file beside it, each crate and each law has its place, what
-bench/run wrote has the figures of figures.csv, each picture is what its script draws, and the pages of users are not too long.
+bench/run wrote has the figures of figures.csv, each picture is what its script draws, and the pages of users and the front are not too long.
 
     tests/documents.py
 """
 
+import ast
 import re
 import sys
+import tokenize
 from functools import cache
 from pathlib import Path
 from textwrap import indent
@@ -38,6 +40,9 @@ DRAWN = {"contended.svg": ("examples/timeline.py", "examples/contended.history",
 OF_USERS = ("README", "docs/GUARANTEES", "docs/EXAMPLE", "docs/PERFORMANCE", "docs/FORMATS", "docs/TUTORIAL", "docs/WINDOWS", "docs/CHECKING", "docs/LOADS",
             "docs/OUTGROWING", "docs/SERVING", "CONTRIBUTING", "CHANGELOG", "tests/README")
 MOST_WORDS, MOST_OF_THE_FIRST = 16_000, 1_200
+# A page tells how many lines of code a script has: those with more than a comment, a docstring or what lays code out.
+LINES = (DOCUMENTS / "SERVING.md", re.compile(r"(\d+) lines of Python code"), ROOT / "examples" / "front.py")
+NO_CODE = {tokenize.COMMENT, tokenize.NL, tokenize.NEWLINE, tokenize.INDENT, tokenize.DEDENT, tokenize.ENDMARKER}
 
 NAME = re.compile(r"[A-Za-z_]\w*(::[A-Za-z_]\w*)*(\(\))?|--[a-z]+")
 # A path from the top, perhaps after steps up.
@@ -233,10 +238,26 @@ def lengths(tally: Tally) -> None:
     tally.check(sum(words.values()) <= MOST_WORDS, f"the pages of users have {sum(words.values())} words, of at most {MOST_WORDS}")
 
 
+def lines_of_scripts(tally: Tally) -> None:
+    """lines of examples/front.py, at most as many as docs/SERVING.md tells"""
+    page, told, script = LINES
+    most, count = told.search(page.read_text()), lines_of_code(script)
+    tally.check(most is not None and count <= int(most[1]), f"{script.name} has {count} lines of code, and {page.name} tells {most}")
+
+
+def lines_of_code(script: Path) -> int:
+    """How many lines of a script have code: without empty lines, comments and docstrings."""
+    docs = [node for node in ast.walk(ast.parse(script.read_text())) if isinstance(node, ast.Expr) and isinstance(node.value, ast.Constant)]
+    with script.open("rb") as text:
+        _, *tokens = tokenize.tokenize(text.readline)
+    lines = {line for token in tokens if token.type not in NO_CODE for line in range(token.start[0], token.end[0] + 1)}
+    return len(lines - {line for doc in docs for line in range(doc.lineno, doc.end_lineno + 1)})
+
+
 def main() -> None:
     tally = Tally()
     of_names = (names_and_paths, paths_in_commands, links, crates, laws, files_of_specs)
-    of_what_is_shown = (blocks_of_code, shown_files, quoted_definitions, tables, figures, pictures, lengths)
+    of_what_is_shown = (blocks_of_code, shown_files, quoted_definitions, tables, figures, pictures, lengths, lines_of_scripts)
     for check in (*of_names, *of_what_is_shown):
         passed = tally.passed
         check(tally)

@@ -140,11 +140,16 @@ def interrupted_calls(tester: Tester) -> None:
 
 LONG_PHASES = Options(workers=4, joined=1000, split=1000)
 OF_EACH_WORKER = 2000
-NEEDED = 2 * 3
+# To read the input, and for each of two phases.
+NEEDED = 3 * 3
+# With at most so many requests of each worker a phase is short.
+SHORT = 128
+SHORT_PHASES = replace(LONG_PHASES, joined=64, split=64)
 
 
-def views(count: int) -> bytes:
-    return b"".join(b"%d,viewuser,0\n" % worker * count for worker in range(LONG_PHASES.workers))
+def views(count: int, users: int = LONG_PHASES.shards) -> bytes:
+    """So many views of each worker, of so many users: each is in a shard of its own, if there are as many."""
+    return b"".join(b"%d,viewuser,%d\n" % (worker, index % users) for worker in range(LONG_PHASES.workers) for index in range(count))
 
 
 def views_seen(count: int) -> Outcome:
@@ -154,13 +159,48 @@ def views_seen(count: int) -> Outcome:
 
 @with_shim
 def refused_threads(tester: Tester) -> None:
-    """no more than n threads, for each n: a long phase needs one for each worker but the first, a short one none"""
+    """no more than n threads, for each n: a long phase needs one for each worker but the first; a short one, one on few shards and a long input none"""
     for most in range(NEEDED):
         tester.same(f"{most} threads", tester.run_cut("THREADS_AT_MOST", most, views(OF_EACH_WORKER), LONG_PHASES), UNSTARTED)
     got = tester.run_cut("THREADS_AT_MOST", NEEDED, views(OF_EACH_WORKER), LONG_PHASES)
     tester.same(f"{NEEDED} threads", got, views_seen(OF_EACH_WORKER))
-    tester.same("short phases", tester.run_cut("THREADS_AT_MOST", 0, views(1), LONG_PHASES), views_seen(1))
-    tester.same("no request", tester.run_cut("THREADS_AT_MOST", 0, b"", LONG_PHASES), Outcome(0, b"", b""))
+    for count in (0, 1, SHORT):
+        tester.same(f"{count} requests of each", tester.run_cut("THREADS_AT_MOST", 0, views(count), LONG_PHASES), views_seen(count))
+    tester.same(f"{SHORT + 1} requests of each", tester.run_cut("THREADS_AT_MOST", 0, views(SHORT + 1), LONG_PHASES), UNSTARTED)
+    for users in (1, 2):
+        got = tester.run_cut("THREADS_AT_MOST", 0, views(OF_EACH_WORKER, users), LONG_PHASES)
+        tester.same(f"long phases on {users} shards", got, views_seen(OF_EACH_WORKER))
+    tester.same("long phases on 3 shards", tester.run_cut("THREADS_AT_MOST", 0, views(OF_EACH_WORKER, 3), LONG_PHASES), UNSTARTED)
+    for most in range(NEEDED):
+        got = tester.run_cut("THREADS_AT_MOST", most, views(OF_EACH_WORKER), SHORT_PHASES)
+        tester.same(f"short phases of a long input, and {most} threads", got, views_seen(OF_EACH_WORKER))
+
+
+# Views of these users in turn, half of which are in one shard of at most 4, and of 1, 2, 4 or 8: a user's shard is the remainder of its number.
+TO_FOUR, TO_EIGHT = (0, 1, 4, 2), (0, 8, 0, 8, 3, 4, 5, 6)
+
+
+@with_shim
+def shards_for_speed(tester: Tester) -> None:
+    """--fast has four shards for each worker, unless they are given: long phases of two workers whose requests meet in one of eight, or of four, and no thread"""
+    workers = range(2)
+    quotas = ("--workers=2", f"--joined={LONG_PHASES.joined}", f"--split={LONG_PHASES.split}")
+    seen = Outcome(0, b"".join(b"%d,%d,%s" % (worker, index, SEEN) for worker in workers for index in range(OF_EACH_WORKER)), b"")
+    for users, shards, wanted in ((TO_FOUR, (), UNSTARTED), (TO_EIGHT, (), seen), (TO_FOUR, ("--shards=4",), seen), (TO_EIGHT, ("--shards=5",), UNSTARTED)):
+        data = b"".join(b"%d,viewuser,%d\n" % (worker, users[index % len(users)]) for worker in workers for index in range(OF_EACH_WORKER))
+        got = run([tester.program, "--fast", *quotas, *shards], data, env=tester.limited({"THREADS_AT_MOST": 0}))
+        tester.same(f"--fast {shards} and views of users {users}", got, wanted)
+
+
+@with_shim
+def threads_for_a_hot_item(tester: Tester) -> None:
+    """bids of all workers on one item and no thread: a long split phase needs one if the item is hot, and none if nothing may be"""
+    options = replace(LONG_PHASES, joined=1, threshold=1)
+    workers, count = range(options.workers), options.joined + options.split
+    bids = b"0,+item,0,0,Vase,10,100,1\n" + b"".join(b"%d,bid,1,0.0,10,5\n" % worker * count for worker in workers)
+    replies = b"".join(b"%d,%d,bid %d.%d\n" % (worker, index, worker, index) for worker in workers for index in range(count))
+    tester.same("a hot item", tester.run_cut("THREADS_AT_MOST", 0, bids, options), UNSTARTED)
+    tester.same("nothing hot", tester.run_cut("THREADS_AT_MOST", 0, bids, replace(options, hot=0)), Outcome(0, replies, b""))
 
 
 def users_without_threads(tester: Tester) -> None:
@@ -212,6 +252,8 @@ CHECKS = (
     cut_reads,
     interrupted_calls,
     refused_threads,
+    shards_for_speed,
+    threads_for_a_hot_item,
     users_without_threads,
 )
 

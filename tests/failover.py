@@ -6,38 +6,39 @@ otherwise.
 
 Clients (examples/sql/perform.py --keep) execute a load while one standby falls behind, the primary is killed with signal 9, and the other takes over
 (examples/sql/three.sh). If commits wait for a standby, five failovers lose nothing that was acknowledged, the referee accepts each history, and the tables have
-the views of the program that is opened with the rows of the history. If they do not wait, the referee names a request that was acknowledged and is lost.
-Without PostgreSQL nothing is tried.
+the views of the program that is opened with the rows of the history. If they do not wait, and both standbys fall behind, the referee names a request that was
+acknowledged and is lost. Without PostgreSQL nothing is tried.
 """
 
+import os
 import random
 import re
-import shutil
+import signal
 import socket
 import sys
-import tempfile
-from concurrent.futures import ThreadPoolExecutor
+from concurrent.futures import Future, ThreadPoolExecutor
 from contextlib import contextmanager
 from dataclasses import replace
 from pathlib import Path
 from subprocess import PIPE, run as run_tool
-from typing import Iterator
+from typing import Callable, Iterator
 
 import postgres
-from load_model import load_of
+from load_model import Plan, load_of
 from model import Outcome
-from postgres import ACCEPTED, MARKET, SQL, Kept, compared, found, program_views, rows_after, wait_for
-from program import Tally, described, run
+from postgres import ACCEPTED, HOLD, MARKET, NUMBERED, SQL, Kept, compared, found, program_views, rows_after, wait_for
+from program import Tally, described, run, servers_folder
 
 FAILOVERS = 5
-WORKERS, REQUESTS = 8, 1000
+WORKERS, REQUESTS = 8, 3000
 LOAD = replace(postgres.LOAD, requests=REQUESTS, workers=WORKERS, items=16, skew=100)
+LONG = replace(LOAD, requests=3 * REQUESTS)
 VIEWS = SQL / "lines.sql"
 HEAR_NOTHING = "ALTER SYSTEM SET primary_conninfo = ''; SELECT pg_reload_conf();"
-# A load may end before the primary dies, or have no request that was acknowledged just before: so often another is tried.
+# The process that a primary began with, and those that send to its standbys.
+PRIMARY, SENDERS = "SELECT split_part(pg_read_file('postmaster.pid'), chr(10), 1);", "SELECT pid FROM pg_stat_replication;"
+# On a busy machine a load may end before the primary dies: so often another is tried.
 TRIES = 20
-# Nothing here outlives a power failure: so the servers are kept in memory, where syncs take no time, if so many bytes are free there.
-MEMORY, ROOM = Path("/dev/shm"), 1 << 30
 LOST = re.compile(rb"[0-7],[0-9]+ stands in no line\n")
 
 
@@ -62,19 +63,35 @@ class Servers:
         words = ["psql", "-d", f"{self.address} target_session_attrs={role}", "-qAtX", "-v", "ON_ERROR_STOP=1"]
         return run_tool(words, input=text, stdout=PIPE, check=True, text=True).stdout.splitlines()
 
-    def fail_over(self, data: bytes, moment: int) -> Outcome:
+    def fail_over(self, data: bytes, moment: int, kill: Callable[[Future], None]) -> Outcome:
         """The history of an input that a new auction executes. The primary is killed after so many requests; from half of them on one standby hears nothing."""
         self.ask("SET client_min_messages = warning; DROP SCHEMA public CASCADE; CREATE SCHEMA public;")
+        self.primary = int(self.ask(PRIMARY)[0])
         words = [sys.executable, "-B", SQL / "perform.py", *MARKET, "--keep", "--database", self.address]
         with ThreadPoolExecutor() as threads:
             clients = threads.submit(run, words, data)
             wait_for(self, moment // 2, clients)
             self.ask(HEAR_NOTHING, "standby")
             wait_for(self, moment, clients)
-            self.three("kill")
+            kill(clients)
             self.three("promote")
             self.three("rejoin")
         return clients.result()
+
+    def kill(self, _) -> None:
+        """Kills the primary, at once."""
+        os.kill(self.primary, signal.SIGKILL)
+
+    def kill_behind(self, clients: Future) -> None:
+        """Kills the primary while no standby hears. Of WORKERS + 1 requests begun meanwhile one worker has two, so the first of these was acknowledged."""
+        senders = [int(pid) for pid in self.ask(SENDERS)]
+        for sender in senders:
+            os.kill(sender, signal.SIGSTOP)
+        wait_for(self, int(self.ask(NUMBERED)[0]) + WORKERS + 1, clients)
+        self.ask(HOLD)
+        self.three("kill")
+        for sender in senders:
+            os.kill(sender, signal.SIGKILL)
 
 
 def first_free_port() -> int:
@@ -91,8 +108,7 @@ def is_used(port: int) -> bool:
 
 @contextmanager
 def three_servers() -> Iterator[Servers]:
-    in_memory = MEMORY.is_dir() and shutil.disk_usage(MEMORY).free >= ROOM
-    with tempfile.TemporaryDirectory(dir=MEMORY if in_memory else None) as folder:
+    with servers_folder() as folder:
         servers = Servers(Path(folder))
         Path(folder).chmod(0o711)
         try:
@@ -102,17 +118,17 @@ def three_servers() -> Iterator[Servers]:
             servers.three("stop")
 
 
-def inputs(rng: random.Random) -> Iterator[tuple[bytes, int]]:
+def inputs(rng: random.Random, load: Plan) -> Iterator[tuple[bytes, int]]:
     """Loads, each with how many of its requests precede the kill."""
     while True:
-        yield load_of(replace(LOAD, seed=rng.randrange(1 << 32))), rng.randrange(REQUESTS // 10, REQUESTS // 2)
+        yield load_of(replace(load, seed=rng.randrange(1 << 32))), rng.randrange(REQUESTS // 10, REQUESTS // 3)
 
 
 def kept(servers: Servers, program: Path, checker: Path, rng: random.Random, tally: Tally) -> None:
     """failovers that keep what was acknowledged"""
     number = 0
-    for _, (data, moment) in zip(range(TRIES), inputs(rng)):
-        got = servers.fail_over(data, moment)
+    for _, (data, moment) in zip(range(TRIES), inputs(rng, LOAD)):
+        got = servers.fail_over(data, moment, servers.kill)
         told = Kept.of(got)
         tally.check(got.status == 0 and told.acknowledged == REQUESTS and told.lost == 0, f"failover {number}: {described(got)}")
         if got.status:
@@ -126,15 +142,20 @@ def kept(servers: Servers, program: Path, checker: Path, rng: random.Random, tal
 
 
 def lost(servers: Servers, _program: Path, checker: Path, rng: random.Random, tally: Tally) -> None:
-    """failovers without synchronous replication, and what the referee says of them"""
+    """a failover without synchronous replication, and what the referee says of it; and one with it again"""
     servers.three("async")
-    for _, (data, moment) in zip(range(TRIES), inputs(rng)):
-        got = servers.fail_over(data, moment)
+    for _, (data, moment) in zip(range(TRIES), inputs(rng, LONG)):
+        got = servers.fail_over(data, moment, servers.kill_behind)
         verdict = found(checker, servers.folder, WORKERS, data, got.stdout)
         tally.check((verdict == ACCEPTED) == (Kept.of(got).lost == 0), f"asynchronous: {described(got)}, {described(verdict)}")
         if verdict != ACCEPTED:
             break
     tally.check(verdict.status == 6 and LOST.fullmatch(verdict.stdout) is not None, f"asynchronous: {described(verdict)}")
+    servers.three("sync")
+    data, moment = next(inputs(rng, LOAD))
+    got = servers.fail_over(data, moment, servers.kill)
+    tally.check(Kept.of(got).lost == 0, f"synchronous again: {described(got)}")
+    tally.same("the history of synchronous servers", found(checker, servers.folder, WORKERS, data, got.stdout), ACCEPTED)
 
 
 def main() -> None:

@@ -18,7 +18,11 @@ sys.path.append(str(EXAMPLES))
 import load
 
 FRONT = [sys.executable, "-B", str(EXAMPLES / "front.py")]
-WORKERS = 4
+WORKERS, MEGABYTES = 4, 50
+# Replies of the front, and one of a view.
+PROTOCOL, UNKNOWN_COMMAND, FULL, ENDS = b"-ERR Protocol error", b"-ERR unknown command", b"-ERR max number of clients reached", b"-ERR the auction ends"
+UNKNOWN = b"-UNKNOWN whether this was done: the auction ended before its reply"
+SEEN = b"+user rating=0 comments=0"
 
 
 class Front:
@@ -32,7 +36,7 @@ class Front:
         self.log, self.audit, self.said = log or self.folder / "rows", self.folder / "audit", self.folder / "said"
         if log is None:
             self.log.write_bytes(rows)
-        self.words = [*FRONT, "--log", str(self.log), "--audit", str(self.audit), "--workers", str(WORKERS), *words, str(program or tester.program), "--split", "4096"]
+        self.words = [*FRONT, "--log", str(self.log), "--audit", str(self.audit), "--workers", str(WORKERS), *words, str(program or tester.program), "--fast"]
         self.port, self.how = 0, how
         self.start()
         if waits:

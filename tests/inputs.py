@@ -35,7 +35,7 @@ def random_input(rng: random.Random) -> Input:
     lengths = (0, rng.choices((0, 4, 15, 40, 100, 300), (4, 20, 45, 25, 5, 1))[0])
     if rng.random() < 0.1:
         options = crowded(rng, options)
-        lengths = (600 // options.workers, 1200 // options.workers)
+        lengths = (options.joined, options.joined + options.split)
     data = Text(rng, options, lengths).made()
     if rng.random() < 0.2:
         data = damaged(rng, data)
@@ -43,10 +43,9 @@ def random_input(rng: random.Random) -> Input:
 
 
 def crowded(rng: random.Random, options: Options) -> Options:
-    """Options of several workers with as many requests in a phase as make each worker a thread of its own."""
-    workers = rng.choice((2, 3, 4, 16))
-    joined, split = (rng.choice((320, 640)) // workers for _ in range(2))
-    return replace(options, workers=workers, joined=joined, split=split, history=True)
+    """Options of several workers with as many requests in a phase as make each worker a thread of its own, if they are on several shards."""
+    joined, split = (rng.choice((140, 280)) for _ in range(2))
+    return replace(options, workers=rng.choice((2, 3, 4)), shards=rng.choice((3, 4, 5, 16, 64)), joined=joined, split=split, history=True)
 
 
 def random_options(rng: random.Random) -> Options:

@@ -113,7 +113,7 @@ def late_faults(tester: Tester) -> None:
     """a row that is refused, and a line that is no row, behind many: a fault with its number, and the log is as it was; on standard input the rows before it are logged"""
     log = tester.folder / "late"
     for line, words in (
-        (b"0,+bid,1,0.7,20,5\n", f"row {MANY + 2}: refused"),
+        (b"0,+bid,1,0.7,20,5\n", f"row {MANY + 2}: refused 3 NoSuchItem"),
         (b"0,+bid,1,0.0,x,5\n", f"record {MANY + 2}: not a number"),
         (b"0,+bid,1,0.0,20,5\r\n", f"line {MANY + 2}: not as rows are written"),
         (b"3,+bid,1,0.0,20,5\n", f"record {MANY + 2}: no such worker"),
@@ -143,7 +143,7 @@ def late_lines(tester: Tester) -> None:
         written(given, ITEM, ROW * 2 * few, b"0,+bid,1,0.7,20,5\n0,viewuser,2\n")
         with given.open("rb") as lines:
             got = run([tester.program, *words, "--log", log], lines)
-        right = (got.status, got.stdout, got.stderr) == (3, b"", f"rubis_auction: row {2 * few + 2}: refused\n".encode())
+        right = (got.status, got.stdout, got.stderr) == (3, b"", f"rubis_auction: row {2 * few + 2}: refused 3 NoSuchItem\n".encode())
         tester.tally.check(right, f"a row that is refused behind many, {words}: {described(got)}")
         tester.tally.check((ITEM + ROW * 2 * few).startswith(log.read_bytes()) and log.read_bytes().endswith(ROW), f"rows before a refused one are logged, {words}")
         again = run([tester.program, "--log", log], b"0,viewuser,2\n")

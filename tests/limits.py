@@ -265,6 +265,15 @@ def numbers_without_words(tester: Tester) -> None:
         tester.same(f"no --{option} beside {words}", run([tester.program, *words], rows + bids + views), wanted)
 
 
+def numbers_for_speed(tester: Tester) -> None:
+    """the quotas that --fast says, and numbers given beside it, before it and after it"""
+    data, fast = VASE + b"0,bid,1,0.0,10,5\n" * 9 + VIEW * 8_500, Options(split=4096, history=True)
+    for given in ({}, {"shards": 1}, {"joined": 5}, {"split": 64}, {"shards": 64, "joined": 100, "split": MILLION}):
+        words = [f"--{option}={number}" for option, number in given.items()]
+        for line in (["--fast", *words], [*words, "--fast"]):
+            tester.same(f"{line}", run([tester.program, "--history", *line], data), expected(data, replace(fast, **given)))
+
+
 def words_in_both_forms(tester: Tester) -> None:
     """numbers after an equals sign and after a space, a flag, and the name of a log"""
     replies = b"15,0,refused 1 NoSuchUser\n15,1,latest\n"
@@ -295,7 +304,7 @@ def odd_words(tester: Tester) -> None:
     """words that are no option"""
     for word in ("--worker=2", "workers", "--history=1", "-", "-x", "--=4", "", b"\xff", b"--workers=\xff"):
         options_are_refused(tester, word)
-    for words in (("--history", "--history"), ("--rows", "--rows"), ("--", "x")):
+    for words in (("--history", "--history"), ("--rows", "--rows"), ("--fast", "--fast"), ("--fast=1",), ("--", "x")):
         options_are_refused(tester, *words)
     options_are_refused(tester, *["--history"] * 1000)
     tester.same("no environment", tester.run(tester.example, env={}), Outcome(0, tester.replies, b""))
@@ -308,7 +317,7 @@ def help_and_version(tester: Tester) -> None:
     wanted = {option: (*limits, getattr(Options(), option)) for option, limits in OPTION_LIMITS.items()} | {"live": (0, MILLION, 0)}
     tester.tally.check(numbers == wanted, f"what --help says of numbers: {numbers}")
     flags = {option.name for option in fields(Options)} - set(OPTION_LIMITS)
-    tester.tally.check(set(helps.OPTION.findall(said)) == {*wanted, *flags, "faults", "log", "help", "version"}, "what --help has a line of")
+    tester.tally.check(set(helps.OPTION.findall(said)) == {*wanted, *flags, "fast", "faults", "log", "help", "version"}, "what --help has a line of")
     for name in ("first.csv", "load.csv"):
         (tester.folder / name).write_bytes(tester.example)
     helps.examples(tester.tally, said, "rubis_auction", tester.folder, {"rubis_auction": tester.program})
@@ -365,18 +374,19 @@ def replies_in_order(tester: Tester) -> None:
     tester.tally.check(right and len(lines) == 16 * OF_EACH_WORKER, "requests of all kinds: the order of their replies")
 
 
-def one_shard(tester: Tester) -> None:
-    """16 workers who bid on one item in threads, of which nothing is hot: each commit has a number of its own"""
-    bids = b"".join(b"%d,bid,%d,0.0,10,7\n" % (worker, worker) * 1_000 for worker in range(16))
-    first = VASE + b"".join(b"%d,viewuser,0\n" % worker for worker in range(1, 16))
-    options = Options(workers=16, shards=1, joined=1, split=1_000, threshold=1, hot=0, users=16, categories=2, history=True)
-    got = tester.run(first + bids + b"0,viewitem,0.0\n", options)
-    tester.same("16,000 bids on one item", replace(got, stdout=b""), Outcome(0, b"", b""))
-    *lines, last = got.stdout.splitlines()
-    second = [line.split() for line in lines if line.startswith(b"1 ")]
-    numbered = [(words[1], words[4]) for words in second] == [(b"%d" % number, b"bid") for number in range(1, 16_001)]
-    seen = b"2 1 0 1001 viewitem seller=0 category=0 start=10 closes=100 highest=10 bidder=15 bids=16000 left=1 name=Vase"
-    tester.tally.check(numbered and last == seen, "16,000 bids on one item: their numbers, and what is seen of them")
+def few_shards(tester: Tester) -> None:
+    """16 workers who bid on three items in threads, of which nothing is hot: commits that share a shard have different numbers"""
+    bids = b"".join(b"%d,bid,%d,0.%d,10,7\n" % (worker, worker, turn % 3) for worker in range(16) for turn in range(900))
+    first = VASE * 3 + b"".join(b"%d,viewuser,0\n" % worker * 3 for worker in range(1, 16))
+    options = Options(workers=16, shards=3, joined=3, split=900, threshold=1, hot=0, users=16, categories=2, history=True)
+    got = tester.run(first + bids + b"0,viewitem,0.0\n0,viewitem,0.1\n0,viewitem,0.2\n", options)
+    tester.same("14,400 bids on three items", replace(got, stdout=b""), Outcome(0, b"", b""))
+    lines = got.stdout.splitlines()
+    for item in range(3):
+        numbers = [int(words[1]) for words in map(bytes.split, lines) if words[0] == b"1" and int(words[3]) % 3 == item]
+        tester.tally.check(len(numbers) == len(set(numbers)) == 4_800, f"item {item}: the numbers of its bids")
+        seen = b"viewitem seller=0 category=0 start=10 closes=100 highest=10 bidder=15 bids=4800 left=1 name=Vase"
+        tester.tally.check(lines[item - 3].endswith(seen), f"item {item}: what is seen of its bids")
 
 
 def one_hot_item(tester: Tester) -> None:
@@ -468,6 +478,7 @@ CHECKS = (
     stars,
     numbers_in_options,
     numbers_without_words,
+    numbers_for_speed,
     words_in_both_forms,
     reasons_of_options,
     odd_words,
@@ -476,7 +487,7 @@ CHECKS = (
     lists_of_ten,
     hot_objects,
     replies_in_order,
-    one_shard,
+    few_shards,
     one_hot_item,
     sixty_four_hot_objects,
     requests_of_a_worker,

@@ -7,9 +7,11 @@ byte, and what was answered outlasts a program that is killed. The log itself is
 The kills are of a program under load, at random moments, and what it answered before and after is held against the model as one auction."""
 
 import argparse
+import fcntl
 import itertools
 import os
 import random
+import select
 import shutil
 import signal
 import socket
@@ -24,7 +26,7 @@ from typing import Callable, Iterator
 
 from checks import Tester, tell_of
 from program import BUILT, EXAMPLES, Tally, built, described, in_little_memory, run
-from sessions import FIRST, IN_USE, ITEMS, PLAIN, SECONDS, Auction, Era, Refused, fault_of, requests, rows_of, wait_until
+from sessions import FIRST, ITEMS, PLAIN, SECONDS, Auction, Era, Refused, fault_of, in_use, requests, rows_of, wait_until
 
 SEEN = "user rating=0 comments=0"
 ENDS = ("--faults", "end")
@@ -218,7 +220,7 @@ def sockets(tester: Tester) -> None:
             with connected(place) as second:
                 tester.tally.check(second("0,viewuser,0") == "", "a second client has no reply")
             tester.tally.check(first("0,bid,1,0.0,500,3") == "0,1,bid 0.0", "the first client goes on")
-        wait_until(lambda: fault_of(tester.program, log) != IN_USE)
+        wait_until(lambda: fault_of(tester.program, log) != in_use(log))
         with connected(place) as third:
             tester.tally.check(third("0,bid,2,0.0,700,4") == "0,0,bid 0.1", "a later client goes on from the log")
         server.terminate()
@@ -240,6 +242,29 @@ def connected(place: Path) -> Iterator[Callable[[str], str]]:
 
         yield ask
         replies.close()
+
+
+def unread_replies(tester: Tester) -> None:
+    """a client that reads no replies: the program takes more requests than the pipe holds, a thousand at least, and waits; once they are read, all that was sent is answered"""
+    process, request = Auction(tester.program).process, b'0,item,0,0,"%s",10,1900000000000,1\n' % (b"x" * 31)
+    pipe, left = process.stdin.fileno(), request * 100_000
+    # Of a program that reads nothing the pipe takes so many requests, the last of them perhaps in part.
+    held = fcntl.fcntl(pipe, fcntl.F_GETPIPE_SZ) // len(request) + 1
+    while left and select.select([], [pipe], [], 1)[1]:
+        left = left[os.write(pipe, left[:1000]) :]
+    count = 100_000 - len(left) // len(request)
+    replies, _ = process.communicate(left[: len(left) % len(request)], SECONDS)
+    tester.tally.check(max(held, 1000) < count < 100_000, f"{count} requests whose replies nobody reads, of which the pipe holds at most {held}")
+    tester.tally.check(replies.decode().splitlines() == [f"0,{index},item 0.{index}" for index in range(count)], f"their replies, once they are read: {replies[-60:]}")
+
+
+def short_parts(tester: Tester) -> None:
+    """views of what a long part makes hot are deferred, and in parts that are not longer than the joined phase they are not"""
+    data = FIRST[0], *(request for number in range(200) for request in (f"bid,1,0.0,{500 + number},5", "viewitem,0.0"))
+    for most, is_deferred in ((10, False), (1000, True)):
+        got = run([tester.program, "--history", "--live", str(most), "--joined", "64", "--split", "64", "--threshold", "1"], "".join(f"0,{request}\n" for request in data).encode())
+        indexes = [int(line.split(b" ")[3]) for line in got.stdout.splitlines()]
+        tester.tally.check(sorted(indexes) == [*range(len(data))] and (indexes != sorted(indexes)) == is_deferred, f"parts of {most}: {indexes[60:80]}")
 
 
 def no_report(tester: Tester) -> None:
@@ -310,7 +335,7 @@ def kills(tester: Tester) -> None:
             print(f"{number + 1} kills", flush=True)
 
 
-CHECKS = (line_ends, terminals, clients, faulty_lines, ends_without_live, faulty_rows, answered_faults, open_quotes, endless_lines, signals, sockets, no_report, same_bytes, histories, kills)
+CHECKS = (line_ends, terminals, clients, faulty_lines, ends_without_live, faulty_rows, answered_faults, open_quotes, endless_lines, signals, sockets, unread_replies, short_parts, no_report, same_bytes, histories, kills)
 
 
 def main() -> None:

@@ -5,6 +5,7 @@ fail, full disks and no memory, after which nothing answered is lost; and a star
     tests/logs.py [PROGRAM] [--only CHECK]
 """
 
+import errno
 import itertools
 import os
 import random
@@ -21,11 +22,20 @@ from checks import Tester, main, with_shim
 from model import Options, Outcome, expected
 from program import NOBODY, become_nobody, build_shim, described, run
 from refusing import UNREACHED_IN_A_ROW, Refusing
-from sessions import FIRST, IN_USE, PLAIN, Auction, Refused, fault_of, is_stored, requests, rows_of, wait_until, whole_lines
+from sessions import FIRST, PLAIN, Auction, Refused, fault_of, in_use, is_stored, requests, rows_of, told_of, wait_until, whole_lines
 
+# Rows that are refused behind those of `FIRST`, and how this is told.
+REFUSED_ROWS = (
+    ("0,+bid,100,0.0,500,3", "row 9: refused 1 NoSuchUser"),
+    ('0,+item,0,10,"Vase",10,1000,1,3', "row 9: refused 2 NoSuchCategory"),
+    ("0,+bid,1,0.99,500,3", "row 9: refused 3 NoSuchItem"),
+    ("0,+bid,1,0.0,9,3", "row 9: refused 4 BelowStart"),
+    ("0,+bid,1,0.0,500,1000", "row 9: refused 5 Closed"),
+    ("0,+buynow,1,0.0,3,5\n0,+bid,1,0.0,500,6", "row 10: refused 6 SoldOut"),
+    ("0,+buynow,1,0.0,4,5", "row 9: refused 7 NotEnough"),
+)
 SEEN = "user rating=0 comments=0"
-UNLOCKED, UNREAD, UNWRITTEN, NO_FILE, UNKEPT = (("rubis_auction: " + words, 5) for words in (
-    "log cannot be locked", "log cannot be read", "log cannot be written", "log is not a regular file", "cut bytes of the log cannot be kept"))
+UNREAD, UNWRITTEN = "cannot be read", "cannot be written"
 
 
 # How it is opened.
@@ -37,7 +47,7 @@ def locked_log(tester: Tester) -> None:
     first = Auction(tester.program, "--log", str(log))
     first.one(FIRST[0])
     before = log.read_bytes()
-    tester.tally.check(fault_of(tester.program, log) == IN_USE, "a second program on a log")
+    tester.tally.check(fault_of(tester.program, log) == in_use(log), "a second program on a log")
     tester.tally.check(first.one(FIRST[0]) == "item 0.1" and log.read_bytes().startswith(before), "the first goes on")
     first.close()
     tester.tally.check(fault_of(tester.program, log) is None, "a program on a log that is free again")
@@ -50,7 +60,7 @@ def without_locks(tester: Tester) -> None:
     log.write_bytes(rows_of(FIRST) + b"0,+bi")
     text = log.read_bytes()
     refused = fault_of(tester.program, log, env=os.environ | {"LD_PRELOAD": str(tester.shim), "LOCK_FAILS": "1"})
-    tester.tally.check(refused == UNLOCKED and log.read_bytes() == text, f"a log without locks: {refused}")
+    tester.tally.check(refused == told_of(log, "cannot be locked", errno.ENOLCK) and log.read_bytes() == text, f"a log without locks: {refused}")
 
 
 def forbidden_logs(tester: Tester) -> None:
@@ -64,7 +74,8 @@ def forbidden_logs(tester: Tester) -> None:
         tester.folder.chmod(0o755)
         os.chown(folder, NOBODY, NOBODY)
         os.chown(log, NOBODY, NOBODY)
-    for of_folder, of_log, wanted in ((0o700, 0o200, UNREAD), (0o700, 0o400, UNREAD), (0o300, 0o600, UNREAD), (0o500, 0o600, None)):
+    forbidden = told_of(log, UNREAD, errno.EACCES)
+    for of_folder, of_log, wanted in ((0o700, 0o200, forbidden), (0o700, 0o400, forbidden), (0o300, 0o600, forbidden), (0o500, 0o600, None)):
         log.chmod(of_log)
         folder.chmod(of_folder)
         refused = fault_of(program, log, preexec_fn=become_nobody)
@@ -85,7 +96,7 @@ def append_only_logs(tester: Tester) -> None:
             refused = fault_of(tester.program, log)
         finally:
             run(["chattr", "-a", log])
-        tester.tally.check(refused == UNWRITTEN and log.read_bytes() == text, f"a log that can only be added to, with {tail!r} behind its rows: {refused}")
+        tester.tally.check(refused == told_of(log, UNWRITTEN, errno.EPERM) and log.read_bytes() == text, f"a log that can only be added to, with {tail!r} behind its rows: {refused}")
 
 
 def cut_logs(tester: Tester) -> None:
@@ -135,18 +146,31 @@ def foreign_files(tester: Tester) -> None:
         tester.tally.check(right and file.read_bytes() == text and not file.with_name("foreign.cut").exists(), f"{text[:40]!r} as a log: {refused}")
 
 
+def repaired_logs(tester: Tester) -> None:
+    """a log with NUL bytes at its end, in its last row or before more lines: refused, and accepted once it is repaired as docs/SERVING.md says"""
+    log, rows = tester.folder / "repaired", rows_of(FIRST)
+    for end in (bytes(5000), b"0,+bid,1,0.0,5" + bytes(2), bytes(20) + rows, b"0,+bid,1" + bytes(3) + b"0.0,5\n" + rows):
+        text = rows + end
+        log.write_bytes(text)
+        tester.tally.check(fault_of(tester.program, log) is not None and log.read_bytes() == text, f"a log with NUL bytes, {end[:20]!r}")
+        before, _, after = text.partition(bytes(1))
+        log.write_bytes(before[: before.rfind(b"\n") + 1] if after.strip(bytes(1)) else before)
+        tester.tally.check(fault_of(tester.program, log) is None and log.read_bytes() == rows, f"a repaired log, {end[:20]!r}")
+
+
 def special_files(tester: Tester) -> None:
     """a pipe, a device or a folder as a log: a fault at once; a cut row that cannot be kept: a fault, and the log is as it was"""
     pipe, log = tester.folder / "pipe", tester.folder / "uncut"
     os.mkfifo(pipe)
     for path in (pipe, Path("/dev/null"), Path("/dev/full"), Path("/dev/zero")):
-        tester.tally.check(fault_of(tester.program, path) == NO_FILE, f"{path} as a log")
-    tester.tally.check(fault_of(tester.program, tester.folder) == UNREAD, "a folder as a log")
-    tester.tally.check(fault_of(tester.program, tester.folder / "none" / "log") == UNREAD, "a log in no folder")
+        tester.tally.check(fault_of(tester.program, path) == told_of(path, "not a regular file"), f"{path} as a log")
+    missing = tester.folder / "none" / "log"
+    tester.tally.check(fault_of(tester.program, tester.folder) == told_of(tester.folder, UNREAD, errno.EISDIR), "a folder as a log")
+    tester.tally.check(fault_of(tester.program, missing) == told_of(missing, UNREAD, errno.ENOENT), "a log in no folder")
     text = rows_of(FIRST) + b"0,+bi"
     log.write_bytes(text)
     (tester.folder / "uncut.cut").mkdir()
-    tester.tally.check(fault_of(tester.program, log) == UNKEPT and log.read_bytes() == text, "a cut row that cannot be kept")
+    tester.tally.check(fault_of(tester.program, log) == told_of(log, "cut bytes cannot be kept", errno.EISDIR) and log.read_bytes() == text, "a cut row that cannot be kept")
     link, far = tester.folder / "link", tester.folder / "far"
     far.mkdir()
     link.symlink_to(far / "log")
@@ -168,12 +192,12 @@ def bad_logs(tester: Tester) -> None:
     """a log with a line that is no row, or a row that is refused: a fault that names file, place and reason, and the file is as it was"""
     log, good = tester.folder / "bad", rows_of(FIRST).decode()
     for line, words in (("0,+bid,no row", "record 9: wrong number of fields"), ("0,+bid,1,0.0,x,1", "record 9: not a number"), ("7,+comment,1,2,0.0,1", "record 9: no such worker"),
-                        ("0,+item,0,0,Vase,1,2,3,0", "record 9: not a quantity"), ("x", "record 9: not a number"), ("0,+bid,1,0.99,500,3", "row 9: refused")):
+                        ("0,+item,0,0,Vase,1,2,3,0", "record 9: not a quantity"), ("x", "record 9: not a number"), *REFUSED_ROWS):
         for rest in ("", "0,+comment,1,2,0.0,1\n", "0,+com"):
             log.write_text(f"{good}{line}\n{rest}")
             text = log.read_bytes()
             refused = fault_of(tester.program, log)
-            tester.tally.check(refused == (f"rubis_auction: {log}: {words}", 5) and log.read_bytes() == text, f"a log with {line!r} and {rest!r}: {refused}")
+            tester.tally.check(refused == told_of(log, words) and log.read_bytes() == text, f"a log with {line!r} and {rest!r}: {refused}")
 
 
 def read_back(tester: Tester) -> None:
@@ -185,9 +209,10 @@ def read_back(tester: Tester) -> None:
         sent += asked
         auction = Auction(tester.program, "--log", str(log), *PLAIN)
         auction.many([(0, request) for request in asked])
+        copied = log.read_bytes()
         auction.close()
         data = "".join(f"0,{request}\n" for request in sent).encode()
-        tester.tally.check(log.read_bytes() == expected(data, Options(hot=0, rows=True)).stdout, f"the log after session {seed} is the model's rows")
+        tester.tally.check(copied == log.read_bytes() == expected(data, Options(hot=0, rows=True)).stdout, f"the log in and after session {seed} is the model's rows")
     got = run([tester.program, "--rows"], log.read_bytes())
     tester.tally.check(got.stdout == log.read_bytes(), "a log is read as input, and printed again")
 
@@ -203,7 +228,7 @@ def quick_starts(tester: Tester) -> None:
         if is_awaited:
             auction.process.wait()
         refused = fault_of(tester.program, log)
-        tester.tally.check(answered == f"item 0.{number}" and (refused is None or refused == IN_USE and not is_awaited), f"a start right after kill {number}: {refused}")
+        tester.tally.check(answered == f"item 0.{number}" and (refused is None or refused == in_use(log) and not is_awaited), f"a start right after kill {number}: {refused}")
         wait_until(lambda: fault_of(tester.program, log) is None)
         auction.process.communicate()
     tester.tally.check(log.read_bytes() == rows_of([FIRST[0]] * 100), "the log after 100 kills")
@@ -214,17 +239,18 @@ def quick_starts(tester: Tester) -> None:
 
 @with_shim
 def failing_logs(tester: Tester) -> None:
-    """a write, a sync, or one of them and its cut of the log that fails, at each place: the fault, no reply of that part, and nothing answered is lost"""
+    """a write, a sync, or one of them and its cut of the log that fails, at each place: the fault, with the system's words only as the log is opened, no reply of that part, and nothing answered is lost"""
     causes = {"write": ("LOG_WRITE_FAILS",), "sync": ("LOG_SYNC_FAILS",), "write and cut": ("LOG_WRITE_FAILS", "LOG_CUT_FAILS"), "sync and cut": ("LOG_SYNC_FAILS", "LOG_CUT_FAILS")}
     for cause, limits in causes.items():
         for number in range(1, 9):
             # The first cut and the first sync are those of the log's opening.
             limited = {name: str(2 if name == "LOG_CUT_FAILS" else number) for name in limits}
+            why = errno.EIO if limited.get("LOG_SYNC_FAILS") == "1" else None
             log = tester.folder / f"{cause}-{number}"
             auction = Auction(tester.program, "--log", str(log), env=os.environ | {"LD_PRELOAD": str(tester.shim)} | limited)
             answered, fault = until_refused(auction, [FIRST[0], *(f"comment,{at},{at},0.0,1" for at in range(9))])
             what = f"{cause} {number} fails"
-            tester.tally.check(fault == UNWRITTEN, f"{what}: {fault}")
+            tester.tally.check(fault == told_of(log, UNWRITTEN, why), f"{what}: {fault}")
             lost_nothing(tester, what, log, answered, at_most=len(answered) + cause.endswith("and cut"))
 
 
@@ -268,7 +294,7 @@ def full_disks(tester: Tester) -> None:
         log = tester.folder / f"limited-{size}"
         limit = partial(limited_to, size)
         answered, fault = until_refused(Auction(tester.program, "--log", str(log), preexec_fn=limit), asked)
-        tester.tally.check(fault == UNWRITTEN, f"a log of at most {size} bytes: {fault}")
+        tester.tally.check(fault == told_of(log, UNWRITTEN), f"a log of at most {size} bytes: {fault}")
         lost_nothing(tester, f"a log of at most {size} bytes", log, answered, at_most=len(answered))
     disk = tester.folder / "disk"
     disk.mkdir()
@@ -316,12 +342,12 @@ def is_front(got: Outcome, whole: Outcome, log: bytes, rows: bytes) -> bool:
     """Whether a run of parts of two requests told whole parts and logged their rows, and no more than those of one part else."""
     replies = got.stdout.decode().splitlines()
     logged = 2 + sum(is_stored(reply.split(",", 2)[2]) for reply in replies)
-    ended = got == whole if got.status == 0 else got.stderr.endswith((b"no memory\n", b": log cannot be read\n")) and 1 <= got.status <= 5
+    ended = got == whole if got.status == 0 else got.stderr.endswith(b"no memory\n") and 1 <= got.status <= 5
     told = whole.stdout.startswith(got.stdout) and len(replies) % 2 == 0
     return ended and told and rows.startswith(log) and logged <= log.count(b"\n") <= logged + 2
 
 
-CHECKS = (locked_log, without_locks, forbidden_logs, append_only_logs, cut_logs, foreign_files, special_files, closed_places, bad_logs, read_back, quick_starts, failing_logs, interrupted_logs, full_disks, refused_memory)
+CHECKS = (locked_log, without_locks, forbidden_logs, append_only_logs, cut_logs, foreign_files, repaired_logs, special_files, closed_places, bad_logs, read_back, quick_starts, failing_logs, interrupted_logs, full_disks, refused_memory)
 
 if __name__ == "__main__":
     main(__doc__, CHECKS)

@@ -7,6 +7,7 @@ import time
 from contextlib import suppress
 from pathlib import Path
 
+from checks import Tester
 from fronts import Front, packed
 
 VIEWS = b"VIEWBIDS 0.0\n"
@@ -30,26 +31,28 @@ def without_processor(threads: list[str]) -> float:
     return 0
 
 
-def read_nothing(front: Front, _) -> None:
-    """Each sends what has 15 MB of replies, and waits until the front takes no more."""
-    left = {front.client(receive=4096): VIEWS * 40_000 for _ in range(5)}
+def read_nothing(tester: Tester, front: Front, _) -> None:
+    """Each sends what has 15 MB of replies, and waits until the front takes no more: it leaves many requests to the system."""
+    left, before = {front.client(receive=4096): VIEWS * 40_000 for _ in range(5)}, front.info()["requests"]
     for client in left:
         client.socket.setblocking(False)
     idle = 0
     with front.client() as other:
         while idle < 50:
-            taken = 0
+            sent = 0
             for client, data in left.items():
                 with suppress(BlockingIOError):
                     count = client.socket.send(data[:20_000])
-                    left[client], taken = data[count:], taken + count
+                    left[client], sent = data[count:], sent + count
             # One may be of the client that asks all the time.
-            idle = 0 if taken or other.info()["under_way"] > 1 else idle + 1
+            idle = 0 if sent or other.info()["under_way"] > 1 else idle + 1
+        taken = other.info()["requests"] - before
     for client in left:
         client.__exit__()
+    tester.tally.check(taken < 5 * 40_000, f"the front takes {taken} requests of clients that read nothing")
 
 
-def hang_up(front: Front, draw: random.Random) -> None:
+def hang_up(_, front: Front, draw: random.Random) -> None:
     for _ in range(150):
         with front.client() as client:
             client.send(b"BID 1 0.0 500 5\r\n" * draw.randrange(200) + b"*5\r\n$3\r\nBI"[: draw.randrange(10)])
@@ -59,7 +62,7 @@ RUBBISH = (b"BID", b"ITEM", b"1", b"0.0", b"-1", b"007", b"\xff", b'"', b"'", b"
            b"18446744073709551616", b"+bid", b"\0", b"\x0b", b"0,bid,1,0.0,10,5\n", b"\xe2\x80\xa8", b"\xc2\x85", packed(b"BID", b"1", b"0.0", b"5\r", b'"') + b"\n", b"BID 1 0.0 500 5\n")
 
 
-def send_rubbish(front: Front, draw: random.Random) -> None:
+def send_rubbish(_, front: Front, draw: random.Random) -> None:
     for _ in range(400):
         with front.client() as client, suppress(ConnectionError):
             client.send(b"".join(draw.choices(RUBBISH, k=draw.randrange(1, 30))))

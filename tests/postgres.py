@@ -18,7 +18,6 @@ import re
 import shutil
 import sys
 import tempfile
-import time
 from collections import defaultdict
 from concurrent.futures import Future, ThreadPoolExecutor
 from dataclasses import replace
@@ -48,9 +47,19 @@ ACCEPTED = Outcome(0, b"the history replays\n", b"")
 HOLD = "ALTER SYSTEM SET synchronous_standby_names = 'nobody'; SELECT pg_reload_conf();"
 BREAK = "SELECT pg_terminate_backend(pid) FROM pg_locks WHERE locktype = 'advisory';"
 GO_ON = "ALTER SYSTEM RESET synchronous_standby_names; SELECT pg_reload_conf();"
-BREAKING, BREAKS = replace(LOAD, requests=400, workers=4, skew=100), 5
+BREAKING, BREAKS = replace(LOAD, requests=2000, workers=4, skew=100), 5
 # How many requests have numbers.
 NUMBERED = "SELECT coalesce(max(last_value), 0) FROM pg_sequences WHERE sequencename = 'commits';"
+# Waits in the server until something is so, or for a second: that some requests have numbers, or that some transaction has committed and is not acknowledged.
+AWAITED = """\
+DO $$ BEGIN
+    FOR _ IN 1 .. 1000 LOOP
+        EXIT WHEN EXISTS (SELECT FROM {});
+        PERFORM pg_sleep(0.001), pg_stat_clear_snapshot();
+    END LOOP;
+END $$;
+"""
+HAVE_NUMBERS, IS_HELD = "pg_sequences WHERE sequencename = 'commits' AND last_value >= {}", "pg_stat_activity WHERE wait_event = 'SyncRep'"
 
 
 class Server:
@@ -206,8 +215,9 @@ def histories(server: Server, program: Path, checker: Path, rng: random.Random, 
 
 def wait_for(server, moment: int, performed: Future) -> None:
     """Waits until so many requests have numbers, or perform.py has ended."""
-    while not performed.done() and int(server.ask(NUMBERED)[0]) < moment:
-        time.sleep(0.05)
+    awaited = AWAITED.format(HAVE_NUMBERS.format(moment))
+    while not performed.done() and int(server.ask(awaited + NUMBERED)[0]) < moment:
+        pass
 
 
 def broken_connections(server: Server, program: Path, checker: Path, rng: random.Random, tally: Tally) -> None:
@@ -218,8 +228,7 @@ def broken_connections(server: Server, program: Path, checker: Path, rng: random
         performed = threads.submit(server.perform, data, "--keep")
         for moment in range(0, BREAKING.requests, BREAKING.requests // BREAKS):
             wait_for(server, moment + 1, performed)
-            server.ask(HOLD)
-            time.sleep(0.1)
+            server.ask(HOLD + AWAITED.format(IS_HELD))
             server.ask(BREAK + GO_ON)
     got = performed.result()
     told = Kept.of(got)

@@ -5,6 +5,7 @@ import resource
 import shutil
 import signal
 import sys
+import tempfile
 from dataclasses import dataclass
 from pathlib import Path
 from subprocess import PIPE, Popen, TimeoutExpired, check_call
@@ -20,6 +21,8 @@ DOCUMENTS = TESTS.parent / "docs"
 LITTLE_MEMORY = 64 << 20
 NOBODY = 65534
 
+# No test cuts the power: so servers keep their files in memory, where syncs take no time, if so many bytes are free there.
+MEMORY, ROOM = Path("/dev/shm"), 1 << 30
 # What runs so long hangs. No run takes a tenth of it, so that a busy machine fails no test.
 SECONDS = 600
 MOST_FAILURES = 20
@@ -70,6 +73,12 @@ def build_shim(name: str, folder: Path) -> Path | None:
     shim = folder / f"{name}.so"
     check_call([compiler, "-Wall", "-Wextra", "-Werror", "-shared", "-fPIC", "-O1", "-o", shim, TESTS / f"{name}.c", "-ldl"])
     return shim
+
+
+def servers_folder() -> tempfile.TemporaryDirectory:
+    """A folder for the files of servers, in memory if there is room."""
+    in_memory = MEMORY.is_dir() and shutil.disk_usage(MEMORY).free >= ROOM
+    return tempfile.TemporaryDirectory(dir=MEMORY if in_memory else None)
 
 
 def in_little_memory() -> None:

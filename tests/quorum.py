@@ -15,7 +15,6 @@ import signal
 import socket
 import subprocess
 import sys
-import tempfile
 import threading
 from contextlib import suppress
 from pathlib import Path
@@ -23,15 +22,15 @@ from types import SimpleNamespace
 from typing import Callable
 
 from checks import Tester, tell_of
-from fronts import WORKERS, Front, load
-from program import BUILT, EXAMPLES, Tally, built, run
-from serving import ENDS, UNKNOWN
+from fronts import ENDS, UNKNOWN, WORKERS, Front, load
+from program import BUILT, EXAMPLES, Tally, built, run, servers_folder
 from sessions import SECONDS, wait_until
 from watched import PIPELINE, Outcome, Watcher, against_time, judge, judged_by_itself, mix, whole_lines
 
 MACHINES = (1, 2, 3)
 CLIENTS = 50
 MORE = 1000  # replies show that it goes on: more than were under way
+TRIES = 5  # of what a busy machine can spoil
 PATIENCE = 2e9  # nanoseconds in which a client expects a reply
 ELECTION = ("--heartbeat-interval", "200", "--election-timeout", "2000", "--pre-vote")
 LIBC, NEW_NETWORK = ctypes.CDLL(None), 0x40000000
@@ -99,6 +98,7 @@ class Machine(Front):
 
     def start(self) -> None:
         with self.said.open("ab") as said:
+            self.began_at = said.tell()
             self.process = subprocess.Popen(self.words, stderr=said)
         self.started.append(self.process)
 
@@ -112,7 +112,8 @@ class Machine(Front):
         self.started.append(self.etcd)
 
     def has_started(self) -> bool:
-        return self.said.read_text().splitlines()[-1].startswith(("front: waits", "front: serves"))
+        last = self.said.read_bytes()[self.began_at :].splitlines()[-1:]
+        return bool(last) and last[0].startswith((b"front: waits", b"front: serves"))
 
     def ask_late(self, undo: Callable[[], None]) -> bytes:
         """What is replied to a client of this front that asked for a view before something was undone."""
@@ -143,7 +144,7 @@ class Cluster:
     def words(self, machine: Machine) -> list[str]:
         """The command of a front."""
         place = ("--host", machine.address, "--port", machine.port, "--log", machine.log, "--audit", self.audit)
-        words = (sys.executable, "-B", EXAMPLES / "front_quorum.py", "--etcd", self.etcd, "--workers", WORKERS, *place, self.tester.program, "--split", 4096)
+        words = (sys.executable, "-B", EXAMPLES / "front_quorum.py", "--etcd", self.etcd, "--workers", WORKERS, *place, self.tester.program, "--fast")
         return [*machine.inside, *map(str, words)]
 
     def start(self, rows: bytes) -> None:
@@ -171,9 +172,13 @@ class Cluster:
         raise LookupError("no front leads")
 
     def leader_of_etcd(self) -> Machine:
-        states = {each["Endpoint"]: each["Status"] for each in json.loads(self.etcdctl("endpoint", "status", "--write-out", "json"))}
-        [leader] = (machine for machine in self.machines if (state := states[machine.asked_at])["leader"] == state["header"]["member_id"])
-        return leader
+        """The machine of the server of etcd that leads, once all can tell."""
+        for _ in range(SECONDS):
+            states = {each["Endpoint"]: each["Status"] for each in json.loads(self.etcdctl("endpoint", "status", "--write-out", "json") or "[]")}
+            leaders = [machine for machine in self.machines if (state := states.get(machine.asked_at)) and state["leader"] == state["header"]["member_id"]]
+            if len(states) == len(self.machines) and len(leaders) == 1:
+                return leaders[0]
+        raise LookupError("no server of etcd leads")
 
     def serves(self, what: str) -> None:
         wanted = self.replies() + MORE
@@ -302,9 +307,13 @@ def leads_no_longer(cluster: Cluster, leader: Machine, process: subprocess.Popen
 
 
 def stop_leader(cluster: Cluster) -> None:
-    process = cluster.leader().process
-    process.terminate()
-    cluster.tester.tally.check(process.wait(SECONDS) == 0, "the status of a leader that is stopped")
+    """On a busy machine its lease may end meanwhile, and the status is another: then the next leader is stopped."""
+    statuses = []
+    while 0 not in statuses and len(statuses) < TRIES:
+        process = cluster.leader().process
+        process.terminate()
+        statuses.append(process.wait(SECONDS))
+    cluster.tester.tally.check(statuses[-1] == 0, f"the statuses of leaders that are stopped: {statuses}")
     cluster.serves("after the leader was stopped")
 
 
@@ -346,7 +355,7 @@ def main() -> None:
     if not (shutil.which("etcd") and shutil.which("etcdctl")):
         tally.skip("several machines", "etcd is not installed")
         tally.finish()
-    with tempfile.TemporaryDirectory() as folder:
+    with servers_folder() as folder:
         tester = Tester(options.program.resolve(), Path(folder), tally)
         tester.referee = options.check.resolve()
         try:

@@ -97,6 +97,7 @@ def cases() -> list[Case]:
         *with_each_output("three workers, longer scripts", large(three), three),
         Case("two workers in threads: history and report", *crowd()),
         Case("two workers in threads: a text of each one's replies", *throng()),
+        Case("four workers, whose input threads read", *long_input()),
         Case("a fault of the third record", first.replace(b"viewitem", b"viewItem"), alone),
         Case("a refused row", b"0,+bid,1,0.0,10,5\n", alone),
         RefusedOptions("refused options", b"", Options(workers=17)),
@@ -119,17 +120,24 @@ def with_each_output(name: str, data: bytes, options: Options) -> list[Case]:
 
 
 def crowd() -> tuple[bytes, Options]:
-    """Two workers bid on one item, in phases that are long enough for threads."""
-    calls = b"%d,bid,1,0.0,10,5\n" * 3 + b"%d,viewitem,0.0\n"
-    scripts = [(calls % ((worker,) * 4)) * 75 for worker in range(2)]
-    return VASE + b"".join(scripts), Options(workers=2, joined=150, split=150, threshold=1, history=True, report=True)
+    """Two workers bid on four items, in phases that are long enough for threads, each item in a shard of its own."""
+    calls = (b"bid,1,0.%d,10,5", b"bid,1,0.%d,10,5", b"bid,1,0.%d,10,5", b"viewitem,0.%d")
+    scripts = [b"%d,%s\n" % (worker, calls[index // 4 % 4] % (index % 4)) for worker in range(2) for index in range(300)]
+    return VASE * 4 + b"".join(scripts), Options(workers=2, joined=150, split=150, threshold=1, history=True, report=True)
 
 
 def throng() -> tuple[bytes, Options]:
     """Two workers have so many requests that threads make the text of the replies, in few phases."""
     requests = 10_000
-    scripts = [b"%d,viewuser,0\n" % worker * requests for worker in range(2)]
+    scripts = [b"%d,viewuser,%d\n" % (worker, index % 4) for worker in range(2) for index in range(requests)]
     return b"".join(scripts), Options(workers=2, joined=requests, split=requests)
+
+
+def long_input() -> tuple[bytes, Options]:
+    """Four workers look at a user, and put up an item at times, in an input that is long enough for threads and in phases that are not."""
+    views = b"".join(b"%d,viewuser,1\n" % worker for worker in range(4))
+    items = b"".join(b"%d,item,1,0,Cup,1,1000,2\n" % worker for worker in range(4))
+    return VASE + (views * 250 + items) * 6, Options(workers=4, joined=128, split=128)
 
 
 def large(options: Options) -> bytes:

@@ -26,19 +26,13 @@ from pathlib import Path
 from types import SimpleNamespace
 
 from checks import Tester, tell_of
-from fronts import FRONT, Client, Front, packed
+from front_bounds import bounds
+from front_clients import loads, other_clients, shown
+from fronts import ENDS, FRONT, MEGABYTES, SEEN, UNKNOWN, UNKNOWN_COMMAND, Client, Front, packed
 from misbehaving import hang_up, keep_asking, read_nothing, send_rubbish
 from program import BUILT, EXAMPLES, Tally, built, run
 from sessions import SECONDS, wait_until
 from watched import MIX, Outcome, Seen, Start, against_time, judge, judged_by_itself, log_is_exact, mix, referee, seen_otherwise, watched, whole_lines
-
-MEGABYTES = 50
-# What front.py bounds; of the requests of one client, with as many as it may read at once.
-MOST_CLIENTS, MOST_UNDER_WAY, MOST_OF_A_CLIENT, MOST_BYTES = 512, 16384, 1000 + 1500, 512
-ENDS = b"-ERR the auction ends"
-UNKNOWN = b"-UNKNOWN whether this was done: the auction ended before its reply"
-PROTOCOL, UNKNOWN_COMMAND = b"-ERR Protocol error", b"-ERR unknown command"
-SEEN = b"+user rating=0 comments=0"
 
 
 # Commands and replies.
@@ -93,12 +87,14 @@ def commands(tester: Tester) -> None:
         got = client.ask(b"PLACES ON", b"VIEWUSER 0", b"BID 3", b"VIEWUSER 0", b"QUIT", b"PING")
         tester.tally.check(got == [b"+OK", b"+1.1.8 user rating=0 comments=0", b"-ERR wrong number of fields", b"+1.1.9 user rating=0 comments=0", b"+OK", b""], f"places: {got}")
     with front.client() as client:
-        # One write is one group, without the command that has a fault.
-        client.ask(b"BID 1 0.0 700 *", b"VIEWITEM 0.0", b"COMMENT 1 2 0.0 5", b"VIEWITEM 0.1", b"VIEWUSER 0", b"BID 3", b"QUIT")
+        # One write is one group, without the command that has a fault. The last item's name is no item.
+        item = packed(b"ITEM", b"1", b"2", b"0.9,0.9,0.9,0.9,0.9,0.9", b"10", b"100", b"1")
+        client.ask(b"BID 1 0.0 700 *", b"VIEWITEM 0.0", b"COMMENT 1 2 0.0 5", b"VIEWITEM 0.1", b"VIEWUSER 0", item, b"BID 3", b"QUIT")
     got = front.info()
     told = got["last_group_requests"], got["busiest_item"], got["busiest_item_requests"]
-    tester.tally.check(told == (5, "0.0", 3), f"INFO on the last group: {told}")
-    tester.tally.check(got["connected_clients"] == 1 and got["starts"] == 1 and got["under_way"] == 0 and got["requests"] == 30 and 0 < got["groups"] <= 26, f"INFO: {got}")
+    tester.tally.check(told == (6, "0.0", 3), f"INFO on the last group: {told}")
+    told = [got[name] for name in ("connected_clients", "starts", "under_way", "requests")]
+    tester.tally.check(told == [1, 1, 0, 31] and 0 < got["groups"] <= 26 and 0 < got["group_microseconds"] < 1e6 * SECONDS, f"INFO: {got}")
     tester.tally.check(front.close() == 0, "the status after SIGTERM")
     tester.tally.check(whole_lines(front.log)[2] == '0,+item,1,2,"A, ""quoted""  name",10,100,1,1', "the log")
     judged_by_itself(tester, front)
@@ -130,95 +126,7 @@ def in_pieces(client: Client, data: bytes, draw: random.Random) -> None:
         data = data[size:]
 
 
-def other_clients(tester: Tester) -> None:
-    """redis-cli, redis-benchmark, nc, python3-redis and examples/load.py"""
-    front = Front(tester, "others", rows=b'0,+item,1,2,"Vase",10,100,1,1\n')
-    port = str(front.port)
-    said = (
-        (["redis-cli", "-p", port, "BID", "3", "0.0", "500", "5"], b"", b"bid "),
-        (["redis-cli", "-p", port, "ITEM", "1", "2", 'Old, "red" vase', "10", "100", "1"], b"", b"item "),
-        (["redis-cli", "-p", port, "BID", "3"], b"", b"ERR wrong number of fields"),
-        (["redis-cli", "-p", port], b"PING\nVIEWUSER 0\n", b"PONG\nuser rating=0 comments=0"),
-        (["redis-benchmark", "-p", port, "-c", "20", "-n", "2000", "-P", "4", "--csv", "BID", "1", "0.0", "500", "5"], b"", b'"BID 1 0.0 500 5"'),
-        (["nc", "-N", "127.0.0.1", port], b"VIEWUSER 0\r\nPING\r\n", b"+user rating=0 comments=0\r\n+PONG\r\n"),
-        ([sys.executable, "-B", EXAMPLES / "load.py", "--port", port, "--clients", "10", "--pipeline", "2", "--seconds", "0.3"], b"", b" replies, 0 errors, "),
-    )
-    for words, given, wanted in said:
-        if shutil.which(words[0]) is None:
-            tester.tally.skip(f"{words[0]} as a client", f"{words[0]} is not installed")
-            continue
-        got = run(words, given)
-        tester.tally.check(wanted in got.stdout, f"{words}: {got}")
-    of_python(tester, front.port)
-    tester.tally.check(front.info()["starts"] == 1 and front.close() == 0, "the front after other clients")
-    judged_by_itself(tester, front)
-
-
-OF_PYTHON = """
-import sys, redis
-client = redis.Redis(port=int(sys.argv[1]))
-print(client.ping(), client.execute_command("VIEWUSER", 0))
-pipeline = client.pipeline(transaction=False)
-for _ in range(100):
-    pipeline.execute_command("BID", 1, "0.0", 500, 5)
-print({reply[:4] for reply in pipeline.execute()})
-try:
-    client.execute_command("BID", 1)
-except redis.ResponseError as error:
-    print(error)
-"""
-
-
-def of_python(tester: Tester, port: int) -> None:
-    """By the first Python that has it: Debian's is in its own."""
-    python = next((python for python in (sys.executable, "/usr/bin/python3") if run([python, "-c", "import redis"]).status == 0), None)
-    if python is None:
-        return tester.tally.skip("python3-redis as a client", "python3-redis is not installed")
-    got = run([python, "-c", OF_PYTHON, str(port)])
-    tester.tally.check(got.stdout == b"True b'user rating=0 comments=0'\n{b'bid '}\nwrong number of fields\n", f"python3-redis: {got}")
-
-
-# Bounds, and clients that misbehave.
-
-
-def bounds(tester: Tester) -> None:
-    """the length of a command, connections, and requests under way, of one client and of all"""
-    front = Front(tester, "bounds")
-    for command in (b"A" * (MOST_BYTES + 1), packed(b"PING", b"A" * (MOST_BYTES + 1)) + b"\n", b"*2\r\n$3\r\nBID\r\n$9\r\n1\r\n", b"*x\r\n",
-                    packed(b"VIEWUSER", b"0\n1") + b"\n", b"*99\r\n" + b"$1\r\nA\r\n" * 98 + b"$1\r\n"):
-        with front.client() as client:
-            client.send(b"PING\n" + command)
-            got = [client.reply(), client.reply(), client.reply()]
-            tester.tally.check(got == [b"+PONG", PROTOCOL, b""], f"{command[:20]!r}: {got}")
-    with front.client() as client:
-        got = client.ask(b"VIEWUSER " + b"1" * 5000, packed(b"ITEM", *[b'"' * 500] * 7), b"PING")
-        tester.tally.check(got == [b"-ERR not a number", b"-ERR wrong number of fields", b"+PONG"], f"longer requests: {got}")
-    clients = [front.client() for _ in range(MOST_CLIENTS)]
-    tester.tally.check(all(client.ask(b"PING") == [b"+PONG"] for client in clients), f"{MOST_CLIENTS} connections")
-    with front.client() as client:
-        tester.tally.check(client.reply() == b"-ERR max number of clients reached" and client.reply() == b"", "one connection more")
-    for client in clients[100:]:
-        client.__exit__()
-    wait_until(lambda: front.info()["connected_clients"] == 101)
-    under_way(tester, front, clients[:1], 5000, MOST_OF_A_CLIENT)
-    under_way(tester, front, clients[:100], 200, MOST_UNDER_WAY)
-    for client in clients[:100]:
-        client.__exit__()
-    tester.tally.check(front.info()["starts"] == 1 and front.close() == 0, "the front after all")
-
-
-def under_way(tester: Tester, front: Front, clients: list[Client], each: int, most: int) -> None:
-    """Clients that each send more than may be under way, while nothing is answered."""
-    with front.held(), front.client() as client:
-        for one in clients:
-            threading.Thread(target=one.send, args=(b"VIEWUSER 0\n" * each,), daemon=True).start()
-        counts = [0]
-        while counts[-1] == 0 or counts[-1] != counts[-2]:
-            time.sleep(0.3)
-            counts.append(client.info()["under_way"])
-        tester.tally.check(most // 100 <= counts[-1] <= most, f"{counts} requests under way, of {len(clients)} clients")
-    got = Counter(client.reply() for client in clients for _ in range(each))
-    tester.tally.check(got == {SEEN: each * len(clients)}, f"replies to {len(clients)} clients: {got}")
+# Clients that misbehave.
 
 
 def misbehaving(tester: Tester) -> None:
@@ -231,7 +139,7 @@ def misbehaving(tester: Tester) -> None:
         client.ask(*(b"BID 99 0.0 %d 99999999" % (10**19 + number) for number in range(10)))
     for misbehave in (read_nothing, hang_up, send_rubbish):
         count = len(waits)
-        misbehave(front, draw)
+        misbehave(tester, front, draw)
         wait_until(lambda: len(waits) > count)
         longest = max(waits[count:])
         tester.tally.check(longest < 1 and front.most_megabytes() < MEGABYTES, f"{misbehave.__name__}: a wait of {longest:.2f} s, {front.most_megabytes():.0f} MB")
@@ -281,28 +189,60 @@ def outcomes(tester: Tester) -> None:
     judged_by_itself(tester, front)
 
 
-# A program that is asked for three bids, and ends when it has answered the last and the first.
+# A program that is asked for three bids or views, and ends when it has answered the last and the first. Its next start answers all three.
 CUT_OFF = """\
 #!/usr/bin/env python3
-import sys
-for _ in range(3):
-    sys.stdin.readline()
-print("0 1 0 2 bid 0.0\\n0 2 0 0 bid 0.1")
-sys.exit(7)
+import os, sys
+kinds = [sys.stdin.readline().split(",")[1] for _ in range(3)]
+if not os.path.exists("began"):
+    open("began", "w")
+    print("0 1 0 2 bid 0.0\\n0 2 0 0 bid 0.1" if "bid" in kinds else "0 1 0 2 user rating=5 comments=1\\n0 2 0 0 user rating=5 comments=1")
+    sys.exit(7)
+for index in range(3):
+    print(f"0 {index} 0 {index} user rating=0 comments=0", flush=True)
+sys.stdin.read()
 """
 
 
 def cut_parts(tester: Tester) -> None:
-    """a program that ends in the middle of its replies: none that has an unanswered request before it is released, and what is kept is a history"""
-    program = tester.folder / "cut_off"
-    program.write_text(CUT_OFF)
-    program.chmod(0o755)
-    front = Front(tester, "cut_parts", program=program)
+    """a program that ends in the middle of its replies: none that has an unanswered request before it is released, what is kept is a history, and views are asked anew"""
+    program = script(tester.folder / "cut_off", CUT_OFF)
+    for request, reply in ((b"BID 1 0.0 500 5", UNKNOWN), (b"VIEWUSER 1", SEEN)):
+        place = tester.folder / f"cut_{request[:3].decode()}"
+        place.mkdir()
+        front = Front(tester, f"{place.name}_parts", program=program, cwd=place)
+        with front.client() as client:
+            got = client.ask(*[request] * 3)
+        kept = [(front.audit / name).read_bytes() for name in ("1.csv", "1.history")]
+        tester.tally.check(got == [reply] * 3 and kept == [b"", b""], f"a part that is cut off: {got}, {kept}")
+        front.process.kill()
+
+
+def script(path: Path, text: str) -> Path:
+    """A program in the place of the one under test."""
+    path.write_text(text)
+    path.chmod(0o755)
+    return path
+
+
+# A program whose worker 0 has all the rows that it may have.
+IS_FULL = """\
+#!/usr/bin/env python3
+import sys
+for line in sys.stdin:
+    if line.startswith("0,bid"):
+        print("rubis_auction: more than 2147483648 requests for a worker", file=sys.stderr)
+    else:
+        print("0 0 0 0 user rating=0 comments=0", flush=True)
+"""
+
+
+def full_workers(tester: Tester) -> None:
+    """a write past a worker's limit: an error, and the next request is answered"""
+    front = Front(tester, "full_workers", program=script(tester.folder / "full", IS_FULL))
     with front.client() as client:
-        got = client.ask(*[b"BID 1 0.0 500 5"] * 3)
-    kept = [(front.audit / name).read_bytes() for name in ("1.csv", "1.history")]
-    tester.tally.check(got == [UNKNOWN] * 3 and kept == [b"", b""], f"a part that is cut off: {got}, {kept}")
-    front.process.kill()
+        got = client.ask(b"BID 1 0.0 500 5", b"VIEWUSER 0")
+    tester.tally.check(got == [b"-ERR more than 2147483648 requests for a worker", SEEN] and front.close() == 0, f"a worker that is full: {got}")
 
 
 def waits_for_the_log(tester: Tester) -> None:
@@ -314,12 +254,18 @@ def waits_for_the_log(tester: Tester) -> None:
         front = Front(tester, "waits_for_the_log", log=log, waits=False)
         wait_until(lambda: "status 5" in front.said.read_text())
         other.write(row)
-    wait_until(front.is_there)
+    wait_until(lambda: front.is_there() and kept_rows(front) == [row + row])
+    tester.tally.check(kept_rows(front) == [row + row], "the rows of a log are kept before the first reply")
     with front.client() as client:
         tester.tally.check(client.ask(b"VIEWITEM 0.1")[0].startswith(b"+viewitem"), "a row that was written late")
     front.close()
-    kept = [path.read_bytes() for path in front.audit.glob("*.csv")]
+    kept = kept_rows(front)
     tester.tally.check(kept == [row + row + b"0,viewitem,0.1\n"], f"the rows of a log that was waited for: {kept}")
+
+
+def kept_rows(front: Front) -> list[bytes]:
+    """The rows and requests that the referee is given, of each start of the program."""
+    return [path.read_bytes() for path in front.audit.glob("*.csv")]
 
 
 def terminated(tester: Tester) -> None:
@@ -399,6 +345,8 @@ def without_a_way_on(tester: Tester) -> None:
         client.send(b"VIEWUSER 0\n" * 2000)
         got = Counter(iter(client.reply, b""))
         tester.tally.check(front.process.wait(SECONDS) == 1 and got[SEEN] < 2000, f"an audit that cannot be kept: {got}, {front.said.read_text()}")
+    kept = [len(whole_lines(path)) for path in (front.audit / "1.csv", front.audit / "1.history")]
+    tester.tally.check(got[SEEN] <= min(kept), f"{got[SEEN]} replies of which the audit keeps {kept}")
 
 
 def is_served(port: int) -> bool:
@@ -451,7 +399,7 @@ def front_kills(tester: Tester) -> None:
     tester.tally.check(len(starts) > tester.kills and outcome.lost > 0, f"{len(starts)} starts, {outcome.lost} replies lost")
 
 
-CHECKS = (commands, pipelines, other_clients, bounds, misbehaving, group_commit, outcomes, cut_parts, waits_for_the_log, terminated, service, without_a_way_on, engine_kills, front_kills)
+CHECKS = (commands, pipelines, other_clients, loads, shown, bounds, misbehaving, group_commit, outcomes, cut_parts, full_workers, waits_for_the_log, terminated, service, without_a_way_on, engine_kills, front_kills)
 
 
 def main() -> None:

@@ -1,6 +1,7 @@
 """Sessions of a client of `--live` and `--log`: what it asks for, and an auction over several of them, each of which is killed, held against the model as one."""
 
 import itertools
+import os
 import random
 import signal
 import sys
@@ -17,7 +18,6 @@ from program import EXAMPLES
 sys.path.append(str(EXAMPLES))
 from client import Auction, Refused
 
-IN_USE = ("rubis_auction: log is in use", 5)
 SECONDS = 60
 STORES = ("item", "bid", "comment", "buynow")
 # What the first items are sold in, so that some purchases are refused.
@@ -58,6 +58,17 @@ def fault_of(program, log: Path, *words: str, **how) -> tuple | None:
     except Refused as refused:
         return refused.args
     return None
+
+
+def told_of(log: Path, words: str, why: int | None = None) -> tuple[str, int]:
+    """A fault that names a log, with the system's words for this error, and its status."""
+    system = f": {os.strerror(why)} (os error {why})" if why else ""
+    return f"rubis_auction: {log}: {words}{system}", 5
+
+
+def in_use(log: Path) -> tuple[str, int]:
+    """The fault, and its status, of a program whose log another one has."""
+    return told_of(log, "in use")
 
 
 def rows_of(requests: Iterable[str], workers: Iterable[int] = itertools.repeat(0)) -> bytes:

@@ -1,5 +1,5 @@
 #!/usr/bin/env python3
-"""Tests what helps to use the auction: bench/tune, whose command has to run, bench/starts, and the help of example_watch and bench_windows.
+"""Tests what helps to use the auction: bench/tune, whose command has to run, bench/starts, and the help of example_watch.
 
     tests/tools.py [PROGRAM]
 """
@@ -27,7 +27,7 @@ def tuned(tally: Tally, program: Path) -> None:
     tally.check(len({line.split("  ")[-1] for line in lines[1:-2]}) == 12, f"bench/tune: other settings than 12: {lines}")
     used = run(["sh", "-c", lines[-1] if lines else "false"])
     tally.check(used.status == 0 and len(used.stdout.splitlines()) == wanted, f"{lines[-1:]}: {described(used)}")
-    refused = ((2, [SKEWED, "--", *NEEDED, "--split=8"]), (2, ["--tries", "0", SKEWED]), (1, [SKEWED, "--", "--workers", "1"]), (1, [TESTS / "none.csv"]))
+    refused = ((2, [SKEWED, "--", *NEEDED, "--split=8"]), (2, [SKEWED, "--", "--fast"]), (2, ["--tries", "0", SKEWED]), (1, [SKEWED, "--", "--workers", "1"]), (1, [TESTS / "none.csv"]))
     for status, words in refused:
         got = run([TUNE, "--program", program, *words])
         tally.check(got.status == status and not got.stdout and got.stderr and b"Traceback" not in got.stderr, f"bench/tune {words}: {described(got)}")
@@ -41,11 +41,11 @@ def starts(tally: Tally, program: Path) -> None:
 
 
 def helps_of_windows(tally: Tally, program: Path) -> None:
-    """help and version of example_watch and bench_windows, and what they make of other words"""
-    for name in ("example_watch", "bench_windows"):
-        said = helps.help_and_version(tally, built(name), name, None)
-        for words in (["x"], ["bench", "x"], [""]):
-            tally.same(f"{name} {words}", run([built(name), *words]), Outcome(1, b"", said.encode()))
+    """help and version of example_watch, and what it makes of other words"""
+    watch = built("example_watch")
+    said = helps.help_and_version(tally, watch, "example_watch", None)
+    for words in (["x"], ["watch", "x"], [""]):
+        tally.same(f"example_watch {words}", run([watch, *words]), Outcome(1, b"", said.encode()))
 
 
 def main() -> None:

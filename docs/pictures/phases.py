@@ -7,7 +7,7 @@
 import sys
 from pathlib import Path
 
-WIDTH, HEIGHT = 1000, 452
+WIDTH, HEIGHT = 1000, 470
 LANES = (104, 158, 212, 266)
 # Where the phases begin, where the last one is cut off, and where the slices are merged.
 BEGIN, SPLIT, MERGED, JOINED, END = 92, 366, 686, 756, 984
@@ -15,9 +15,9 @@ SHARD, SLICE, OTHER, GREY, INK, GROUND = "#b3261e", "#ee9a92", "#3d6e91", "#8a8a
 
 TITLE = "Joined and split phases of Fundreivo"
 DESCRIPTION = (
-    "Time runs to the right, in four lanes, one for each worker. In the first joined phase the workers bid on one item and take its shard in turn, "
-    "while the others wait. In the split phase each worker adds bids to its own slice of that item without waiting; a view of the item is deferred. "
-    "At the end of the split phase the slices are merged into the item. The next joined phase begins with the deferred view."
+    "Time runs to the right, in four lanes, one for each worker. In the first joined phase the workers bid on several items, often on item A. They take "
+    "the shard of item A in turn, and wait for it. In the split phase each worker adds bids to its own slice of item A without waiting; a view of item A is "
+    "deferred. At the end of the split phase the slices are merged into item A. The next joined phase begins with the deferred view."
 )
 
 
@@ -38,17 +38,18 @@ def circle(x, y, fill):
     return f'<circle cx="{x}" cy="{y}" r="8" fill="{fill}" stroke="{INK}" stroke-width="2"/>'
 
 
-def in_turn(begin, turns, width=38):
-    """One shard that goes from worker to worker: each waits from its last turn on, and the shard's way is drawn between turns."""
-    drawn, last = [], {}
-    for at, worker in enumerate(turns):
-        x, lane = begin + at * (width + 6), LANES[worker]
-        drawn.append(line(last.get(worker, begin - 6), lane, x, lane, dashes="3 4"))
-        drawn.append(bar(x, width, lane, SHARD))
-        last[worker] = x + width
-        if at + 1 < len(turns):
-            drawn.append(line(x + width, lane, x + width + 6, LANES[turns[at + 1]], SHARD))
-    return drawn
+def in_turn(begin, rows, width=38, gap=6):
+    """What each worker does in a joined phase, by letters: A has the shard of item A, which goes from worker to worker, o bids on another item, a dot waits."""
+    has = {}
+    for lane, row in zip(LANES, rows):
+        for at, letter in enumerate(row):
+            x = begin + at * (width + gap)
+            yield line(x - gap, lane, x + width + gap, lane, dashes="3 4") if letter == "." else bar(x, width, lane, SHARD if letter == "A" else OTHER)
+            if letter == "A":
+                has[at] = lane
+    for at in range(len(has) - 1):
+        x = begin + at * (width + gap) + width
+        yield line(x, has[at], x + gap, has[at + 1], SHARD)
 
 
 def frame():
@@ -61,13 +62,13 @@ def frame():
         yield line(x, 30, x, 300, "#c9c0b4", 1)
     for x, words in (((BEGIN + SPLIT) / 2, "joined phase"), ((SPLIT + MERGED) / 2, "split phase"), ((JOINED + END) / 2, "joined phase")):
         yield text(x, 34, words, 16, weight="bold")
-    yield text((BEGIN + SPLIT) / 2, 55, "all bid on item A: its shard is taken in turn", 12.5, fill="#555555")
+    yield text((BEGIN + SPLIT) / 2, 55, "item A is busy: its shard is taken in turn", 12.5, fill="#555555")
     yield text((SPLIT + MERGED) / 2, 55, "item A is hot: each worker has a slice of it", 12.5, fill="#555555")
     yield text((JOINED + END) / 2, 55, "deferred requests come first", 12.5, fill="#555555")
 
 
 def joined():
-    yield from in_turn(BEGIN, (0, 1, 2, 3, 1, 0))
+    yield from in_turn(BEGIN, ("Aooo.A", ".Ao.Ao", "o.Aooo", "oo.Aoo"))
 
 
 def split():
@@ -96,15 +97,15 @@ def joined_again():
     yield line(deferred, LANES[3] + 9, deferred, under, INK, 1.2, "2 3")
     yield line(deferred, under, JOINED + 14, under, INK, 1.2, "2 3")
     yield line(JOINED + 14, under, JOINED + 14, LANES[3] + 9, INK, 1.2, "2 3")
-    yield from in_turn(JOINED + 32, (0, 2, 1, 3))
+    yield from in_turn(JOINED + 32, ("Aooo", "o.Ao", ".Aoo", "oo.A"))
     yield line(JOINED + 22, LANES[3], JOINED + 32, LANES[0], SHARD)
     yield circle(JOINED + 14, LANES[3], INK)
 
 
 def legend():
     entries = (
-        (lambda x, y: bar(x, 26, y, SHARD), "takes the shard, executes, puts it back"),
-        (lambda x, y: line(x, y, x + 26, y, dashes="3 4"), "waits for the shard"),
+        (lambda x, y: bar(x, 26, y, SHARD), "bid on item A: takes its shard, executes, puts it back"),
+        (lambda x, y: line(x, y, x + 26, y, dashes="3 4"), "waits for the shard of item A"),
         (lambda x, y: bar(x, 26, y, SLICE), "bid on hot item A, in the worker's slice: no shard, no waiting"),
         (lambda x, y: bar(x, 26, y, OTHER), "bid on another item, not hot: takes its shard"),
         (lambda x, y: circle(x + 13, y, "white"), "view of item A: deferred"),
@@ -114,8 +115,10 @@ def legend():
         x, y = (92, 560)[at % 2], 336 + at // 2 * 28
         yield mark(x, y)
         yield text(x + 38, y + 4, words, anchor="start")
-    yield text(92, 432, "A phase ends after a number of requests per worker (--joined, --split), not after a time. For speed a split phase is far longer than drawn.",
-               12, "start", "#555555")
+    notes = ("A phase ends after a number of requests per worker (--joined, --split), not after a time. For speed a split phase is far longer than drawn.",
+             "Each worker has a thread here. If a phase is short, or half of its requests need one shard, one thread executes it, worker after worker.")
+    for at, words in enumerate(notes):
+        yield text(92, 432 + at * 20, words, 12, "start", "#555555")
 
 
 def picture():

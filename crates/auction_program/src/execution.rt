@@ -14,7 +14,7 @@ ghost use Rattle.auction_program.specs.Report.{AreViews, IsEnd};
 use crate::texts::{report_lines, write_texts};
 use auction_rows::{Object, Opening};
 use auction_run::{FreeGate, Outcome, WindowBoard, run_compact, run_compact_shown};
-use auction_text::{ReportLines, read_compact_scripts};
+use auction_text::{ReportLines, read_scripts_by_threads};
 use auction_window::{PhaseLog, Publisher, Told, Window, WindowName};
 use indexmap::IndexSet;
 use item_shards::OpeningBook;
@@ -51,7 +51,7 @@ pub fn execute<R: Threads + Wait + Sync, I: Read + Drop, W: Write>(
     ensures cause { IfErr result (λ fault. IfSome (I.remaining reader) (λ input.
         IsCausedBy options.now input fault)) }
 {
-    let input = read_compact_scripts(alloc, reader, options.workers)?;
+    let input = read_scripts_by_threads(rt, alloc, reader, options.workers)?;
     let book = OpeningBook::new(alloc, options.opening(), input.rows)?;
     let performed = perform(rt, alloc, &book, input.scripts, options)?;
     write_texts(rt, alloc, writer, options, book.rows(), &performed)?;

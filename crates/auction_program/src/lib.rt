@@ -8,9 +8,9 @@ mod texts;
 pub use auction_text::UntilEnd;
 pub use execution::{execute, one_worker_has_one_answer};
 pub use program_opening::{
-    AddFault, Cause, Fault, FileLog, Joined, LogFault, LogFileFault, MakeFault, OpenFault,
-    OpenedLog, Options, ReadFault, ResumeFault, RunFault, UsageFault, WriteFault, new_auction,
-    open_log, read_options, status, write_fault,
+    AddFault, Cause, Fault, FileLog, Joined, LogCause, LogFault, LogFileFault, MakeFault,
+    OpenFault, OpenedLog, Options, ReadFault, ResumeFault, RunFault, UsageFault, WriteFault,
+    new_auction, open_log, read_options, status, write_fault,
 };
 pub use program_serving::{
     LiveTeller, Log, LoggedInput, NoLog, Teller, parts_are_one_history, serve,

@@ -27,6 +27,7 @@ use worker_journals::History;
 /// it. Without lines a report is refused as memory was for them. After `Write` a prefix of both
 /// was written; after `Memory` nothing, or all but the report.
 #[tactic(auto, using(crate::proofs::WrittenLemmas::part_of_first))]
+#[inline(never)]
 pub fn write_texts<R: Threads + Sync, W: Write>(
     rt: &R,
     alloc: Global,

@@ -1,3 +1,6 @@
+pub mod JoinLemmas
+pub mod PieceLemmas
 pub mod ProgressLemmas
 pub mod RowsFirst
+pub mod SaidLemmas
 pub mod SoFar

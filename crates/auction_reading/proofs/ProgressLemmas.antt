@@ -1,5 +1,5 @@
 -- How far an input is read, line by line.
-use Rattle.std.proofs.Common.{arith, ◌≡◌, ◌==◌, ◌&&◌, ◌<◌, ◌≤◌, ◌+◌, ◌∷◌, ◌++◌, ◌∙◌, [], ℕ, List, Bool, Option, Some, Result, Ok, Err, true, false, drop, length, refl, sym, ap, subst, append_assoc, if◌then◌else◌}
+use Rattle.std.proofs.Common.{◌≡◌, ◌==◌, ◌≤◌, ◌∷◌, ◌++◌, ◌∙◌, [], ℕ, List, Bool, Option, Some, Result, Ok, Err, true, false, refl, sym, ap, subst, append_assoc, if◌then◌else◌}
 use Rattle.std.proofs.lemmas.List.{append-nil}
 use Rattle.csv.specs.Reading.{default_config, records, strip_bom}
 use Rattle.csv.specs.declared.reader.Reader.{Reader}
@@ -8,15 +8,14 @@ use Rattle.record_reading.specs.declared.record.Record.{Record}
 use Rattle.record_reading.specs.declared.inputs.CompactInput.{CompactInput}
 use Rattle.record_reading.specs.declared.inputs.ReadFault.{ReadFault}
 use Rattle.record_reading.specs.declared.inputs.TheConstants.{MOST_RECORDS}
-use Rattle.record_reading.specs.Lines.{IsLine}
-use Rattle.auction_reading.specs.Progress.{HasAdded, IsAtStart, IsReadUpTo, ReadsOn, unmarked}
+use Rattle.auction_reading.specs.Progress.{IsAtStart, IsReadUpTo, ReadsOn, unmarked}
 use Rattle.record_reading.specs.Asking.{asked_of, nothing_asked}
 use Rattle.record_reading.specs.Records.{and_then}
 use Rattle.auction_reading.specs.Scripts.{input_of, read_records, records_of}
 use Rattle.record_reading.proofs.AskingLemmas.{ask_none}
 use Rattle.record_reading.proofs.LineLemmas.{feed_no_bom, none_in_none, records_after_feed}
 use Rattle.record_reading.proofs.RecordsLeft.{left_all}
-use Rattle.auction_reading.proofs.SoFar.{IsReading, so_far_all, so_far_more}
+use Rattle.auction_reading.proofs.SoFar.{IsReading, so_far_all}
 
 -- before the first record
 then_all : (r : Result (List Record) ReadFault) → r ≡ and_then r (λ others. Ok ([] ++ others))
@@ -68,23 +67,6 @@ read_on_alone workers bytes old new from to read up_to = rw (append-nil to) at (
 pub same_if : (b : Bool) (xs ys : List ℕ) → xs ≡ ys → (if b then xs else ys) ≡ ys
 same_if true xs ys e = e
 same_if false xs ys e = refl
-
--- one line more
-pub reads_on_line : (old new : Progress) (text : List ℕ) (at : ℕ) (said : Record) (next : ℕ) → IsLine text at said next → HasAdded old said new → old.count < MOST_RECORDS
-    → said.worker < length old.input.scripts.items → (said.is_row && old.begun) ≡ false → ReadsOn old (drop at text) new (drop next text)
-reads_on_line old new text at said next line added room below early = record {
-  workers = added.workers;
-  room = rw added.count (omega arith);
-  reads = λ workers bytes more up_to.
-      let source = drop at text ++ more in
-      let is : unmarked old.count source ≡ source = same_if (old.count == 0) (strip_bom source) source (line.unmarked more) in
-      let some : (old.count + 1 == 0) ≡ false = grind arith in
-      let many : length old.input.scripts.items ≡ workers = up_to.asks.workers_are in
-      let few : said.worker < workers = omega arith in
-      let one = so_far_more workers (records_of bytes) old.count old.begun line.fields (records default_config (drop next text ++ more)) (asked_of old.input) said (rw (is, line.reads more) at up_to) room
-      (line.says workers (old.count + 1) old.begun few early) few in
-      rw (added.count, added.begun, added.asked, some) one;
-}
 
 -- what is put in front of the bytes that are left
 abbrev pub front : ℕ → List ℕ

@@ -1,4 +1,6 @@
+pub mod Parcels
 pub mod Progress
+pub mod Said
 pub mod Scripts
 pub mod UntilEnd
 pub use Rattle.record_reading.specs.Reading

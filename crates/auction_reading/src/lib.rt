@@ -1,14 +1,20 @@
 //! Whole inputs: the rows and scripts that are read to the end of what a reader gives.
 //!
 //! `scripts` reads plain lines where they lie, and by `csv` from the first line on that is not plain
-//! or has a fault.
+//! or has a fault. `by_threads` does the same with several threads: what is read at a time is cut at
+//! ends of lines into parcels, each is read as if nothing stood before it, and they are joined in
+//! their order.
 #![tactic(auto)]
 
+mod by_threads;
+mod joins;
 mod laws;
+mod parcels;
 mod plain_text;
 mod scripts;
 mod until_end;
 
+pub use by_threads::read_scripts_by_threads;
 pub use laws::rows_come_first;
 pub use scripts::{Input, read_compact_scripts, read_scripts};
 pub use until_end::UntilEnd;

@@ -3,6 +3,7 @@ ghost use Rattle.std.specs.Prelude.{ℕ, ◌≡◌, ◌<◌, ◌≤◌, ◌++◌
 ghost use Rattle.std.specs.Io.KnownBytes.{IsAtEnd};
 ghost use Rattle.record_reading.specs.Lines.{EndsLine, IsLine};
 ghost use Rattle.auction_reading.specs.Progress.{HasAdded, ReadsOn};
+ghost use Rattle.auction_reading.specs.Said.{HasRead, read_by};
 ghost use Rattle.record_reading.specs.Reading.{IsInputFault};
 ghost use Rattle.record_reading.specs.declared.inputs.TheConstants.{MOST_RECORDS};
 
@@ -48,7 +49,7 @@ fn add_line(
     requires room { progress.old.count < MOST_RECORDS }
     ensures place { IfOk result (λ place. (place ≡ at) ⊎ (place ≡ next)) }
     ensures reads { IfOk result (λ place. (text : List ℕ) → IsLine text at said.now next →
-        ReadsOn progress.old (drop at text) progress.new (drop place text)) }
+        HasRead (read_by progress.old) (drop at text) (read_by progress.new) (drop place text)) }
     ensures fails { IfErr result (λ fault. IsInputFault fault → ⊥) }
 {
     if said.worker as usize >= progress.input.scripts.len() {
@@ -71,7 +72,8 @@ fn read_other(progress: &mut Progress, text: &[u8], at: usize) -> Result<usize, 
     ensures after { IfOk result (λ next. at ≤ next) }
     ensures within { IfOk result (λ next. next ≤ length text.now) }
     ensures reads { IfOk result (λ next.
-        ReadsOn progress.old (drop at text.now) progress.new (drop next text.now)) }
+        HasRead (read_by progress.old) (drop at text.now) (read_by progress.new)
+        (drop next text.now)) }
     ensures fails { IfErr result (λ fault. IsInputFault fault → ⊥) }
 {
     match line_at(text, at) {
@@ -90,7 +92,8 @@ fn read_line(progress: &mut Progress, text: &[u8], at: usize) -> Result<usize, R
     ensures after { IfOk result (λ next. at ≤ next) }
     ensures within { IfOk result (λ next. next ≤ length text.now) }
     ensures reads { IfOk result (λ next.
-        ReadsOn progress.old (drop at text.now) progress.new (drop next text.now)) }
+        HasRead (read_by progress.old) (drop at text.now) (read_by progress.new)
+        (drop next text.now)) }
     ensures fails { IfErr result (λ fault. IsInputFault fault → ⊥) }
 {
     match bid_at(text, at) {
@@ -99,14 +102,14 @@ fn read_line(progress: &mut Progress, text: &[u8], at: usize) -> Result<usize, R
     }
 }
 
-// Reads the plain lines at the front of a text, and returns the place after them.
+/// Reads the plain lines at the front of a text, and returns the place after them.
 #[inline(never)]
-fn read_plain(progress: &mut Progress, text: &[u8]) -> Result<usize, ReadFault>
+pub fn read_plain(progress: &mut Progress, text: &[u8]) -> Result<usize, ReadFault>
     requires ends { EndsLine text.now }
     requires room { progress.old.count ≤ MOST_RECORDS }
     ensures within { IfOk result (λ at. at ≤ length text.now) }
     ensures reads { IfOk result (λ at.
-        ReadsOn progress.old text.now progress.new (drop at text.now)) }
+        HasRead (read_by progress.old) text.now (read_by progress.new) (drop at text.now)) }
     ensures fails { IfErr result (λ fault. IsInputFault fault → ⊥) }
 {
     let mut at = 0;

@@ -92,8 +92,8 @@ fn read_rest<R: Read + Drop>(
     read_all(&mut records, &mut fields, workers, progress)
 }
 
-// Reads as `csv` does the rest of an input: what a buffer holds, and then what a reader gives.
-fn hand_over<R: Read + Drop>(
+/// Reads as `csv` does the rest of an input: what a buffer holds, and then what a reader gives.
+pub fn hand_over<R: Read + Drop>(
     alloc: Global,
     held: &[u8],
     reader: R,

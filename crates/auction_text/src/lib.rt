@@ -5,7 +5,9 @@
 mod laws;
 mod writing;
 
-pub use auction_reading::{Input, UntilEnd, read_compact_scripts, read_scripts, rows_come_first};
+pub use auction_reading::{
+    Input, UntilEnd, read_compact_scripts, read_scripts, read_scripts_by_threads, rows_come_first,
+};
 pub use laws::{moved_in_order, replies_in_order, rows_of_histories};
 pub use live_reading::{LineFault, LiveEnd, LiveInput, LivePart, Said};
 pub use record_reading::{

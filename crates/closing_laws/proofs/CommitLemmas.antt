@@ -5,9 +5,9 @@ use Rattle.auction_rows.specs.declared.rows.Entry.{Entry}
 use Rattle.auction_rows.specs.Book.{Book}
 use Rattle.auction_rows.specs.History.{IsBook, book_after, rows_of}
 use Rattle.auction_rows.proofs.HistoryLemmas.{book_after-replays, rows_go_on, longer_book}
-use Rattle.phase_permits.specs.declared.worker.Counters.{Counters}
-use Rattle.phase_permits.specs.Txns.{Txn, entry_of, after_txn}
-use Rattle.phase_permits.proofs.LawfulLemmas.{counts_one}
+use Rattle.worker_slices.specs.declared.counters.Counters.{Counters}
+use Rattle.phase_transactions.specs.Txns.{Txn, entry_of, after_txn}
+use Rattle.phase_transactions.proofs.LawfulLemmas.{counts_one}
 use Rattle.closing_laws.specs.Phases.{Phase, HasClosed, counters_of, journal_of, receipt_at}
 use Rattle.closing_laws.specs.Standing.{StandFor, AreOfWorkers, counters_at, stores}
 use Rattle.closing_laws.proofs.WorkerLemmas.{rows_below}

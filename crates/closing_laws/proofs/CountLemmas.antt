@@ -14,8 +14,8 @@ use Rattle.auction_rows.specs.declared.rows.Row.{Row}
 use Rattle.auction_rows.specs.declared.rows.Row.TheVariants as row
 use Rattle.auction_rows.specs.Book.{Book, as_item, as_bid, as_comment, as_buy, facts_of}
 use Rattle.auction_rows.specs.Replies.{answer, answer_unless, item_seen, row_of, row_if}
-use Rattle.phase_permits.specs.declared.worker.Counters.{Counters}
-use Rattle.phase_permits.specs.Txns.{counters_after}
+use Rattle.worker_slices.specs.declared.counters.Counters.{Counters}
+use Rattle.worker_slices.specs.Counting.{counters_after}
 use Rattle.phase_permits.specs.Replying.{CountsOf}
 
 -- the rows of one kind that pass a test, with one row more

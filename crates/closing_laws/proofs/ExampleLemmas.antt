@@ -9,7 +9,7 @@ use Rattle.item_shards.specs.Standing.{ContentsStandsFor}
 use Rattle.shard_boxes.specs.Keys.{key_at, lines_at, holds_at}
 use Rattle.shard_boxes.specs.Lines.{lines_of}
 use Rattle.shard_boxes.specs.States.{state_at}
-use Rattle.phase_permits.specs.Txns.{hot_of, line_on, lines_owed}
+use Rattle.phase_transactions.specs.Txns.{hot_of, line_on, lines_owed}
 use Rattle.phase_permits.specs.Replying.{CountsOf}
 use Rattle.closing_laws.specs.Phases.{HasClosed, IsReceiptOf, receipt_at}
 use Rattle.closing_laws.specs.Standing.{StandFor, counters_at}

@@ -24,8 +24,8 @@ use Rattle.item_shards.specs.declared.shard.slices.Slice.TheVariants as slice
 use Rattle.item_shards.specs.Values.{Value, value}
 use Rattle.shard_boxes.specs.declared.limits.TheConstants.{MOST_COMMITS, MOST_KEPT}
 use Rattle.shard_boxes.specs.States.{ShardState, state_at}
-use Rattle.phase_permits.specs.Workers.{WorkerState}
-use Rattle.phase_permits.specs.Slicing.{hot_objects, slices_in, slices_of, slice_of, HasAtMost, HaveAtMost}
+use Rattle.phase_transactions.specs.Workers.{WorkerState}
+use Rattle.worker_slices.specs.Slicing.{hot_objects, slices_in, slices_of, slice_of, HasAtMost, HaveAtMost}
 use Rattle.closing_laws.specs.Phases.{value_on}
 use Rattle.closing_laws.specs.Merging.{merged_with, with_slice, after_merge, slices_left, CanMerge}
 use Rattle.closing_laws.proofs.MergeLemmas.{value_merged}

@@ -20,10 +20,10 @@ use Rattle.item_shards.specs.Values.{Value, value, stock_in}
 use Rattle.item_shards.specs.Contents.{Contents, with_facts, bid_on, bought_of, after_acts}
 use Rattle.item_shards.specs.Writing.{writes_of}
 use Rattle.item_shards.proofs.RowLemmas.{value_next}
-use Rattle.phase_permits.specs.Txns.{Setting, hot_of, is_put_off}
-use Rattle.phase_permits.specs.Slicing.{stock_of}
+use Rattle.phase_transactions.specs.Txns.{Setting, hot_of, is_put_off}
+use Rattle.worker_slices.specs.Slicing.{stock_of}
 use Rattle.phase_permits.specs.Replying.{HasFixed}
-use Rattle.phase_permits.proofs.HomeLemmas.{no_other}
+use Rattle.phase_transactions.proofs.HomeLemmas.{no_other}
 
 -- a row is no purchase of an item
 abbrev IsNoPurchase : ItemId → Row → Type 0

@@ -15,7 +15,7 @@ use Rattle.item_shards.specs.Writing.{acts_of, is_cold_in, is_done_on}
 use Rattle.item_shards.proofs.EntryLemmas.{padded_leaves, few_done}
 use Rattle.shard_boxes.specs.Lines.{acts_in, after_lines, after_line}
 use Rattle.shard_boxes.specs.States.{ShardState, state_at}
-use Rattle.phase_permits.specs.Txns.{Setting, Txn, hot_of, takes, line_on}
+use Rattle.phase_transactions.specs.Txns.{Setting, Txn, hot_of, takes, line_on}
 use Rattle.closing_laws.specs.Phases.{Phase, HasClosed, value_on}
 use Rattle.closing_laws.specs.Histories.{worker_line}
 use Rattle.closing_laws.proofs.ListLemmas.{all_txns, box, list_is}

@@ -8,7 +8,7 @@ use Rattle.auction_rows.specs.Requests.{number_of as object_number, shard_of}
 use Rattle.item_shards.specs.Contents.{Contents}
 use Rattle.shard_boxes.specs.Lines.{Line, IsShardHistory}
 use Rattle.shard_boxes.specs.States.{ShardState, state_at}
-use Rattle.phase_permits.specs.Txns.{hot_of}
+use Rattle.phase_transactions.specs.Txns.{hot_of}
 use Rattle.closing_laws.specs.Phases.{Phase, HasClosed, value_on}
 use Rattle.closing_laws.specs.Merging.{after_merge, slices_left, IsReconciled}
 use Rattle.closing_laws.specs.Lawful.{with_slices_by, AreSliced, AreHotMerged, AreOthersAsGiven, ClosesLawfully}

@@ -14,9 +14,9 @@ use Rattle.worker_journals.specs.Journals.{entry_number, entry_worker}
 use Rattle.shard_boxes.specs.Closed.{IsClosedBox}
 use Rattle.shard_boxes.specs.Lines.{Line, lines_of}
 use Rattle.shard_boxes.specs.States.{state_at}
-use Rattle.phase_permits.specs.Txns.{Setting, Txn, hot_of, entry_of, txn_number, clock_found, greatest_clock, takes, line_on, lines_owed}
-use Rattle.phase_permits.specs.Workers.{work_of}
-use Rattle.phase_permits.specs.Works.{Explains}
+use Rattle.phase_transactions.specs.Txns.{Setting, Txn, hot_of, entry_of, txn_number, clock_found, greatest_clock, takes, line_on, lines_owed}
+use Rattle.phase_transactions.specs.Workers.{work_of}
+use Rattle.phase_transactions.specs.Works.{Explains}
 use Rattle.closing_laws.specs.Phases.{Phase, HasClosed, key_of, receipt_at}
 use Rattle.closing_laws.specs.Histories.{worker_line, HoldTheEntries, FollowWhatTheyShare}
 use Rattle.closing_laws.proofs.ReceiptLemmas.{txns_by, explains, no_txns, own, numbered, entries_are, lines_are}

@@ -15,9 +15,10 @@ use Rattle.item_shards.specs.Contents.{Contents, after_acts}
 use Rattle.item_shards.specs.Standing.{ContentsStandsFor}
 use Rattle.item_shards.proofs.EntryLemmas.{entry_stands, untaken_stands}
 use Rattle.shard_boxes.specs.Lines.{acts_in, AreTrueOf}
-use Rattle.phase_permits.specs.declared.worker.Counters.{Counters}
-use Rattle.phase_permits.specs.Txns.{Setting, Txn, hot_of, takes, line_on, counters_after, after_txn, IsAnswered}
-use Rattle.phase_permits.specs.Slicing.{stock_of}
+use Rattle.worker_slices.specs.declared.counters.Counters.{Counters}
+use Rattle.phase_transactions.specs.Txns.{Setting, Txn, hot_of, takes, line_on, after_txn, IsAnswered}
+use Rattle.worker_slices.specs.Counting.{counters_after}
+use Rattle.worker_slices.specs.Slicing.{stock_of}
 use Rattle.phase_permits.specs.Replying.{CountsOf, HasFixed}
 use Rattle.phase_permits.proofs.RightLemmas.{txn_right}
 use Rattle.closing_laws.proofs.CountLemmas.{own_commit, other_commit}

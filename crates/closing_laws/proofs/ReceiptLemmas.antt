@@ -9,11 +9,11 @@ use Rattle.phase_laws.specs.Replay.{SawInTurn}
 use Rattle.auction_rows.specs.History.{rows_of}
 use Rattle.worker_journals.specs.Merged.{entries_of}
 use Rattle.shard_boxes.specs.Keys.{key_at, lines_at}
-use Rattle.phase_permits.specs.declared.worker.Counters.{Counters}
-use Rattle.phase_permits.specs.Txns.{Setting, Txn, entry_of, txn_number, greatest_clock, lines_owed, IsAnswered, after_txn}
-use Rattle.phase_permits.specs.Workers.{WorkerState, work_of}
-use Rattle.phase_permits.specs.Slicing.{slices_of}
-use Rattle.phase_permits.specs.Works.{Explains, IsWorkOf}
+use Rattle.worker_slices.specs.declared.counters.Counters.{Counters}
+use Rattle.phase_transactions.specs.Txns.{Setting, Txn, entry_of, txn_number, greatest_clock, lines_owed, IsAnswered, after_txn}
+use Rattle.phase_transactions.specs.Workers.{WorkerState, work_of}
+use Rattle.worker_slices.specs.Slicing.{slices_of}
+use Rattle.phase_transactions.specs.Works.{Explains, IsWorkOf}
 use Rattle.closing_laws.specs.Standing.{counters_at}
 use Rattle.closing_laws.specs.Phases.{Phase, HasClosed, IsReceiptOf, no_receipt, receipt_at, key_of, journal_of, counters_of}
 

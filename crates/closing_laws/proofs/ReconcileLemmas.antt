@@ -21,9 +21,9 @@ use Rattle.item_shards.specs.Standing.{ContentsStandsFor}
 use Rattle.item_shards.specs.Values.{Value, blank, value}
 use Rattle.worker_journals.specs.Journals.{entry_worker}
 use Rattle.shard_boxes.specs.States.{ShardState, state_at}
-use Rattle.phase_permits.specs.Txns.{Setting, hot_of}
-use Rattle.phase_permits.specs.Workers.{WorkerState}
-use Rattle.phase_permits.specs.Slicing.{slices_of, slice_of}
+use Rattle.phase_transactions.specs.Txns.{Setting, hot_of}
+use Rattle.phase_transactions.specs.Workers.{WorkerState}
+use Rattle.worker_slices.specs.Slicing.{slices_of, slice_of}
 use Rattle.closing_laws.specs.Phases.{Phase, HasClosed, value_on, counters_of, journal_of, no_receipt}
 use Rattle.closing_laws.specs.Standing.{StandFor}
 use Rattle.closing_laws.specs.Merging.{merged_with, after_merge, slices_left, IsReconciled}

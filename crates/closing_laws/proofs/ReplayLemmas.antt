@@ -18,8 +18,8 @@ use Rattle.item_shards.specs.Values.{value, stock}
 use Rattle.item_shards.proofs.AnswerLemmas.{stock_is}
 use Rattle.shard_boxes.specs.Lines.{Line, acts_in, AreTrueOf, after_line}
 use Rattle.shard_boxes.specs.States.{ShardState, state_at}
-use Rattle.phase_permits.specs.declared.worker.Counters.{Counters}
-use Rattle.phase_permits.specs.Txns.{Setting, Txn, hot_of, entry_of, takes, line_on, IsAnswered, after_txn}
+use Rattle.worker_slices.specs.declared.counters.Counters.{Counters}
+use Rattle.phase_transactions.specs.Txns.{Setting, Txn, hot_of, entry_of, takes, line_on, IsAnswered, after_txn}
 use Rattle.phase_permits.specs.Replying.{CountsOf}
 use Rattle.closing_laws.specs.Phases.{Phase, HasClosed, counters_of, value_on}
 use Rattle.closing_laws.specs.Standing.{ShardsStandFor, StandFor, counters_at}

@@ -14,8 +14,8 @@ use Rattle.item_shards.specs.declared.shard.slices.Slice.{Slice}
 use Rattle.item_shards.specs.Values.{Value, stock}
 use Rattle.shard_boxes.specs.declared.limits.TheConstants.{MOST_COMMITS}
 use Rattle.shard_boxes.specs.States.{state_at, IsInitial, AreInitial}
-use Rattle.phase_permits.specs.Txns.{hot_of}
-use Rattle.phase_permits.specs.Slicing.{HaveAtMost}
+use Rattle.phase_transactions.specs.Txns.{hot_of}
+use Rattle.worker_slices.specs.Slicing.{HaveAtMost}
 use Rattle.closing_laws.specs.Phases.{Phase, HasClosed, value_on}
 use Rattle.closing_laws.specs.Merging.{after_merge, slices_left, CanMerge}
 use Rattle.closing_laws.proofs.FitLemmas.{HasRoomFor, how_many, all_once, all_good, all_in_turn}

@@ -17,8 +17,8 @@ use Rattle.item_shards.specs.declared.shard.slices.UserSlice.{UserSlice}
 use Rattle.item_shards.specs.declared.shard.slices.CategorySlice.{CategorySlice}
 use Rattle.item_shards.specs.SliceLaws.{item_laws, user_laws, category_laws}
 use Rattle.item_shards.specs.Values.{Value, value}
-use Rattle.phase_permits.specs.Workers.{WorkerState}
-use Rattle.phase_permits.specs.Slicing.{hot_objects, slices_in, slices_of, slice_of}
+use Rattle.phase_transactions.specs.Workers.{WorkerState}
+use Rattle.worker_slices.specs.Slicing.{hot_objects, slices_in, slices_of, slice_of}
 use Rattle.closing_laws.specs.Merging.{merged_with, slices_left}
 
 -- a slice that is an object's is merged into its value

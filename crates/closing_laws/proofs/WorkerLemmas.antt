@@ -14,7 +14,7 @@ use Rattle.auction_rows.specs.History.{row_of_entry, rows_of}
 use Rattle.auction_rows.specs.Replies.{row_of, row_if}
 use Rattle.item_shards.specs.Counting.{worker_of}
 use Rattle.worker_journals.specs.Journals.{entry_worker}
-use Rattle.phase_permits.specs.Txns.{entry_of}
+use Rattle.phase_transactions.specs.Txns.{entry_of}
 use Rattle.closing_laws.specs.Phases.{Phase, HasClosed, journal_of, receipt_at}
 use Rattle.closing_laws.proofs.ReceiptLemmas.{no_txns, entries_are, journal_entries}
 

@@ -14,10 +14,10 @@ use Rattle.item_shards.specs.Values.{stock, value}
 use Rattle.shard_boxes.specs.Keys.{KeyState}
 use Rattle.shard_boxes.specs.Lines.{Line, after_line}
 use Rattle.shard_boxes.specs.States.{ShardState}
-use Rattle.phase_permits.specs.declared.worker.Counters.{Counters}
-use Rattle.phase_permits.specs.Txns.{Setting, Txn, line_on, after_txn}
-use Rattle.phase_permits.specs.Slicing.{slices_of}
-use Rattle.phase_permits.specs.Workers.{WorkerState}
+use Rattle.worker_slices.specs.declared.counters.Counters.{Counters}
+use Rattle.phase_transactions.specs.Txns.{Setting, Txn, line_on, after_txn}
+use Rattle.worker_slices.specs.Slicing.{slices_of}
+use Rattle.phase_transactions.specs.Workers.{WorkerState}
 use Rattle.closing_laws.specs.Phases.{Phase}
 
 -- the item that is stored

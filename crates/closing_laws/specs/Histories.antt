@@ -10,9 +10,9 @@ use Rattle.auction_rows.specs.Footprint.{footprint, takes_shard}
 use Rattle.auction_rows.specs.History.{ReplaysFrom, book_after}
 use Rattle.worker_journals.specs.Journals.{entry_number, entry_worker}
 use Rattle.shard_boxes.specs.Lines.{Line}
-use Rattle.phase_permits.specs.Txns.{Setting, Txn, hot_of, entry_of, takes, line_on}
-use Rattle.phase_permits.specs.Workers.{work_of}
-use Rattle.phase_permits.specs.Works.{Explains}
+use Rattle.phase_transactions.specs.Txns.{Setting, Txn, hot_of, entry_of, takes, line_on}
+use Rattle.phase_transactions.specs.Workers.{work_of}
+use Rattle.phase_transactions.specs.Works.{Explains}
 use Rattle.closing_laws.specs.Phases.{Phase, HasClosed, counters_of, receipt_at}
 use Rattle.closing_laws.specs.Standing.{StandFor}
 

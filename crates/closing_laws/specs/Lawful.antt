@@ -10,9 +10,9 @@ use Rattle.item_shards.specs.Values.{Value, value}
 use Rattle.worker_journals.specs.Journals.{entry_worker}
 use Rattle.shard_boxes.specs.Lines.{IsShardHistory}
 use Rattle.shard_boxes.specs.States.{ShardState, state_at}
-use Rattle.phase_permits.specs.Txns.{Txn, hot_of, entry_of}
-use Rattle.phase_permits.specs.Slicing.{slice_of, slices_of}
-use Rattle.phase_permits.specs.Workers.{WorkerState}
+use Rattle.phase_transactions.specs.Txns.{Txn, hot_of, entry_of}
+use Rattle.worker_slices.specs.Slicing.{slice_of, slices_of}
+use Rattle.phase_transactions.specs.Workers.{WorkerState}
 use Rattle.closing_laws.specs.Phases.{Phase, value_on, journal_of, receipt_at}
 use Rattle.closing_laws.specs.Histories.{lines_on}
 use Rattle.closing_laws.specs.Merging.{merged_with}

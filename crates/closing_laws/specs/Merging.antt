@@ -5,8 +5,8 @@ use Rattle.std.specs.List.Sorted.{IsPermutation}
 use Rattle.auction_rows.specs.declared.requests.Object.{Object}
 use Rattle.item_shards.specs.declared.shard.slices.Slice.{Slice}
 use Rattle.shard_boxes.specs.States.{ShardState, state_at}
-use Rattle.phase_permits.specs.Workers.{WorkerState}
-use Rattle.phase_permits.specs.Slicing.{slices_in}
+use Rattle.phase_transactions.specs.Workers.{WorkerState}
+use Rattle.worker_slices.specs.Slicing.{slices_in}
 use Rattle.closing_laws.specs.Phases.{Phase}
 pub use Rattle.auction_shards.specs.Merging.{merged_with, sliced_object, slice_itself, with_slice, after_merge, CanMergeInto, CanMerge}
 

@@ -13,10 +13,10 @@ use Rattle.worker_journals.specs.Merged.{entries_of}
 use Rattle.shard_boxes.specs.Closed.{AreClosed}
 use Rattle.shard_boxes.specs.Keys.{KeyState, no_key}
 use Rattle.shard_boxes.specs.States.{ShardState}
-use Rattle.phase_permits.specs.declared.worker.Counters.{Counters}
-use Rattle.phase_permits.specs.Txns.{Setting, hot_of}
-use Rattle.phase_permits.specs.Workers.{WorkerState, IsExplained, no_counters, new_worker, setting_of}
-use Rattle.phase_permits.specs.Slicing.{IsStocked}
+use Rattle.worker_slices.specs.declared.counters.Counters.{Counters}
+use Rattle.phase_transactions.specs.Txns.{Setting, hot_of}
+use Rattle.phase_transactions.specs.Workers.{WorkerState, IsExplained, no_counters, new_worker, setting_of}
+use Rattle.worker_slices.specs.Slicing.{IsStocked}
 use Rattle.closing_laws.specs.Standing.{counters_at}
 pub use Rattle.auction_shards.specs.Shards.{value_on}
 

@@ -5,8 +5,8 @@ use Rattle.auction_rows.specs.declared.requests.Object.{Object}
 use Rattle.auction_rows.specs.Book.{Book}
 use Rattle.item_shards.specs.Counting.{worker_of}
 use Rattle.shard_boxes.specs.States.{ShardState}
-use Rattle.phase_permits.specs.declared.worker.Counters.{Counters}
-use Rattle.phase_permits.specs.Workers.{no_counters}
+use Rattle.worker_slices.specs.declared.counters.Counters.{Counters}
+use Rattle.phase_transactions.specs.Workers.{no_counters}
 use Rattle.phase_permits.specs.Replying.{CountsOf}
 pub use Rattle.auction_shards.specs.Shards.{ShardsStandFor}
 

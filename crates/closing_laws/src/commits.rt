@@ -14,14 +14,14 @@ ghost use Rattle.item_shards.specs.Writing.{writes_of};
 ghost use Rattle.shard_boxes.specs.Lines.{Line};
 ghost use Rattle.shard_boxes.specs.Keys.{KeyState, taking, putting, lines_at, added};
 ghost use Rattle.shard_boxes.specs.States.{ShardState};
-ghost use Rattle.phase_permits.specs.declared.worker.Counters.{Counters};
-ghost use Rattle.phase_permits.specs.declared.transaction.PermitFault.{PermitFault};
-ghost use Rattle.phase_permits.specs.Performing.{HasCommitted, HasFailed, shards_asked};
+ghost use Rattle.worker_slices.specs.declared.counters.Counters.{Counters};
+ghost use Rattle.phase_transactions.specs.declared.transaction.PermitFault.{PermitFault};
+ghost use Rattle.phase_transactions.specs.Performing.{HasCommitted, HasFailed, shards_asked};
 ghost use Rattle.phase_permits.specs.Replying.{CountsOf, SawTrue, StoodFor, HasFixed, IsModelReply};
-ghost use Rattle.phase_permits.specs.Slicing.{slices_of, slices_after_acts, HaveAtMost};
-ghost use Rattle.phase_permits.specs.Txns.{Setting, Txn, entry_of, hot_of, IsAnswered};
-ghost use Rattle.phase_permits.specs.Workers.{WorkerState, IsExplained, IsIdle, setting_of, txn_of};
-ghost use Rattle.phase_permits.specs.Works.{Work, IsWorkOf, IsCommitOf, with_txn};
+ghost use Rattle.worker_slices.specs.Slicing.{slices_of, slices_after_acts, HaveAtMost};
+ghost use Rattle.phase_transactions.specs.Txns.{Setting, Txn, entry_of, hot_of, IsAnswered};
+ghost use Rattle.phase_transactions.specs.Workers.{WorkerState, IsExplained, IsIdle, setting_of, txn_of};
+ghost use Rattle.phase_transactions.specs.Works.{Work, IsWorkOf, IsCommitOf, with_txn};
 
 /// The slices of rows and one row more are those of the rows after the acts that write the row.
 /// Each has at most as many operations as there are rows.

@@ -20,9 +20,9 @@ ghost use Rattle.auction_rows.specs.declared.requests.Object.{Object};
 ghost use Rattle.auction_rows.specs.declared.requests.Facts.{Facts};
 ghost use Rattle.item_shards.specs.declared.shard.slices.Slice.{Slice};
 ghost use Rattle.shard_boxes.specs.States.{ShardState, AreInitial};
-ghost use Rattle.phase_permits.specs.Txns.{hot_of};
-ghost use Rattle.phase_permits.specs.Workers.{WorkerState};
-ghost use Rattle.phase_permits.specs.Slicing.{HaveAtMost, slices_in};
+ghost use Rattle.phase_transactions.specs.Txns.{hot_of};
+ghost use Rattle.phase_transactions.specs.Workers.{WorkerState};
+ghost use Rattle.worker_slices.specs.Slicing.{HaveAtMost, slices_in};
 
 use auction_rows::MOST_WORKERS;
 pub use commits::{

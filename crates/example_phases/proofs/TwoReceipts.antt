@@ -2,7 +2,7 @@
 use Rattle.std.proofs.Common.{◌≡◌, ℕ, zero, suc, ◌<◌, List, [], ◌∷◌, length, get_or, sym, subst, arith}
 use Rattle.phase_floor.specs.Closings.{AreReceiptsOf, IsReceipt}
 use Rattle.phase_floor.specs.Floors.{FloorState}
-use Rattle.phase_permits.specs.Workers.{WorkerState}
+use Rattle.phase_transactions.specs.Workers.{WorkerState}
 
 -- each of two
 pub each_of_two : {floor : FloorState} {one other : WorkerState} {permits : List WorkerState} → length floor.counters ≡ 2 → AreReceiptsOf floor permits → permits ≡ one ∷ other ∷ []

@@ -10,7 +10,6 @@ use std::alloc::{AllocError, Global};
 use worker_journals::History;
 
 /// What there is between two phases.
-#[derive(Drop)]
 pub struct Auction {
     /// The objects.
     pub state: Joined,
@@ -22,6 +21,24 @@ pub struct Auction {
     pub first: Client,
     /// The client of worker 1.
     pub second: Client,
+}
+
+// Not derived: a derived drop is proved anew wherever an auction is let go.
+impl Drop for Auction {
+    fn drop(self) {
+        let Self {
+            state,
+            stashes,
+            history,
+            first,
+            second,
+        } = self;
+        drop(state);
+        drop(stashes);
+        drop(history);
+        drop(first);
+        drop(second);
+    }
 }
 
 impl Auction {
@@ -44,6 +61,22 @@ impl Auction {
             first: Client::new(alloc, 0, first),
             second: Client::new(alloc, 1, second),
         })
+    }
+
+    /// What a phase begins with: the objects, what each worker has deferred, all commits so far, and
+    /// both clients.
+    pub fn parts(self) -> (Joined, Vec<Stash>, History, (Client, Client))
+        ensures state { result.0 ≡ self.state }
+        ensures stashes { result.1 ≡ self.stashes }
+    {
+        let Self {
+            state,
+            stashes,
+            history,
+            first,
+            second,
+        } = self;
+        (state, stashes, history, (first, second))
     }
 
     /// Whether each client has all its replies.

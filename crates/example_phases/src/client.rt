@@ -5,12 +5,25 @@ use std::alloc::Global;
 use std::io;
 
 /// Whom a worker serves.
-#[derive(Drop)]
 pub struct Client {
     worker: u32,
     script: Vec<Request>,
     asked: usize,
     replies: Vec<(u32, Reply)>,
+}
+
+// Not derived: a derived drop is proved anew wherever a client is let go.
+impl Drop for Client {
+    fn drop(self) {
+        let Self {
+            worker: _,
+            script,
+            asked: _,
+            replies,
+        } = self;
+        drop(script);
+        drop(replies);
+    }
 }
 
 impl Client {
@@ -39,16 +52,19 @@ impl Client {
 
     /// Takes the reply to a request. A server would send it from here.
     pub fn answer(&mut self, index: u32, reply: Reply) -> Result<(), PermitFault> {
-        let sent = self.replies.push((index, reply));
-        sent.map_err(|_| PermitFault::Memory)
+        match self.replies.push((index, reply)) {
+            Ok(()) => Ok(()),
+            Err(_) => Err(PermitFault::Memory),
+        }
     }
 
     /// Prints the replies that came since the last time.
     pub fn print<R: Print>(&mut self, rt: &R) -> io::Result<()> {
         let worker = self.worker;
-        for (index, reply) in self.replies.drain(..) {
+        for (index, reply) in self.replies.iter() {
             println!(rt; "  {worker},{index}: {reply:?}")?;
         }
+        self.replies.clear();
         Ok(())
     }
 }

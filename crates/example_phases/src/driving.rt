@@ -3,11 +3,15 @@ ghost use Rattle.std.specs.Prelude.{◌≡◌, ◌+◌, ◌<◌, IfOk};
 ghost use Rattle.example_phases.specs.Auctions.{IsOfTwo};
 
 use crate::auction::Auction;
+use crate::client::Client;
 use crate::joined::joined_phase;
 use crate::split::split_phase;
 use anyhow::{Result, bail};
+use auction_rows::Object;
 use auction_run::choose_hot_after;
+use indexmap::IndexSet;
 use std::alloc::Global;
+use std::io;
 use std::marker::Brand;
 use std::sync::Wait;
 use std::thread::Threads;
@@ -34,10 +38,23 @@ pub fn drive<R: Threads + Wait + Sync + Print>(
         }
         println!(rt; "phase {phase}")?;
         auction = next_phase(rt, alloc, auction)?;
-        auction.first.print(rt)?;
-        auction.second.print(rt)?;
+        print_replies(rt, &mut auction.first, &mut auction.second)?;
     }
     bail!("more than {MOST_PHASES} phases");
+}
+
+// Prints the replies of the phase.
+fn print_replies<R: Print>(rt: &R, first: &mut Client, second: &mut Client) -> io::Result<()> {
+    first.print(rt)?;
+    second.print(rt)
+}
+
+// Prints the objects that are hot in the next phase.
+fn print_hot<R: Print>(rt: &R, hot: &IndexSet<Object>) -> io::Result<()> {
+    for object in hot.iter() {
+        println!(rt; "  hot: {object:?}")?;
+    }
+    Ok(())
 }
 
 // The auction after the next phase. Objects written in the phase before are hot in a split one.
@@ -55,8 +72,6 @@ fn next_phase<R: Threads + Wait + Sync + Print>(
         return joined_phase::<Brand, R>(rt, alloc, auction);
     }
     let hot = choose_hot_after(alloc, &auction.history, THRESHOLD, MOST_HOT)?;
-    for object in hot.iter() {
-        println!(rt; "  hot: {object:?}")?;
-    }
+    print_hot(rt, &hot)?;
     split_phase::<Brand, R>(rt, alloc, auction, &hot)
 }

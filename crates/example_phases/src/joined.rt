@@ -31,15 +31,9 @@ where
     ensures two { IfOk result IsOfTwo }
     ensures phase { IfOk result (λ next. next.state.phase ≡ auction.state.phase + 1) }
 {
-    let Auction {
-        state,
-        stashes,
-        history,
-        first,
-        second,
-    } = auction;
+    let (state, stashes, history, clients) = auction.parts();
     match state.begin_joined::<N, R>(rt, alloc, &[QUOTA, QUOTA], stashes) {
-        Ok(begun) => perform_begun(rt, alloc, begun, history, (first, second)),
+        Ok(begun) => perform_begun(rt, alloc, begun, history, clients),
         Err((_state, _stashes, fault)) => bail!("{fault}"),
     }
 }

@@ -1,13 +1,13 @@
 //! A phase of two workers, once it has begun.
-ghost use Rattle.std.specs.Prelude.{◌≡◌, ◌+◌, length, IfOk};
+ghost use Rattle.std.specs.Prelude.{◌≡◌, ◌+◌, length, vec_len, IfOk};
 ghost use Rattle.phase_floor.specs.Closings.{AreReceiptsOf, IsReceipt};
 ghost use Rattle.example_phases.specs.Auctions.{IsOfTwo};
 
 use crate::auction::Auction;
 use crate::client::Client;
 use crate::pairs::both;
-use phase_floor::Floor;
-use phase_permits::{Kind, Permit, PermitFault, Receipt};
+use phase_floor::{Floor, Joined};
+use phase_permits::{Kind, Permit, PermitFault, Receipt, Stash};
 use shard_boxes::PhaseName;
 use std::alloc::Global;
 use std::sync::Wait;
@@ -47,20 +47,15 @@ impl<N: PhaseName, K: Kind> Drop for Part<N, K> {
     }
 }
 
-// What a worker leaves at the end of the phase: the receipt of its permit, its client, and the
-// fault that stopped it, if any.
-#[derive(Drop)]
-struct Worked<N: PhaseName, K: Kind> {
-    receipt: Receipt<N, K>,
-    client: Client,
-    done: Result<(), PermitFault>,
-}
+// What a worker leaves at the end of the phase: the receipt of its permit, and its client unless a
+// fault stopped it.
+type Worked<N, K> = (Receipt<N, K>, Result<Client, PermitFault>);
 
 impl<N: PhaseName, K: Work> Part<N, K> {
     // Does what the worker has to do, and spends its permit.
     fn work<R: Wait>(self, rt: &R, floor: &Floor<N, K>) -> Worked<N, K>
         requires { IsReceipt floor.now self.worker self.permit }
-        ensures { IsReceipt floor.now self.worker result.receipt }
+        ensures { IsReceipt floor.now self.worker result.0 }
     {
         let Self {
             worker,
@@ -68,11 +63,7 @@ impl<N: PhaseName, K: Work> Part<N, K> {
             mut client,
         } = self;
         let done = K::perform_all(rt, floor, worker, &mut permit, &mut client);
-        Worked {
-            receipt: permit.finish(),
-            client,
-            done,
-        }
+        (permit.finish(), done.and(Ok(client)))
     }
 }
 
@@ -104,12 +95,59 @@ fn parts_of<N: PhaseName, K: Kind>(
     (floor, one, other)
 }
 
-/// Has each worker perform on its thread, and closes the phase.
+// Has each worker perform on its thread.
+fn work_both<N, K, R>(
+    rt: &R,
+    floor: &Floor<N, K>,
+    one: Part<N, K>,
+    other: Part<N, K>,
+) -> (Worked<N, K>, Worked<N, K>)
+where
+    N: PhaseName + Send + Sync,
+    K: Work + Send + Sync,
+    R: Threads + Wait + Sync,
+    requires first { IsReceipt floor.now one.worker one.permit }
+    requires second { IsReceipt floor.now other.worker other.permit }
+    ensures first { IsReceipt floor.now one.worker result.0.0 }
+    ensures second { IsReceipt floor.now other.worker result.1.0 }
+{
+    thread::join(rt, || one.work(rt, floor), || other.work(rt, floor))
+}
+
+// Both clients, unless a fault stopped a worker.
+fn both_of(
+    first: Result<Client, PermitFault>,
+    second: Result<Client, PermitFault>,
+) -> Result<(Client, Client), PermitFault> {
+    Ok((first?, second?))
+}
+
+// Closes the phase: the objects, what each worker has deferred, and all commits so far.
+fn close<N: PhaseName, K: Kind, R: Wait>(
+    rt: &R,
+    alloc: Global,
+    floor: Floor<N, K>,
+    mut history: History,
+    receipts: (Receipt<N, K>, Receipt<N, K>),
+) -> anyhow::Result<(Joined, Vec<Stash>, History)>
+    requires two { length floor.counters ≡ 2 }
+    requires first { IsReceipt floor 0 receipts.0 }
+    requires second { IsReceipt floor 1 receipts.1 }
+    ensures counters { IfOk result (λ closed. length closed.0.counters ≡ 2) }
+    ensures stashes { IfOk result (λ closed. vec_len closed.1 ≡ 2) }
+    ensures phase { IfOk result (λ closed. closed.0.phase ≡ floor.phase + 1) }
+{
+    let receipts = vec![in alloc; receipts.0, receipts.1]?;
+    let (state, stashes) = floor.close(rt, alloc, &mut history, receipts)?;
+    Ok((state, stashes, history))
+}
+
+/// Has the workers perform, and closes the phase.
 pub fn perform_begun<N, K, R>(
     rt: &R,
     alloc: Global,
     begun: (Floor<N, K>, Vec<Permit<N, K>>),
-    mut history: History,
+    history: History,
     clients: (Client, Client),
 ) -> anyhow::Result<Auction>
 where
@@ -122,16 +160,15 @@ where
     ensures phase { IfOk result (λ next. next.state.phase ≡ begun.0.phase + 1) }
 {
     let (floor, one, other) = parts_of(begun, clients);
-    let (one, other) = thread::join(rt, || one.work(rt, &floor), || other.work(rt, &floor));
-    let receipts = vec![in alloc; one.receipt, other.receipt]?;
-    let (state, stashes) = floor.close(rt, alloc, &mut history, receipts)?;
-    one.done?;
-    other.done?;
+    let ((one, first), (other, second)) = work_both(rt, &floor, one, other);
+    let clients = both_of(first, second);
+    let (state, stashes, history) = close(rt, alloc, floor, history, (one, other))?;
+    let (first, second) = clients?;
     Ok(Auction {
         state,
         stashes,
         history,
-        first: one.client,
-        second: other.client,
+        first,
+        second,
     })
 }

@@ -37,15 +37,9 @@ where
     ensures two { IfOk result IsOfTwo }
     ensures phase { IfOk result (λ next. next.state.phase ≡ auction.state.phase + 1) }
 {
-    let Auction {
-        state,
-        stashes: _,
-        history,
-        first,
-        second,
-    } = auction;
+    let (state, _stashes, history, clients) = auction.parts();
     match state.begin_split::<N, R>(rt, alloc, &[QUOTA, QUOTA], hot) {
-        Ok(begun) => perform_begun(rt, alloc, begun, history, (first, second)),
+        Ok(begun) => perform_begun(rt, alloc, begun, history, clients),
         Err((_state, fault)) => bail!("{fault}"),
     }
 }

@@ -1,8 +1,11 @@
-//! Two workers bid on a vase while a thread watches it through a window.
+//! Two workers bid on a vase while a thread watches it through a window; and how fast windows are.
 #![tactic(auto)]
 
+mod measuring;
+mod timed;
 mod watching;
 
+use crate::measuring::measure;
 use crate::watching::watched_run;
 use anyhow::{Result, bail};
 use auction_rows::{ItemId, Refusal, Reply, Request};
@@ -11,7 +14,7 @@ use program_options::{VERSION, program_words};
 use std::alloc::Global;
 use std::io;
 use std::process::ExitCode;
-use std::rt::Env;
+use std::rt::{Clock, Env};
 use std::sync::Wait;
 use std::thread::Threads;
 
@@ -31,16 +34,17 @@ Shows an auction to a thread through a window, while two workers bid on a vase.
 Usage: example_watch [OPTIONS]
 
 Options:
+  -m, --measure         Measure windows, alone and beside a run: some seconds, on an idle machine
   -h, --help            Print help
   -V, --version         Print version
 
-Reads nothing. Writes a line per view to standard output.
+Reads nothing. Writes a line per view, or figures, to standard output.
 Faults, this help and the version go to standard error.
 Status: 0 all done, 1 words, help or a fault.";
 
 /// What is done about the program's words.
 enum Done {
-    Shown,
+    Performed,
     AskedForVersion,
     AskedForHelp,
 }
@@ -48,7 +52,7 @@ enum Done {
 fn main(rt: HostRuntime) -> ExitCode {
     // What can't be written still has its status.
     let _ = match perform(&rt) {
-        Ok(Done::Shown) => return ExitCode::SUCCESS,
+        Ok(Done::Performed) => return ExitCode::SUCCESS,
         Ok(Done::AskedForVersion) => eprintln!(rt; "example_watch {VERSION}"),
         Ok(Done::AskedForHelp) => eprintln!(rt; "{HELP}"),
         Err(fault) => eprintln!(rt; "{fault}"),
@@ -56,18 +60,19 @@ fn main(rt: HostRuntime) -> ExitCode {
     ExitCode::FAILURE
 }
 
-// Shows what the program's words ask for.
+// Does what the program's words ask for.
 fn perform<R>(rt: &R) -> Result<Done>
 where
-    R: Env + Print + Alloc<A = Global> + Threads + Wait + Sync,
+    R: Env + Print + Alloc<A = Global> + Threads + Wait + Sync + Clock,
 {
     let words = program_words(rt)?;
     match words.get(1).map(String::as_str) {
         None => watch(rt, rt.alloc())?,
+        Some("--measure" | "-m") => measure(rt, rt.alloc())?,
         Some("--version" | "-V") => return Ok(Done::AskedForVersion),
         Some(_) => return Ok(Done::AskedForHelp),
     }
-    Ok(Done::Shown)
+    Ok(Done::Performed)
 }
 
 // Watches a run that waits for its watcher, and then runs that don't.

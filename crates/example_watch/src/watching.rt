@@ -5,7 +5,7 @@ ghost use Rattle.item_shards.specs.OpeningBooks.{opening_of, rows_of_book};
 use crate::VIEW;
 use anyhow::{Result, bail};
 use auction_rows::{Opening, Request};
-use auction_run::{Gate, Policy, WindowBoard, run_shown};
+use auction_run::{Gate, Policy, RunFault, WindowBoard, run_shown};
 use auction_text::read_scripts;
 use auction_window::{PhaseLog, Publisher, Seen, Window, WindowName};
 use crossbeam_utils::Backoff;
@@ -15,7 +15,7 @@ use std::marker::Brand;
 use std::sync::atomic::{AtomicU64, Ordering};
 use std::sync::{Arc, Wait};
 use std::thread;
-use std::thread::Threads;
+use std::thread::{JoinHandle, Threads};
 
 // The scripts of docs/EXAMPLE.md, which take three phases. Here the second worker looks at user 0.
 const SCRIPTS: &[u8] =
@@ -79,19 +79,25 @@ fn perform<J: WindowName + Send + Sync + 'static, R: Threads + Wait + Sync>(
     let mut board = WindowBoard::new(publisher);
     let performed = run_shown(rt, alloc, book, scripts, POLICY, gate, &mut board);
     let WindowBoard { publisher, told: _ } = board;
-    match performed {
-        Ok(_) => {
-            let shown = watcher.join(rt);
-            publisher.end(rt);
-            Ok(shown?)
-        }
-        // A window answers no more once the publisher has ended: so the watcher stops.
-        Err(fault) => {
-            publisher.end(rt);
-            let _shown = watcher.join(rt);
-            Err(fault.into())
-        }
-    }
+    end_run(rt, publisher, watcher, performed.err())
+}
+
+// Ends the publisher of a run: what the watcher was shown, or the fault that the run has met.
+fn end_run<J: WindowName, R: Threads + Wait>(
+    rt: &R,
+    publisher: Publisher<J>,
+    watcher: JoinHandle<Result<Vec<Seen>, AllocError>>,
+    fault: Option<RunFault>,
+) -> Result<Vec<Seen>> {
+    let Some(fault) = fault else {
+        let shown = watcher.join(rt);
+        publisher.end(rt);
+        return Ok(shown?);
+    };
+    // A window answers no more once the publisher has ended: so the watcher stops.
+    publisher.end(rt);
+    let _shown = watcher.join(rt);
+    Err(fault.into())
 }
 
 // Views until all phases are published, or the publisher has ended, and keeps each view that differs from the one before.

@@ -14,13 +14,14 @@ use Rattle.auction_rows.specs.declared.requests.Object.TheVariants.{Item, User, 
 use Rattle.auction_rows.specs.declared.values.Opening.{Opening}
 use Rattle.auction_rows.specs.declared.requests.Facts.{Facts}
 use Rattle.auction_rows.specs.declared.requests.Request.{Request}
+use Rattle.auction_rows.specs.declared.requests.Request.TheVariants.{StoreItem, StoreBid, StoreComment, BuyNow, ViewItem, ViewBids, ViewCategory, ViewUser}
 use Rattle.auction_rows.specs.declared.rows.Row.{Row}
 use Rattle.auction_rows.specs.declared.rows.Row.TheVariants as row
 use Rattle.auction_rows.specs.Book.{Book, as_item, as_bid, as_comment, as_buy, facts_of, item_entry}
 use Rattle.auction_rows.specs.Book as book
 use Rattle.auction_rows.specs.History.{commit, commit_of, after_entry, GoOn, IsBook}
 use Rattle.auction_rows.specs.Replies.{answer, answer_unless, reply, row_of}
-use Rattle.auction_rows.specs.Requests.{item_of, shard_of}
+use Rattle.auction_rows.specs.Requests.{is_view, item_of, shard_of}
 use Rattle.auction_rows.specs.Refusals.{number_refusal, item_refusal, refusal, facts_for, left_for}
 use Rattle.auction_rows.proofs.HistoryLemmas.{own_row, stored_by as commit_is, rows_go_on, book_parts}
 use Rattle.auction_rows.proofs.RefusalLemmas.{refusal-split}
@@ -242,6 +243,17 @@ pub stored_reply : (auction : SerialAuction) (worker : ℕ) (request : Request) 
     → (b : Book) → HoldsBook auction b → result ≡ reply (serial_opening auction) b worker request
 stored_reply auction worker request answered result below is told b holds =
     is b holds ∙ ap (answer_unless (refusal (serial_opening auction) b request)) (ap answered (counted_in auction b worker holds below) ∙ sym (told b))
+
+-- a view adds no row
+pub view_adds_none : (worker : ℕ) (request : Request) (answered : Reply) → is_view request ≡ true → row_of worker request answered ≡ None
+view_adds_none worker (StoreItem facts time) answered view = absurd (false≢true view)
+view_adds_none worker (StoreBid bidder item amount time) answered view = absurd (false≢true view)
+view_adds_none worker (StoreComment author about item stars) answered view = absurd (false≢true view)
+view_adds_none worker (BuyNow buyer item quantity time) answered view = absurd (false≢true view)
+view_adds_none worker (ViewItem item) answered view = refl
+view_adds_none worker (ViewBids item) answered view = refl
+view_adds_none worker (ViewCategory category) answered view = refl
+view_adds_none worker (ViewUser user) answered view = refl
 
 -- ---- the empty book
 

@@ -1,7 +1,7 @@
 //! The auction of one thread: every object in one shard.
-ghost use Rattle.std.specs.Prelude.{◌≡◌, ◌+◌, ◌<◌, ◌++◌, ◌∷◌, [], None, IfOk, OnOk, OnErr, IfSome, IfNone, All, slice_get};
+ghost use Rattle.std.specs.Prelude.{◌≡◌, ◌+◌, ◌<◌, ◌++◌, ◌∷◌, [], false, IfOk, OnOk, OnErr, IfSome, IfNone, All, slice_get};
+ghost use Rattle.auction_rows.specs.Requests.{is_view};
 ghost use Rattle.auction_rows.specs.StoreReplies.{reply_of};
-ghost use Rattle.auction_rows.specs.declared.replies.Reply.{Reply as Answer};
 ghost use Rattle.auction_rows.specs.declared.requests.Object.{Object as Thing};
 ghost use Rattle.item_shards.specs.Answering.{bid_request};
 ghost use Rattle.item_shards.specs.ShardContents.{LiesIn};
@@ -11,7 +11,7 @@ use crate::shard::Shard;
 use crate::shard::answers::refusal_with;
 use auction_rows::{
     BidEntry, BidId, BuyId, CommentId, ItemId, MOST_WORKERS, Opening, Refusal, Reply, Request, Row,
-    StoreReply, item_of, number_refusal, row_of, row_of_store,
+    StoreReply, is_view, item_of, number_refusal, row_of, row_of_store,
 };
 use std::alloc::{AllocError, Global};
 
@@ -27,7 +27,7 @@ pub struct SerialAuction {
 impl SerialAuction {
     ghost use Rattle.auction_rows.specs.Book.{Book};
     ghost use Rattle.auction_rows.specs.Refusals.{refusal};
-    ghost use Rattle.auction_rows.specs.Replies.{reply, next, answer_unless, row_of};
+    ghost use Rattle.auction_rows.specs.Replies.{reply, next};
     ghost use Rattle.auction_rows.specs.History.{IsBook};
     ghost use Rattle.item_shards.specs.Counting.{worker_of};
     ghost use Rattle.item_shards.specs.Limits.{IsWithinLimits};
@@ -90,40 +90,13 @@ impl SerialAuction {
         ensures { (book : Book) → HoldsBook self.now book →
             result ≡ reply (serial_opening self.now) book worker request }
     {
-        let stored = self.stored[worker as usize];
         let request = &request;
         match *request {
-            Request::StoreItem { .. } => {
-                let serial = stored.items;
-                self.unless_refused(request, Reply::ItemStored(ItemId { worker, serial }))
-            }
-            Request::StoreBid { .. } => {
-                let serial = stored.bids;
-                self.unless_refused(request, Reply::BidStored(BidId { worker, serial }))
-            }
-            Request::StoreComment { .. } => {
-                let serial = stored.comments;
-                self.unless_refused(request, Reply::CommentStored(CommentId { worker, serial }))
-            }
-            Request::BuyNow { .. } => {
-                let serial = stored.buys;
-                self.unless_refused(request, Reply::Bought(BuyId { worker, serial }))
-            }
             Request::ViewItem { item } => self.shard.view_item(item),
             Request::ViewBids { item } => self.shard.view_bids(item),
             Request::ViewCategory { category } => self.shard.view_category(category),
             Request::ViewUser { user } => self.shard.view_user(user),
-        }
-    }
-
-    // The refusal of a request, or else the reply.
-    fn unless_refused(&self, request: &Request, reply: Reply) -> Reply
-        ensures { (book : Book) → HoldsBook self.now book →
-            result ≡ answer_unless (refusal (serial_opening self.now) book request.now) reply }
-    {
-        match self.refusal(request) {
-            Some(reason) => Reply::Refused(reason),
-            None => reply,
+            _ => reply_of(self.reply_to_store(worker, request)),
         }
     }
 
@@ -138,51 +111,35 @@ impl SerialAuction {
         refusal_with(&self.shard.stock(item), request)
     }
 
-    // The reply to the store of a worker below 16. A view has none, and adds no row.
-    fn reply_to_store(&self, worker: u32, request: &Request) -> Option<StoreReply>
-        requires { worker < MOST_WORKERS }
-        ensures reply { IfSome result (λ answered. (book : Book) → HoldsBook self.now book →
-            reply_of answered ≡ reply (serial_opening self.now) book worker request.now) }
-        ensures view { IfNone result (
-            (answered : Answer) → row_of worker request.now answered ≡ None) }
+    // The reply to the store of a worker below 16.
+    fn reply_to_store(&self, worker: u32, request: &Request) -> StoreReply
+        requires worker { worker < MOST_WORKERS }
+        requires store { is_view request.now ≡ false }
+        ensures { (book : Book) → HoldsBook self.now book →
+            reply_of result ≡ reply (serial_opening self.now) book worker request.now }
     {
+        if let Some(reason) = self.refusal(request) {
+            return StoreReply::Refused(reason);
+        }
         let stored = self.stored[worker as usize];
         match *request {
-            Request::StoreItem { .. } => {
-                let serial = stored.items;
-                let id = ItemId { worker, serial };
-                Some(self.stored_unless_refused(request, StoreReply::ItemStored(id)))
-            }
-            Request::StoreBid { .. } => {
-                let serial = stored.bids;
-                let id = BidId { worker, serial };
-                Some(self.stored_unless_refused(request, StoreReply::BidStored(id)))
-            }
-            Request::StoreComment { .. } => {
-                let serial = stored.comments;
-                let id = CommentId { worker, serial };
-                Some(self.stored_unless_refused(request, StoreReply::CommentStored(id)))
-            }
-            Request::BuyNow { .. } => {
-                let serial = stored.buys;
-                let id = BuyId { worker, serial };
-                Some(self.stored_unless_refused(request, StoreReply::Bought(id)))
-            }
-            Request::ViewItem { .. } => None,
-            Request::ViewBids { .. } => None,
-            Request::ViewCategory { .. } => None,
-            Request::ViewUser { .. } => None,
-        }
-    }
-
-    // The refusal of a store, or else the reply.
-    fn stored_unless_refused(&self, request: &Request, reply: StoreReply) -> StoreReply
-        ensures { (book : Book) → HoldsBook self.now book → reply_of result
-            ≡ answer_unless (refusal (serial_opening self.now) book request.now) (reply_of reply) }
-    {
-        match self.refusal(request) {
-            Some(reason) => StoreReply::Refused(reason),
-            None => reply,
+            Request::StoreItem { .. } => StoreReply::ItemStored(ItemId {
+                worker,
+                serial: stored.items,
+            }),
+            Request::StoreBid { .. } => StoreReply::BidStored(BidId {
+                worker,
+                serial: stored.bids,
+            }),
+            Request::StoreComment { .. } => StoreReply::CommentStored(CommentId {
+                worker,
+                serial: stored.comments,
+            }),
+            Request::BuyNow { .. } => StoreReply::Bought(BuyId {
+                worker,
+                serial: stored.buys,
+            }),
+            _ => unreachable!(),
         }
     }
 
@@ -221,9 +178,10 @@ impl SerialAuction {
             (book : Book) → HoldsBook self.old book → HoldsBook self.new book) }
         ensures opening { serial_opening self.new ≡ serial_opening self.old }
     {
-        let Some(reply) = self.reply_to_store(worker, request) else {
+        if is_view(*request) {
             return Ok(None);
-        };
+        }
+        let reply = self.reply_to_store(worker, request);
         if let Some(row) = row_of_store(worker, *request, reply) {
             self.store(&row)?;
         }
@@ -262,8 +220,8 @@ impl SerialAuction {
         StoreReply::BidStored(bid.id)
     }
 
-    /// Commits the store of a worker below 16 as `perform` does, with its reply in few bytes. A view
-    /// has none of these, and changes nothing.
+    /// Commits the store of a worker below 16 as `perform` does, with its reply in few bytes. A
+    /// view has none of these, and changes nothing.
     pub fn perform_store(
         &mut self,
         worker: u32,
@@ -321,5 +279,18 @@ impl SerialAuction {
             self.store(&row)?;
         }
         Ok(reply)
+    }
+}
+
+// A reply to a store, as a reply.
+fn reply_of(reply: StoreReply) -> Reply
+    ensures { result ≡ reply_of reply }
+{
+    match reply {
+        StoreReply::ItemStored(id) => Reply::ItemStored(id),
+        StoreReply::BidStored(id) => Reply::BidStored(id),
+        StoreReply::CommentStored(id) => Reply::CommentStored(id),
+        StoreReply::Bought(id) => Reply::Bought(id),
+        StoreReply::Refused(reason) => Reply::Refused(reason),
     }
 }

@@ -2,6 +2,7 @@
 use Rattle.std.proofs.Common.{arith, All, ◌≡◌, ◌≢◌, ◌&&◌, ◌⊎◌, ◌≤◌, ◌<◌, ◌+◌, ◌∙◌, ◌∷◌, ◌++◌, [], ℕ, zero, suc, List, Ok, Err, Result, true, inl, inr, map, take, drop, length, slice_get, slice_index, nat_le, refl, sym, ap, subst, append_assoc}
 use Rattle.std.proofs.Math.Seq.{drop-append_seam, take-append_seam, take-length}
 use Rattle.std.proofs.lemmas.Bool.{and_parts, eq-eqb, false≢true, leb-true}
+use Rattle.std.proofs.lemmas.Option.{none-some}
 use Rattle.std.proofs.lemmas.List.{append_cancel_left, get_or-append-add, get_or_append_left, length-append, map-append, take-append-drop}
 use Rattle.std.proofs.lemmas.List.Elements.{recursion_from_All}
 use Rattle.std.proofs.lemmas.List.Sums.{sum_by-append}
@@ -14,6 +15,7 @@ use Rattle.auction_rows.specs.History.{IsBook}
 use Rattle.item_shards.specs.OpeningRows.{AreRows, IsRow, opened_of, opening_rows, rows_by, with_opened}
 use Rattle.item_shards.specs.declared.openings.Opened.{Opened}
 use Rattle.item_shards.proofs.OpeningBookLemmas.{adds}
+use Rattle.phase_floor.specs.declared.adding.AddFault.TheVariants as add
 use Rattle.auction_text.specs.Fields.{is_printing}
 use Rattle.auction_text.specs.Reading.{IsInputFault}
 use Rattle.auction_text.specs.Replies.{lines}
@@ -230,15 +232,21 @@ module _ (opening : Opening) (limit workers : ℕ) (book : Book) (few : workers 
       absurd (omega (arith, r.1, leb-true (length bytes) 189 (and_parts (nat_le (length bytes) 189) (list_all is_printing bytes && begins_row bytes) (is_cut r.0)).0))
   never_in (fault.Record of) behind short r = λ input.
       ok_or_err (asked short (next_rows r.are_lines)) r.of (input_of workers bytes) (asks short (next_rows r.are_lines)) (r.read (counted_input (length first) r.of (subst IsInputFault r.told_is input)))
-  never_in (fault.TooMany number) behind short r =
+  never_in (fault.Row number add.TooLong) behind short r =
       let next = next_rows r.are_lines in
       let same : r.asked ≡ asked short next = same_ok r.asked (asked short next) (input_of workers bytes) r.read (asks short next) in
       has_room short next r.first.good r.first.bad r.first.rest (sym (ap (λ (a : Asked). a.rows) same) ∙ r.first.split) r.first.not_taken
-  never_in (fault.BadRow number) behind short r =
+  never_in (fault.Row number (add.Refused reason)) behind short r =
       let next = next_rows r.are_lines in
       let same : r.asked ≡ asked short next = same_ok r.asked (asked short next) (input_of workers bytes) r.read (asks short next) in
       let split = sym (ap (λ (a : Asked). a.rows) same) ∙ r.first.split in
-      absurd (r.first.not_taken (own short next r.first.good r.first.bad r.first.rest split, is_row short next r.first.good r.first.bad r.first.rest split))
+      absurd (none-some reason (sym (is_row short next r.first.good r.first.bad r.first.rest split).accepted ∙ r.first.not_taken.1))
+  never_in (fault.Row number add.BadRow) behind short r =
+      let next = next_rows r.are_lines in
+      let same : r.asked ≡ asked short next = same_ok r.asked (asked short next) (input_of workers bytes) r.read (asks short next) in
+      let split = sym (ap (λ (a : Asked). a.rows) same) ∙ r.first.split in
+      absurd (false≢true (sym (is_row short next r.first.good r.first.bad r.first.rest split).store ∙ r.first.not_taken (own short next r.first.good r.first.bad r.first.rest split)))
+  never_in (fault.Row number add.Memory) behind short r = tt
   never_in (fault.Line line) behind short r = absurd (none_is_other r.asked r.added r.at short r.are_lines r.read r.added_is r.differs.differs)
   never_in fault.Memory behind short r = tt
   never_in fault.Write behind short r = tt

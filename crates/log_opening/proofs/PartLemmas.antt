@@ -10,16 +10,19 @@ use Rattle.std.proofs.lemmas.List.Elements.{All-append, All-from_recursion}
 use Rattle.std.proofs.lemmas.List.Sums.{count_by-le-length, fold_push}
 use Rattle.phase_laws.proofs.ReplayLemmas.{replays_append}
 use Rattle.auction_rows.specs.declared.values.Opening.{Opening}
+use Rattle.auction_rows.specs.declared.replies.Refusal.{Refusal}
 use Rattle.auction_rows.specs.declared.rows.Row.{Row}
 use Rattle.auction_rows.specs.Book.{Book, worker_of}
 use Rattle.auction_rows.specs.History.{IsBook}
+use Rattle.auction_rows.specs.Refusals.{refusal}
+use Rattle.auction_rows.specs.Requests.{is_view}
 use Rattle.item_shards.specs.OpeningRows.{IsRow, with_opened}
 use Rattle.item_shards.specs.declared.openings.Opened.{Opened}
 use Rattle.item_shards.proofs.OpeningLemmas.{one_more}
 use Rattle.phase_floor.specs.Adding.{IsFull, IsOwn, IsSameAuction, IsStartOf, KeepsBooks}
 use Rattle.phase_floor.specs.States.{JoinedState, IsBookOf}
 use Rattle.phase_floor.specs.declared.adding.AddFault.{AddFault}
-use Rattle.phase_floor.specs.declared.adding.AddFault.TheVariants.{TooLong, BadRow, Memory}
+use Rattle.phase_floor.specs.declared.adding.AddFault.TheVariants.{TooLong, Refused, BadRow, Memory}
 use Rattle.auction_text.specs.Fields.{number}
 use Rattle.auction_text.specs.Reading.{IsInputFault}
 use Rattle.auction_text.specs.Records.{and_then, checked, field, read_record}
@@ -113,13 +116,16 @@ place_within limit fault workers opening book all place first =
 
 -- why a request was not taken
 pub not_taken : (state : JoinedState) (book : Book) (opened : Opened) (result : Result Row AddFault) (fault : AddFault) → result ≡ Err fault → IsStartOf state book
-    → (IsErrOf result TooLong → IsFull state opened) → (IsErrOf result BadRow → (b : Book) → IsBookOf state b → ¬ (IsOwn state opened × IsRow state.opening b opened))
+    → (IsErrOf result TooLong → IsFull state opened)
+    → ((reason : Refusal) → IsErrOf result (Refused reason) → (b : Book) → IsBookOf state b → IsOwn state opened × (refusal state.opening b opened.request ≡ Some reason))
+    → (IsErrOf result BadRow → IsOwn state opened → is_view opened.request ≡ true)
     → IsNotTaken state.limit fault (length state.counters) state.opening book opened
-not_taken state book opened result TooLong is begun long bad =
+not_taken state book opened result TooLong is begun long refused bad =
     let full = long (subst (λ r. IsErrOf r TooLong) (sym is) refl) in
     omega (arith, full.1, ap (λ c. c.commits) (begun.counters opened.worker full.0))
-not_taken state book opened result BadRow is begun long bad = bad (subst (λ r. IsErrOf r BadRow) (sym is) refl) book begun.is_of
-not_taken state book opened result Memory is begun long bad = tt
+not_taken state book opened result (Refused reason) is begun long refused bad = refused reason (subst (λ r. IsErrOf r (Refused reason)) (sym is) refl) book begun.is_of
+not_taken state book opened result BadRow is begun long refused bad = bad (subst (λ r. IsErrOf r BadRow) (sym is) refl)
+not_taken state book opened result Memory is begun long refused bad = tt
 
 -- ---- the text of rows
 

@@ -13,15 +13,13 @@ use Rattle.auction_rows.specs.History.{IsBook}
 use Rattle.item_shards.specs.declared.openings.Opened.{Opened}
 use Rattle.phase_floor.specs.Adding.{IsSameAuction, IsStartOf}
 use Rattle.phase_floor.specs.States.{JoinedState}
-use Rattle.phase_floor.specs.declared.adding.AddFault.{AddFault}
-use Rattle.phase_floor.specs.declared.adding.AddFault.TheVariants as add
 use Rattle.auction_text.specs.RowLines.{rows_text}
 use Rattle.auction_text.specs.Writing.{IsPartWritten}
 use Rattle.auction_text.specs.ReadFault.TheVariants as read
 use Rattle.auction_text.proofs.BufferLemmas.{held, moved}
 use Rattle.log_opening.specs.CutRows.{is_cut_row}
 use Rattle.log_opening.specs.Lines.{AreLines, AreWholeLines}
-use Rattle.log_opening.specs.Opening.{AreNotRows, AreRefused, HasRowsAndTail, IsRefused, IsRefusedIn, Opens, TellsFirst, row_fault}
+use Rattle.log_opening.specs.Opening.{AreNotRows, HasRowsAndTail, IsRefused, IsRefusedIn, Opens, TellsFirst}
 use Rattle.log_opening.specs.Parts.{HasAdded, HasNoEnd, HasRead, IsReadTo, ReadsRows, TellsRows, TellsSome}
 use Rattle.log_opening.specs.ReadBack.{IsInRange, IsWritten}
 use Rattle.log_opening.specs.declared.opening.LoggedAuction.{LoggedAuction}
@@ -66,13 +64,6 @@ reads_added old new book added all lines has adds text rows kept = record {
   };
   text = text ∙ sym (append-nil (rows_text added []));
 }
-
--- a row that is not added refuses its lines
-pub row_refused : (limit number : ℕ) (taken : AddFault) (workers : ℕ) (opening : Opening) (book : Book) (lines behind : List ℕ) → AreRefused limit taken workers opening book lines number
-    → AreNotRows (row_fault number taken) limit workers opening book lines behind
-row_refused limit number add.TooLong workers opening book lines behind are = are
-row_refused limit number add.BadRow workers opening book lines behind are = are
-row_refused limit number add.Memory workers opening book lines behind are = tt
 
 -- what is refused at the front of some bytes is refused of all of them
 pub refused_front : (told : OpenFault) (limit workers : ℕ) (opening : Opening) (book : Book) (all lines rest behind : List ℕ) → all ≡ lines ++ rest → length lines ≤ 65536

@@ -72,12 +72,6 @@ counted_after rows read.Read = read.Read
 counted_after rows read.Memory = read.Memory
 counted_after rows read.Long = read.Long
 
--- the fault of the row with this number, which is not added
-abbrev pub row_fault : ℕ → AddFault → OpenFault
-row_fault number add.TooLong = fault.TooMany number
-row_fault number add.BadRow = fault.BadRow number
-row_fault number add.Memory = fault.Memory
-
 -- Lines cannot be read, by this fault, if it is one of what they say.
 pub record AreFaulty (workers before : ℕ) (lines : List ℕ) (told : ReadFault) : Type 0 where
   pub are_lines : AreLines lines
@@ -118,10 +112,8 @@ AreNotRows (fault.Long line) limit workers opening book bytes behind =
     HasNoEnd bytes × (MOST_OF_A_ROW < length bytes) × (line ≡ length book + 1)
 AreNotRows (fault.Record of) limit workers opening book bytes behind =
     AreFaulty workers (length book) bytes of
-AreNotRows (fault.TooMany number) limit workers opening book bytes behind =
-    AreRefused limit add.TooLong workers opening book bytes number
-AreNotRows (fault.BadRow number) limit workers opening book bytes behind =
-    AreRefused limit add.BadRow workers opening book bytes number
+AreNotRows (fault.Row number taken) limit workers opening book bytes behind =
+    AreRefused limit taken workers opening book bytes number
 AreNotRows (fault.Line line) limit workers opening book bytes behind =
     AreOther workers opening book bytes line
 AreNotRows fault.Memory limit workers opening book bytes behind = Unit {0}
@@ -158,8 +150,10 @@ abbrev pub IsForMemory : OpenFault → Type 0
 IsForMemory (fault.Tail line) = ⊥
 IsForMemory (fault.Long line) = ⊥
 IsForMemory (fault.Record of) = ¬ IsInputFault of
-IsForMemory (fault.TooMany number) = ⊥
-IsForMemory (fault.BadRow number) = ⊥
+IsForMemory (fault.Row number add.TooLong) = ⊥
+IsForMemory (fault.Row number (add.Refused reason)) = ⊥
+IsForMemory (fault.Row number add.BadRow) = ⊥
+IsForMemory (fault.Row number add.Memory) = Unit {0}
 IsForMemory (fault.Line line) = ⊥
 IsForMemory fault.Memory = Unit {0}
 IsForMemory fault.Write = Unit {0}

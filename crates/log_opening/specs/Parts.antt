@@ -1,9 +1,11 @@
 -- Rows that are added to an auction while the text of a log is read.
-use Rattle.std.specs.Prelude.{◌≡◌, ◌≢◌, ◌≤◌, ◌<◌, ◌+◌, ◌^◌, ◌++◌, ℕ, List, [], ◌∷◌, All, Option, Some, fold, length, slice_index, take}
+use Rattle.std.specs.Prelude.{◌≡◌, ◌≢◌, ◌≤◌, ◌<◌, ◌+◌, ◌^◌, ◌++◌, ℕ, true, List, [], ◌∷◌, All, Option, Some, fold, length, slice_index, take}
 use Rattle.std.specs.Io.KnownBytes.{Appends}
 use Rattle.phase_laws.specs.Replay.{Replays}
 use Rattle.auction_rows.specs.declared.values.Opening.{Opening}
 use Rattle.auction_rows.specs.Book.{Book}
+use Rattle.auction_rows.specs.Refusals.{refusal}
+use Rattle.auction_rows.specs.Requests.{is_view}
 use Rattle.item_shards.specs.OpeningRows.{IsRow, rows_by, with_opened}
 use Rattle.item_shards.specs.declared.openings.Opened.{Opened}
 use Rattle.phase_floor.specs.Adding.{IsStartOf}
@@ -42,8 +44,10 @@ HasAddedFirst old new book all place =
 -- a request is not taken after a book, by this fault, where each worker may commit so many
 abbrev pub IsNotTaken : ℕ → AddFault → ℕ → Opening → Book → Opened → Type 0
 IsNotTaken limit add.TooLong workers opening book opened = limit ≤ rows_by book opened.worker
+IsNotTaken limit (add.Refused reason) workers opening book opened =
+    (opened.worker < workers) × (refusal opening book opened.request ≡ Some reason)
 IsNotTaken limit add.BadRow workers opening book opened =
-    ¬ ((opened.worker < workers) × IsRow opening book opened)
+    opened.worker < workers → is_view opened.request ≡ true
 IsNotTaken limit add.Memory workers opening book opened = Unit {0}
 
 -- Of requests after a book, the one at this place is the first that is not taken.

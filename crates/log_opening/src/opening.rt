@@ -5,7 +5,7 @@ ghost use Rattle.log_opening.specs.Opening.{IsRefused, Opens, TellsFirst};
 
 use crate::parts::{PART_LEN, ReadRows};
 use auction_text::ReadFault;
-use phase_floor::Joined;
+use phase_floor::{AddFault, Joined};
 use std::alloc::Global;
 use std::io::{Read, Write};
 use thiserror::Error;
@@ -22,12 +22,9 @@ pub enum OpenFault {
     /// A record cannot be read.
     #[error("{0}")]
     Record(ReadFault),
-    /// The row with this number is of a worker that has as many as it may commit.
-    #[error("row {0}: more requests than its worker may commit")]
-    TooMany(u64),
-    /// The row with this number is refused at its place or is of no worker.
-    #[error("row {0}: refused")]
-    BadRow(u64),
+    /// The row with this number is not added.
+    #[error("row {0}: {1}")]
+    Row(u64, AddFault),
     /// The line with this number is the first that is not as rows are written.
     #[error("line {0}: not as rows are written")]
     Line(u64),

@@ -6,7 +6,7 @@ ghost use Rattle.auction_rows.specs.Book.{Book};
 ghost use Rattle.phase_floor.specs.Adding.{HasBook, IsSameAuction, IsStartOf};
 ghost use Rattle.log_opening.specs.CutRows.{is_cut_row};
 ghost use Rattle.log_opening.specs.Lines.{AreLines};
-ghost use Rattle.log_opening.specs.Opening.{AreNotRows, IsRefused, IsRefusedIn, TellsFirst, counted_after, place_of, row_fault};
+ghost use Rattle.log_opening.specs.Opening.{AreNotRows, IsRefused, IsRefusedIn, TellsFirst, counted_after, place_of};
 ghost use Rattle.log_opening.specs.Parts.{CanReadOn, HasAdded, HasAddedFirst, HasNoEnd, HasRead, IsFirstRefused, IsReadTo, ReadsRows, TellsRows, TellsSome};
 
 use crate::lines::{line_at, whole_lines};
@@ -88,17 +88,6 @@ fn counted_after(rows: u64, fault: ReadFault) -> ReadFault
     }
 }
 
-// The fault of the row with this number, which is not added.
-fn row_fault(number: u64, fault: AddFault) -> OpenFault
-    ensures { result ≡ row_fault number fault }
-{
-    match fault {
-        AddFault::TooLong => OpenFault::TooMany(number),
-        AddFault::BadRow => OpenFault::BadRow(number),
-        AddFault::Memory => OpenFault::Memory,
-    }
-}
-
 impl ReadRows {
     // Reads lines, which are to be the text of rows.
     fn add_lines(&mut self, alloc: Global, lines: &[u8]) -> Result<(), OpenFault>
@@ -120,7 +109,7 @@ impl ReadRows {
         let added = match add_rows(alloc, &mut self.auction, rows.as_slice()) {
             Ok(added) => added,
             Err(Refused { place, fault }) => {
-                return Err(row_fault(self.rows + place as u64 + 1, fault));
+                return Err(OpenFault::Row(self.rows + place as u64 + 1, fault));
             }
         };
         match difference_from(alloc, lines, added.as_slice()) {

@@ -1,7 +1,7 @@
 -- What a log has accepted of its file, as the file is cut or added to.
-use Rattle.std.proofs.Common.{◌≡◌, ◌∙◌, ℕ, Bool, List, Option, None, Some, ap, arith, le_of_eq, length-append, refl, subst, sym, take}
-use Rattle.std.proofs.lemmas.List.{length-take-le, take-append-le, take-take}
-use Rattle.std.specs.Io.KnownBytes.{append_known}
+use Rattle.std.proofs.Common.{◌≡◌, ◌∙◌, ◌+◌, ◌++◌, ℕ, Bool, false, List, Option, None, Some, ap, arith, le_of_eq, length, length-append, refl, subst, sym, take}
+use Rattle.std.proofs.lemmas.List.{length-take-le, take-append-le, take-take, take_all}
+use Rattle.std.specs.Io.KnownBytes.{append_known, Appends}
 use Rattle.std.specs.Option.{option_map}
 use Rattle.part_log.specs.Files.{HoldsSoMany, IsKeptIn}
 
@@ -42,3 +42,20 @@ module _ (held synced new_held new_synced : Option (List ℕ)) (kept : ℕ) (end
     subst (λ h. HoldsSoMany h kept) (sym more) (grown_holds held kept bytes is.0),
     ap (option_map (take kept)) more ∙ grown_cut held kept bytes is.0 ∙ same ∙ ap (option_map (take kept)) (sym stays_synced),
   )
+
+whole_appended : (known bytes : List ℕ) (kept : ℕ) → length known ≡ kept → take (kept + length bytes) (known ++ bytes) ≡ take kept known ++ bytes
+whole_appended known bytes kept whole =
+    take_all (kept + length bytes) (known ++ bytes) (omega (arith, length-append known bytes)) ∙ ap (λ l. l ++ bytes) (sym (take_all kept known (omega (arith, whole))))
+
+grown_whole : (held : Option (List ℕ)) (kept : ℕ) (bytes : List ℕ) → IsKeptIn held kept false
+    → Appends (option_map (take kept) held) (option_map (take (kept + length bytes)) (append_known held bytes)) bytes
+grown_whole None kept bytes is = tt
+grown_whole (Some known) kept bytes is = whole_appended known bytes kept (is.1 refl)
+
+-- with bytes at its end that the disk keeps, all that it holds is accepted
+pub accepted_more : (held synced new_held new_synced : Option (List ℕ)) (kept : ℕ) (bytes : List ℕ)
+    → IsKeptIn held kept false → option_map (take kept) held ≡ option_map (take kept) synced → new_held ≡ append_known held bytes → new_synced ≡ new_held
+    → Appends (option_map (take kept) synced) (option_map (take (kept + length bytes)) new_synced) bytes
+accepted_more held synced new_held new_synced kept bytes is same more kept_too =
+    subst (λ known. Appends (option_map (take kept) synced) (option_map (take (kept + length bytes)) known) bytes) (sym (kept_too ∙ more))
+    (subst (λ known. Appends known (option_map (take (kept + length bytes)) (append_known held bytes)) bytes) same (grown_whole held kept bytes is))

@@ -12,12 +12,12 @@ use Rattle.shard_boxes.specs.declared.limits.TheConstants.{MOST_COMMITS}
 use Rattle.shard_boxes.specs.Keys.{KeyState, SeatState, no_key, IsNewKey, AreNewKeys}
 use Rattle.shard_boxes.specs.States.{ShardState}
 use Rattle.shard_boxes.proofs.Each.{at_head}
-use Rattle.phase_permits.specs.declared.worker.Counters.{Counters}
-use Rattle.phase_permits.specs.declared.slices.Hot.{Hot}
-use Rattle.phase_permits.specs.Slicing.{slices_of}
-use Rattle.phase_permits.specs.Workers.{CanStart, HasStashRoom, IsEmptyIf, WorkerState, new_worker}
-use Rattle.phase_permits.specs.Stashes.{StashState}
-use Rattle.phase_permits.proofs.Places.{stocks_of_rows}
+use Rattle.worker_slices.specs.declared.counters.Counters.{Counters}
+use Rattle.worker_slices.specs.declared.slices.Hot.{Hot}
+use Rattle.worker_slices.specs.Slicing.{slices_of}
+use Rattle.phase_transactions.specs.Workers.{CanStart, HasStashRoom, IsEmptyIf, WorkerState, new_worker}
+use Rattle.worker_slices.specs.Stashes.{StashState}
+use Rattle.worker_slices.proofs.Places.{stocks_of_rows}
 use Rattle.closing_laws.specs.Standing.{counters_at}
 use Rattle.phase_floor.specs.declared.floor.BeginFault.TheVariants.{UnknownHot, TooLong, Memory}
 use Rattle.phase_floor.specs.declared.start.Kit.{Kit}

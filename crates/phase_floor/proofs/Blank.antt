@@ -9,9 +9,9 @@ use Rattle.item_shards.specs.Values.{Value}
 use Rattle.item_shards.proofs.StandingLemmas.{blank_of_none}
 use Rattle.shard_boxes.specs.declared.limits.TheConstants.{MOST_COMMITS, MOST_KEPT}
 use Rattle.shard_boxes.specs.States.{ShardState, state_of, state_at, IsInitial}
-use Rattle.phase_permits.specs.declared.worker.Counters.{Counters}
+use Rattle.worker_slices.specs.declared.counters.Counters.{Counters}
 use Rattle.phase_permits.specs.Replying.{CountsOf}
-use Rattle.phase_permits.specs.Workers.{no_counters}
+use Rattle.phase_transactions.specs.Workers.{no_counters}
 use Rattle.auction_shards.specs.Making.{IsBlank, AreBlank}
 use Rattle.closing_laws.specs.Standing.{counters_at}
 use Rattle.phase_floor.specs.States.{joined_of, StandsFor, IsWithinMost, IsKept}

@@ -10,7 +10,7 @@ use Rattle.worker_journals.specs.Journals.{JournalView, entry_number, entry_work
 use Rattle.worker_journals.specs.Merged.{AreByWorker, added, entries_of}
 use Rattle.shard_boxes.specs.Closed.{AreClosed, AreSpent, IsSpent}
 use Rattle.shard_boxes.specs.States.{ShardState}
-use Rattle.phase_permits.specs.Workers.{WorkerState}
+use Rattle.phase_transactions.specs.Workers.{WorkerState}
 use Rattle.closing_laws.specs.Phases.{receipt_at, no_receipt, key_of, journal_of, HasClosed}
 use Rattle.phase_floor.specs.Closings.{AreReceiptsOf, IsFinished, phase_of}
 use Rattle.phase_floor.specs.Floors.{FloorState, IsOpen}

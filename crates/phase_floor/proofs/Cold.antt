@@ -7,9 +7,9 @@ use Rattle.auction_rows.specs.declared.requests.Object.{Object}
 use Rattle.auction_rows.specs.declared.rows.Entry.{Entry}
 use Rattle.item_shards.specs.declared.shard.slices.Slice.{Slice}
 use Rattle.shard_boxes.specs.States.{ShardState}
-use Rattle.phase_permits.specs.declared.slices.Hot.{Hot}
-use Rattle.phase_permits.specs.Slicing.{stocks_of, slices_in}
-use Rattle.phase_permits.specs.Workers.{IsEmptyIf, WorkerState}
+use Rattle.worker_slices.specs.declared.slices.Hot.{Hot}
+use Rattle.worker_slices.specs.Slicing.{stocks_of, slices_in}
+use Rattle.phase_transactions.specs.Workers.{IsEmptyIf, WorkerState}
 use Rattle.auction_shards.specs.Merging.{after_merge}
 use Rattle.auction_shards.specs.Shards.{at_start}
 use Rattle.closing_laws.specs.Merging.{slices_left}

@@ -14,7 +14,7 @@ use Rattle.auction_rows.specs.Requests.{same_object}
 use Rattle.auction_rows.proofs.RequestLemmas.{same_object-true}
 use Rattle.item_shards.specs.Values.{stock}
 use Rattle.shard_boxes.specs.States.{ShardState}
-use Rattle.phase_permits.specs.Slicing.{hot_objects, slices_of, IsStocked}
+use Rattle.worker_slices.specs.Slicing.{hot_objects, slices_of, IsStocked}
 use Rattle.closing_laws.specs.Phases.{value_on, IsReadFrom}
 use Rattle.phase_floor.specs.States.{DoesExist}
 

@@ -6,7 +6,7 @@ use Rattle.auction_rows.specs.declared.requests.Object.{Object}
 use Rattle.auction_rows.specs.declared.rows.Entry.{Entry}
 use Rattle.auction_rows.specs.Requests.{shard_of}
 use Rattle.shard_boxes.specs.States.{ShardState, state_at, no_shard}
-use Rattle.phase_permits.specs.Workers.{WorkerState}
+use Rattle.phase_transactions.specs.Workers.{WorkerState}
 use Rattle.auction_shards.specs.Shards.{at_start}
 use Rattle.closing_laws.specs.Lawful.{ClosesLawfully}
 use Rattle.closing_laws.specs.Merging.{after_merge}

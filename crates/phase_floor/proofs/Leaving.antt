@@ -15,10 +15,10 @@ use Rattle.worker_journals.specs.Histories.{HistoryView, with_phase}
 use Rattle.worker_journals.specs.Journals.{JournalView, IsLawfulJournal}
 use Rattle.worker_journals.specs.Merged.{AreByWorker, added, entries_of}
 use Rattle.worker_journals.proofs.AddedLemmas.{added_ascends, added_parts}
-use Rattle.phase_permits.specs.declared.worker.Counters.{Counters}
-use Rattle.phase_permits.specs.declared.slices.Hot.{Hot}
-use Rattle.phase_permits.specs.Stashes.{StashState}
-use Rattle.phase_permits.specs.Workers.{WorkerState}
+use Rattle.worker_slices.specs.declared.counters.Counters.{Counters}
+use Rattle.worker_slices.specs.declared.slices.Hot.{Hot}
+use Rattle.worker_slices.specs.Stashes.{StashState}
+use Rattle.phase_transactions.specs.Workers.{WorkerState}
 use Rattle.auction_shards.specs.Merging.{CanMerge, after_merge}
 use Rattle.auction_shards.specs.Shards.{AreOfOne, at_start}
 use Rattle.closing_laws.specs.Phases.{HasClosed, counters_of, journal_of, receipt_at}

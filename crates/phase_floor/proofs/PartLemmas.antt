@@ -4,10 +4,10 @@ use Rattle.auction_rows.specs.declared.requests.Object.{Object}
 use Rattle.shard_boxes.specs.Keys.{KeyState}
 use Rattle.shard_boxes.proofs.Each.{map_push}
 use Rattle.worker_journals.specs.Journals.{JournalView}
-use Rattle.phase_permits.specs.declared.worker.Counters.{Counters}
-use Rattle.phase_permits.specs.declared.slices.Hot.{Hot}
-use Rattle.phase_permits.specs.Stashes.{StashState}
-use Rattle.phase_permits.specs.Workers.{WorkerState}
+use Rattle.worker_slices.specs.declared.counters.Counters.{Counters}
+use Rattle.worker_slices.specs.declared.slices.Hot.{Hot}
+use Rattle.worker_slices.specs.Stashes.{StashState}
+use Rattle.phase_transactions.specs.Workers.{WorkerState}
 use Rattle.closing_laws.specs.Phases.{key_of, journal_of, counters_of}
 use Rattle.phase_floor.specs.Closings.{ArePartsOf, stash_of, sliced_of, slices_kept}
 

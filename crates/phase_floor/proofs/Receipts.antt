@@ -6,15 +6,15 @@ use Rattle.auction_rows.specs.declared.requests.Request.{Request}
 use Rattle.auction_rows.specs.Replies.{row_of}
 use Rattle.item_shards.specs.Writing.{writes_if}
 use Rattle.shard_boxes.specs.States.{ShardState}
-use Rattle.phase_permits.specs.Slicing.{stocks_of}
-use Rattle.phase_permits.specs.Stashes.{StashState}
-use Rattle.phase_permits.proofs.Places.{stocks_of_rows}
-use Rattle.phase_permits.specs.Workers.{with_first_unstashed, with_try, WorkerState}
-use Rattle.phase_permits.specs.Performing.{HasFailed, HasFailedFirst, HasPerformedFirst, HasDealtWith, HasCommitted}
-use Rattle.phase_permits.proofs.PermitLemmas.{stocks-acts}
-use Rattle.phase_permits.specs.declared.transaction.Done.{Done}
-use Rattle.phase_permits.specs.declared.transaction.Done.TheVariants.{Committed, Stashed}
-use Rattle.phase_permits.specs.declared.transaction.PermitFault.{PermitFault}
+use Rattle.worker_slices.specs.Slicing.{stocks_of}
+use Rattle.worker_slices.specs.Stashes.{StashState}
+use Rattle.worker_slices.proofs.Places.{stocks_of_rows}
+use Rattle.phase_transactions.specs.Workers.{with_first_unstashed, with_try, WorkerState}
+use Rattle.phase_transactions.specs.Performing.{HasFailed, HasFailedFirst, HasPerformedFirst, HasDealtWith, HasCommitted}
+use Rattle.worker_slices.proofs.StockLemmas.{stocks-acts}
+use Rattle.phase_transactions.specs.declared.transaction.Done.{Done}
+use Rattle.phase_transactions.specs.declared.transaction.Done.TheVariants.{Committed, Stashed}
+use Rattle.phase_transactions.specs.declared.transaction.PermitFault.{PermitFault}
 use Rattle.closing_laws.specs.Phases.{no_receipt}
 use Rattle.phase_floor.specs.Closings.{IsReceipt, AreReceiptsOf}
 use Rattle.phase_floor.specs.Floors.{FloorState, IsNewPermit, AreBegun}

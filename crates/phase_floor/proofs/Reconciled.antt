@@ -15,9 +15,9 @@ use Rattle.auction_rows.specs.Book.{Book}
 use Rattle.auction_rows.specs.History.{book_after}
 use Rattle.item_shards.specs.declared.shard.slices.Slice.{Slice}
 use Rattle.shard_boxes.specs.States.{ShardState, state_at}
-use Rattle.phase_permits.specs.declared.slices.Hot.{Hot}
-use Rattle.phase_permits.specs.Slicing.{hot_objects, stocks_of, slices_in, HaveAtMost}
-use Rattle.phase_permits.specs.Workers.{WorkerState}
+use Rattle.worker_slices.specs.declared.slices.Hot.{Hot}
+use Rattle.worker_slices.specs.Slicing.{hot_objects, stocks_of, slices_in, HaveAtMost}
+use Rattle.phase_transactions.specs.Workers.{WorkerState}
 use Rattle.closing_laws.specs.Phases.{HasClosed, receipt_at, no_receipt, counters_of}
 use Rattle.closing_laws.specs.Standing.{StandFor}
 use Rattle.auction_shards.specs.Merging.{after_merge, CanMerge}

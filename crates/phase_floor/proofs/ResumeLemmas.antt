@@ -10,8 +10,8 @@ use Rattle.item_shards.specs.declared.openings.StoreCounts.{StoreCounts}
 use Rattle.item_shards.specs.Counting.{worker_of, stored_by, counted}
 use Rattle.item_shards.specs.OpeningRows.{rows_by}
 use Rattle.item_shards.proofs.SerialLemmas.{one_more, stored_next}
-use Rattle.phase_permits.specs.declared.worker.Counters.{Counters}
-use Rattle.phase_permits.specs.Workers.{no_counters}
+use Rattle.worker_slices.specs.declared.counters.Counters.{Counters}
+use Rattle.phase_transactions.specs.Workers.{no_counters}
 use Rattle.closing_laws.specs.Standing.{counters_at}
 use Rattle.phase_floor.specs.Resuming.{counters_in, with_row}
 

@@ -1,9 +1,11 @@
 -- One row more on shards and counters that are kept between phases.
-use Rattle.std.proofs.Common.{◌≡◌, ℕ, All, ◌+◌, ◌<◌, ◌≤◌, ◌^◌, ◌==◌, Bool, true, false, cond, List, [], ◌∷◌, ◌++◌, None, get_or, map, length, set, refl, sym, ap, subst, ◌∙◌, arith, eq-eqb}
+use Rattle.std.proofs.Common.{◌≡◌, ℕ, All, ◌+◌, ◌<◌, ◌≤◌, ◌^◌, ◌==◌, Bool, true, false, cond, List, [], ◌∷◌, ◌++◌, Option, None, Some, ◌&&◌, not, is_some, is_none, get_or, map, length, set, refl, sym, ap, subst, ◌∙◌, arith, eq-eqb}
 use Rattle.std.proofs.lemmas.Bool.{eqb-true, false≢true}
+use Rattle.std.proofs.lemmas.Option.{none-some}
 use Rattle.std.proofs.lemmas.List.Elements.{All-from_recursion, recursion_from_All}
 use Rattle.std.proofs.lemmas.List.{get_or_read, get_or-set_same, get_or-set_other, length-set}
 use Rattle.phase_laws.proofs.ListLemmas.{all-append}
+use Rattle.auction_rows.specs.declared.replies.Refusal.{Refusal}
 use Rattle.auction_rows.specs.declared.replies.Reply.{Reply}
 use Rattle.auction_rows.specs.declared.requests.Request.{Request}
 use Rattle.auction_rows.specs.declared.requests.Request.TheVariants as request
@@ -23,9 +25,9 @@ use Rattle.item_shards.proofs.SerialLemmas.{stored_next}
 use Rattle.shard_boxes.specs.declared.limits.TheConstants.{MOST_COMMITS}
 use Rattle.shard_boxes.specs.States.{ShardState, state_of}
 use Rattle.auction_shards.specs.Writing.{CanWriteOn, HaveDone}
-use Rattle.phase_permits.specs.declared.worker.Counters.{Counters}
+use Rattle.worker_slices.specs.declared.counters.Counters.{Counters}
 use Rattle.phase_permits.specs.Replying.{CountsOf}
-use Rattle.phase_permits.specs.Workers.{no_counters}
+use Rattle.phase_transactions.specs.Workers.{no_counters}
 use Rattle.closing_laws.specs.Standing.{StandFor, AreCountersOf, AreOfWorkers, counters_at, stores}
 use Rattle.phase_floor.specs.Adding.{CanTake, KeepsBooks, with_counted}
 use Rattle.phase_floor.specs.Resuming.{AreReady, HaveRoom, with_row}
@@ -227,3 +229,10 @@ view_adds_none worker (request.ViewItem item) answered view = refl
 view_adds_none worker (request.ViewBids item) answered view = refl
 view_adds_none worker (request.ViewCategory category) answered view = refl
 view_adds_none worker (request.ViewUser user) answered view = refl
+
+-- what is not refused and adds no row is a view
+pub view_without_row : (view : Bool) (refused : Option Refusal) (row : Option Row) → is_some row ≡ (not view && is_none refused) → refused ≡ None → row ≡ None → view ≡ true
+view_without_row true refused row made accepted none = refl
+view_without_row false None None made accepted none = absurd (false≢true made)
+view_without_row false None (Some row) made accepted none = absurd (none-some row (sym none))
+view_without_row false (Some reason) row made accepted none = absurd (none-some reason (sym accepted))

@@ -3,7 +3,7 @@ use Rattle.std.proofs.Common.{◌≡◌, ℕ, List, sym, ◌∙◌}
 use Rattle.auction_rows.specs.declared.values.Opening.{Opening}
 use Rattle.shard_boxes.specs.States.{ShardState}
 use Rattle.auction_shards.specs.Shards.{AreOfOne, opening_in}
-use Rattle.phase_permits.specs.declared.worker.Counters.{Counters}
+use Rattle.worker_slices.specs.declared.counters.Counters.{Counters}
 use Rattle.phase_floor.specs.States.{IsKept}
 
 module _ (opening : Opening) (limit : ℕ) (states : List ShardState) (counters : List Counters) (kept : IsKept opening limit states counters) where

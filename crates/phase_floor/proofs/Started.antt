@@ -4,7 +4,7 @@ use Rattle.std.proofs.lemmas.List.{length-map, get_or-map}
 use Rattle.auction_rows.specs.Book.{Book}
 use Rattle.auction_rows.specs.Requests.{shard_of}
 use Rattle.shard_boxes.specs.States.{ShardState, state_at, no_shard}
-use Rattle.phase_permits.specs.declared.worker.Counters.{Counters}
+use Rattle.worker_slices.specs.declared.counters.Counters.{Counters}
 use Rattle.closing_laws.specs.Standing.{StandFor}
 use Rattle.auction_shards.specs.Shards.{at_start}
 

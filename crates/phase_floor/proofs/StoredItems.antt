@@ -14,7 +14,7 @@ use Rattle.auction_rows.specs.Requests.{number_of, shard_of}
 use Rattle.auction_rows.proofs.FreshIdLemmas.{ids_of_book}
 use Rattle.item_shards.specs.Values.{value, stock}
 use Rattle.shard_boxes.specs.States.{ShardState}
-use Rattle.phase_permits.specs.declared.worker.Counters.{Counters}
+use Rattle.worker_slices.specs.declared.counters.Counters.{Counters}
 use Rattle.closing_laws.specs.Phases.{value_on}
 use Rattle.closing_laws.specs.Standing.{StandFor, counters_at}
 use Rattle.phase_floor.specs.States.{IsKept}

@@ -8,8 +8,8 @@ use Rattle.auction_rows.specs.declared.requests.Object.{Object}
 use Rattle.auction_rows.specs.declared.values.Opening.{Opening}
 use Rattle.item_shards.specs.declared.shard.slices.Slice.{Slice}
 use Rattle.shard_boxes.specs.States.{ShardState}
-use Rattle.phase_permits.specs.declared.slices.Hot.{Hot}
-use Rattle.phase_permits.specs.Slicing.{slices_in}
+use Rattle.worker_slices.specs.declared.slices.Hot.{Hot}
+use Rattle.worker_slices.specs.Slicing.{slices_in}
 use Rattle.auction_shards.specs.Merging.{after_merge, CanMerge}
 use Rattle.auction_shards.specs.Shards.{AreOfOne, IsKnown, opening_in}
 use Rattle.auction_shards.proofs.Merges.{still_of_one, one_opening}

@@ -4,10 +4,10 @@ use Rattle.std.specs.Global.{Vec}
 use Rattle.auction_rows.specs.declared.requests.Object.{Object}
 use Rattle.shard_boxes.specs.States.{ShardState}
 use Rattle.worker_journals.specs.Journals.{empty_journal}
-use Rattle.phase_permits.specs.declared.worker.Counters.{Counters}
-use Rattle.phase_permits.specs.Slicing.{hot_objects, slices_of}
-use Rattle.phase_permits.specs.Workers.{HasStashRoom, WorkerState}
-use Rattle.phase_permits.specs.Stashes.{StashState}
+use Rattle.worker_slices.specs.declared.counters.Counters.{Counters}
+use Rattle.worker_slices.specs.Slicing.{hot_objects, slices_of}
+use Rattle.phase_transactions.specs.Workers.{HasStashRoom, WorkerState}
+use Rattle.worker_slices.specs.Stashes.{StashState}
 use Rattle.closing_laws.specs.Standing.{counters_at}
 use Rattle.phase_floor.specs.declared.floor.BeginFault.{BeginFault}
 use Rattle.phase_floor.specs.declared.floor.BeginFault.TheVariants.{UnknownHot, TooLong}

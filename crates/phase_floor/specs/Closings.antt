@@ -11,11 +11,11 @@ use Rattle.shard_boxes.specs.declared.limits.TheConstants.{MOST_COMMITS}
 use Rattle.shard_boxes.specs.Keys.{KeyState}
 use Rattle.shard_boxes.specs.States.{ShardState}
 use Rattle.worker_journals.specs.Journals.{JournalView}
-use Rattle.phase_permits.specs.declared.worker.Counters.{Counters}
-use Rattle.phase_permits.specs.declared.slices.Hot.{Hot}
-use Rattle.phase_permits.specs.Slicing.{stocks_of, slices_in, HaveAtMost}
-use Rattle.phase_permits.specs.Stashes.{StashState}
-use Rattle.phase_permits.specs.Workers.{WorkerState, IsExplained}
+use Rattle.worker_slices.specs.declared.counters.Counters.{Counters}
+use Rattle.worker_slices.specs.declared.slices.Hot.{Hot}
+use Rattle.worker_slices.specs.Slicing.{stocks_of, slices_in, HaveAtMost}
+use Rattle.worker_slices.specs.Stashes.{StashState}
+use Rattle.phase_transactions.specs.Workers.{WorkerState, IsExplained}
 use Rattle.closing_laws.specs.Phases.{Phase, HasClosed, receipt_at, key_of, journal_of, counters_of}
 use Rattle.closing_laws.specs.Lawful.{ClosesLawfully}
 use Rattle.auction_shards.specs.Merging.{after_merge}

@@ -8,10 +8,10 @@ use Rattle.auction_rows.specs.Requests.{same_object}
 use Rattle.shard_boxes.specs.Keys.{BoxId, KeyState, IsNewKey}
 use Rattle.shard_boxes.specs.States.{ShardState}
 use Rattle.worker_journals.specs.Journals.{empty_journal}
-use Rattle.phase_permits.specs.declared.worker.Counters.{Counters}
-use Rattle.phase_permits.specs.Slicing.{hot_objects, slices_of, IsStocked}
-use Rattle.phase_permits.specs.Workers.{new_worker, WorkerState}
-use Rattle.phase_permits.specs.Stashes.{StashState}
+use Rattle.worker_slices.specs.declared.counters.Counters.{Counters}
+use Rattle.worker_slices.specs.Slicing.{hot_objects, slices_of, IsStocked}
+use Rattle.phase_transactions.specs.Workers.{new_worker, WorkerState}
+use Rattle.worker_slices.specs.Stashes.{StashState}
 use Rattle.closing_laws.specs.Phases.{IsReadFrom}
 use Rattle.closing_laws.specs.Standing.{counters_at}
 use Rattle.phase_floor.specs.States.{DoAllExist, IsKept}

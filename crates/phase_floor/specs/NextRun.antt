@@ -1,7 +1,7 @@
 -- A state with which another run can begin, and one that lasts.
 use Rattle.std.specs.Prelude.{map}
 use Rattle.shard_boxes.specs.declared.limits.TheConstants.{MOST_COMMITS}
-use Rattle.phase_permits.specs.declared.worker.Counters.{Counters}
+use Rattle.worker_slices.specs.declared.counters.Counters.{Counters}
 use Rattle.closing_laws.specs.Standing.{stores}
 use Rattle.phase_floor.specs.States.{JoinedState}
 

@@ -8,8 +8,8 @@ use Rattle.item_shards.specs.OpeningRows.{rows_by}
 use Rattle.shard_boxes.specs.declared.limits.TheConstants.{MOST_COMMITS}
 use Rattle.shard_boxes.specs.States.{ShardState, state_at}
 use Rattle.auction_shards.specs.Shards.{AreNumbered}
-use Rattle.phase_permits.specs.declared.worker.Counters.{Counters}
-use Rattle.phase_permits.specs.Performing.{HaveOpening}
+use Rattle.worker_slices.specs.declared.counters.Counters.{Counters}
+use Rattle.phase_transactions.specs.Performing.{HaveOpening}
 
 -- a worker's counters by its rows of a book: each row was a commit
 abbrev pub counters_in : Book → ℕ → Counters

@@ -1,6 +1,7 @@
 //! How a row is added to an auction between two phases. The auction keeps no rows: only an item
 //! takes memory.
-ghost use Rattle.std.specs.Prelude.{◌≡◌, ◌<◌, ◌≤◌, ◌++◌, ◌∷◌, [], ◌↔◌, length, IfOk, OnOk, OnErr, IsErrOf, IsTrue, MatchOption, true, false};
+ghost use Rattle.std.specs.Prelude.{◌≡◌, ◌<◌, ◌≤◌, ◌++◌, ◌∷◌, [], ◌↔◌, None, Some, length, IfOk, OnOk, OnErr, IsErrOf, IsTrue, MatchOption, true, false};
+ghost use Rattle.auction_rows.specs.declared.replies.Refusal.{Refusal};
 ghost use Rattle.auction_rows.specs.Book.{Book};
 ghost use Rattle.auction_rows.specs.History.{GoOn};
 ghost use Rattle.auction_rows.specs.Refusals.{refusal};
@@ -30,12 +31,28 @@ pub enum AddFault {
     /// Its worker has as many commits as the state's limit.
     #[error("more requests than its worker may commit")]
     TooLong,
-    /// Its request is a view, is refused at its place or is of none of the auction's workers.
-    #[error("refused")]
+    /// Its request is refused at its place, for this reason.
+    #[error("refused {words}", words = words_of(*.0))]
+    Refused(Refusal),
+    /// Its request is a view or is of none of the auction's workers.
+    #[error("not a store of a worker")]
     BadRow,
     /// No memory was left.
     #[error("no memory")]
     Memory,
+}
+
+// The number and the name of a reason, as a reply has them.
+fn words_of(reason: Refusal) -> &'static str {
+    match reason {
+        Refusal::NoSuchUser => "1 NoSuchUser",
+        Refusal::NoSuchCategory => "2 NoSuchCategory",
+        Refusal::NoSuchItem => "3 NoSuchItem",
+        Refusal::BelowStart => "4 BelowStart",
+        Refusal::Closed => "5 Closed",
+        Refusal::SoldOut => "6 SoldOut",
+        Refusal::NotEnough => "7 NotEnough",
+    }
 }
 
 impl From<AllocError> for AddFault {
@@ -49,7 +66,7 @@ impl From<AllocError> for AddFault {
 }
 
 impl Joined {
-    ghost use Rattle.phase_floor.specs.declared.adding.AddFault.TheVariants.{TooLong, BadRow};
+    ghost use Rattle.phase_floor.specs.declared.adding.AddFault.TheVariants.{TooLong, Refused, BadRow};
 
     /// Adds the row of a request that is handed in, as a commit of its worker, and gives the row.
     /// Of two faults `TooLong` is told. After a fault the auction stands for the books that it
@@ -68,14 +85,20 @@ impl Joined {
         ensures same { IsSameAuction self.old self.new }
         ensures kept { OnErr result (KeepsBooks self.old self.new) }
         ensures too_long { IsErrOf result TooLong ↔ IsFull self.old opened.now }
-        ensures bad_row { IsErrOf result BadRow → (book : Book) → IsBookOf self.old book →
-            ¬ (IsOwn self.old opened.now × IsRow self.old.opening book opened.now) }
+        ensures refused { (reason : Refusal) → IsErrOf result (Refused reason) →
+            (book : Book) → IsBookOf self.old book → IsOwn self.old opened.now
+            × (refusal self.old.opening book opened.now.request ≡ Some reason) }
+        ensures bad_row { IsErrOf result BadRow → IsOwn self.old opened.now →
+            is_view opened.now.request ≡ true }
     {
         if opened.worker >= self.workers() {
             return Err(AddFault::BadRow);
         }
         if self.is_full(opened.worker as usize) {
             return Err(AddFault::TooLong);
+        }
+        if let Some(reason) = self.refusal(&opened.request) {
+            return Err(AddFault::Refused(reason));
         }
         let Some(row) = self.row_at(opened) else {
             return Err(AddFault::BadRow);
@@ -93,17 +116,15 @@ impl Joined {
         self.counters[worker].commits as u64 >= self.limit
     }
 
-    // The row of a request at its place, if it is one.
+    // The row of a request that is not refused at its place: none of a view.
     fn row_at(&self, opened: &Opened) -> Option<Row>
         requires { IsOwn self.now opened.now }
         ensures { (book : Book) → StandsFor self.now book →
+            refusal self.now.opening book opened.now.request ≡ None →
             result ≡ row_of opened.now.worker opened.now.request
             (reply self.now.opening book opened.now.worker opened.now.request) }
     {
         let Opened { worker, request } = *opened;
-        if self.refusal(&request).is_some() {
-            return None;
-        }
         let stored = answer_to_store(worker, &self.counters[worker as usize], &request)?;
         row_of_store(worker, request, stored)
     }

@@ -1,6 +1,6 @@
 //! A phase that is open, and why a phase does not begin or close.
 ghost use Rattle.std.specs.Prelude.{◌≡◌};
-ghost use Rattle.phase_permits.specs.Performing.{HaveOpening};
+ghost use Rattle.phase_transactions.specs.Performing.{HaveOpening};
 
 use crate::start::Stocks;
 use auction_rows::Opening;
@@ -62,7 +62,7 @@ pub type JoinedFloor<N> = Floor<N, JoinedPhase>;
 pub type SplitFloor<N> = Floor<N, SplitPhase>;
 
 impl<N: PhaseName, K: Kind> Model for Floor<N, K> {
-    ghost use Rattle.phase_permits.specs.Workers.{IsEmptyIf};
+    ghost use Rattle.phase_transactions.specs.Workers.{IsEmptyIf};
     ghost use Rattle.phase_floor.specs.Floors.{FloorState, IsOpen};
 
     ghost Value = { FloorState };

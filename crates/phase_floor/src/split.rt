@@ -15,7 +15,7 @@ use std::sync::Wait;
 impl Joined {
     ghost use Rattle.std.specs.List.{AllByRecursion};
     ghost use Rattle.closing_laws.specs.Phases.{IsReadFrom};
-    ghost use Rattle.phase_permits.specs.Slicing.{hot_objects, IsStocked};
+    ghost use Rattle.worker_slices.specs.Slicing.{hot_objects, IsStocked};
     ghost use Rattle.phase_floor.specs.States.{DoesExist, DoAllExist, states_of};
 
     /// Begins a split phase: a permit for each worker to perform its quota, with a slice of each

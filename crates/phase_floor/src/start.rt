@@ -4,8 +4,8 @@ ghost use Rattle.std.specs.Prelude.{◌≡◌, ◌+◌, ◌<◌, length, IsTrue,
 ghost use Rattle.std.specs.List.{AllByRecursion, IsDistinct};
 ghost use Rattle.auction_rows.specs.Requests.{same_object};
 ghost use Rattle.shard_boxes.specs.Keys.{AreNewKeys};
-ghost use Rattle.phase_permits.specs.Slicing.{hot_objects, IsStocked};
-ghost use Rattle.phase_permits.specs.Workers.{IsEmptyIf};
+ghost use Rattle.worker_slices.specs.Slicing.{hot_objects, IsStocked};
+ghost use Rattle.phase_transactions.specs.Workers.{IsEmptyIf};
 ghost use Rattle.phase_floor.specs.Begins.{IsTooLong, AreKits, empty_stash, asked_in_all, CanBegin, CanBeGiven, HasRefusedJoined, HaveStashRoom, OpensJoined, OpensPhase};
 ghost use Rattle.phase_floor.specs.Floors.{stash_at, AreBegun};
 

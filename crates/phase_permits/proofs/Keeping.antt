@@ -14,10 +14,10 @@ use Rattle.auction_rows.specs.declared.rows.Row.{Row}
 use Rattle.auction_rows.specs.Book.{Book}
 use Rattle.auction_rows.specs.History.{row_of_entry, rows_of}
 use Rattle.item_shards.specs.Writing.{writes_if}
-use Rattle.phase_permits.specs.Slicing.{slices_of, slices_after_acts}
-use Rattle.phase_permits.specs.Txns.{Setting, Txn, entry_of, txn_number, greatest_clock, takes, line_on, IsAnswered, after_txn}
-use Rattle.phase_permits.specs.Works.{Work, Explains, IsWorkOf, IsCommitOf, with_txn}
-use Rattle.phase_permits.proofs.RowSlices.{row_more}
+use Rattle.worker_slices.specs.Slicing.{slices_of, slices_after_acts}
+use Rattle.phase_transactions.specs.Txns.{Setting, Txn, entry_of, txn_number, greatest_clock, takes, line_on, IsAnswered, after_txn}
+use Rattle.phase_transactions.specs.Works.{Work, Explains, IsWorkOf, IsCommitOf, with_txn}
+use Rattle.worker_slices.proofs.RowSlices.{row_more}
 
 -- the lines of the transactions that take a shard, with one transaction more
 one_line : {X Y : Type 0} (p : X → Bool) (f : X → Y) (xs : List X) (x : X) (b : Bool) → p x ≡ b

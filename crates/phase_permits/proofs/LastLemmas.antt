@@ -9,8 +9,8 @@ use Rattle.auction_rows.specs.declared.requests.Request.{Request}
 use Rattle.auction_rows.specs.declared.rows.Entry.{Entry}
 use Rattle.worker_journals.specs.Journals.{commit_in}
 use Rattle.shard_boxes.specs.States.{ShardState}
-use Rattle.phase_permits.specs.Performing.{HasCommitted}
-use Rattle.phase_permits.specs.Workers.{WorkerState, last_reply}
+use Rattle.phase_transactions.specs.Performing.{HasCommitted}
+use Rattle.phase_transactions.specs.Workers.{WorkerState, last_reply}
 
 -- the last of a list that has one more at its end
 at_end : {A : Type 0} (xs : List A) (x : A) → slice_get (xs ++ x ∷ []) (length (xs ++ x ∷ []) - 1) ≡ Some x

@@ -19,7 +19,7 @@ use Rattle.item_shards.specs.Contents.{Contents, target, after_act}
 use Rattle.item_shards.specs.Values.{value}
 use Rattle.item_shards.specs.Writing.{looks_of, writes_if, is_cold_in, is_done_on, padded}
 use Rattle.item_shards.proofs.StandingLemmas.{cold_here}
-use Rattle.phase_permits.specs.Txns.{Setting, Txn, hot_of, takes}
+use Rattle.phase_transactions.specs.Txns.{Setting, Txn, hot_of, takes}
 use Rattle.phase_permits.specs.Replying.{SawTrue, StoodFor}
 
 -- the first of two acts is looked at first

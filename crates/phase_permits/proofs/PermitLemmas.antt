@@ -1,45 +1,25 @@
 -- What a permit does with a request leaves it explained by its transactions.
-use Rattle.std.proofs.Common.{◌≡◌, ℕ, Bool, true, false, cond, List, [], ◌∷◌, length, Result, Ok, Err, refl, sym, ap, subst, ◌∙◌}
+use Rattle.std.proofs.Common.{◌≡◌, ℕ, Bool, true, false, List, [], ◌∷◌, length, Result, Ok, Err, refl, sym, ap, subst, ◌∙◌}
 use Rattle.std.proofs.lemmas.Bool.{false≢true}
 use Rattle.auction_rows.specs.declared.requests.Object.{Object}
-use Rattle.auction_rows.specs.declared.requests.Object.TheVariants.{Item, User, Category}
 use Rattle.auction_rows.specs.declared.replies.Reply.{Reply}
 use Rattle.auction_rows.specs.declared.requests.Request.{Request}
 use Rattle.auction_rows.specs.declared.requests.Request.TheVariants.{StoreItem, StoreBid, StoreComment, BuyNow, ViewItem, ViewBids, ViewCategory, ViewUser}
 use Rattle.auction_rows.specs.History.{rows_of}
 use Rattle.auction_rows.specs.Replies.{row_of}
-use Rattle.auction_rows.specs.Requests.{same_object}
 use Rattle.item_shards.specs.Events.{Event, AddItem, ListItem, Bid, Comment, Buy, Look}
-use Rattle.item_shards.specs.declared.shard.slices.Slice.{Slice}
 use Rattle.item_shards.specs.Writing.{writes_if}
 use Rattle.shard_boxes.specs.States.{ShardState}
-use Rattle.phase_permits.specs.declared.transaction.PermitFault.{PermitFault}
-use Rattle.phase_permits.specs.declared.slices.Hot.{Hot}
-use Rattle.phase_permits.specs.Performing.{HasCommitted, HasFailed, HasPerformed}
-use Rattle.phase_permits.specs.Slicing.{hot_objects, stocks_of, slices_of, slice_with_bid, slice_with_comment, slice_with_item, with_slice_changed, slices_after_act, slices_after_acts}
-use Rattle.phase_permits.specs.Txns.{Setting, is_put_off}
-use Rattle.phase_permits.specs.Workers.{WorkerState, IsEmptyIf, CanStart, IsExplained, IsPermit, setting_of, txn_of, work_of, after_putting_off, with_first_unstashed, with_try}
-use Rattle.phase_permits.specs.Works.{Work, IsWorkOf, with_txn}
+use Rattle.phase_transactions.specs.declared.transaction.PermitFault.{PermitFault}
+use Rattle.worker_slices.specs.declared.slices.Hot.{Hot}
+use Rattle.phase_transactions.specs.Performing.{HasCommitted, HasFailed, HasPerformed}
+use Rattle.worker_slices.specs.Slicing.{hot_objects, stocks_of, slices_of, slices_after_acts}
+use Rattle.phase_transactions.specs.Txns.{Setting, is_put_off}
+use Rattle.phase_transactions.specs.Workers.{WorkerState, IsEmptyIf, CanStart, IsExplained, setting_of, txn_of, work_of, after_putting_off, with_first_unstashed, with_try}
+use Rattle.phase_permits.specs.Permits.{IsPermit}
+use Rattle.phase_transactions.specs.Works.{Work, IsWorkOf, with_txn}
+use Rattle.worker_slices.proofs.StockLemmas.{stocks-acts}
 use Rattle.phase_permits.proofs.Keeping.{commit_keeps}
-
--- what is fixed stays
-fixed_if : (b : Bool) (change : Slice → Slice) (hot : Hot) → (cond b (record hot { slice = change hot.slice }) hot).stock ≡ hot.stock
-fixed_if true change hot = refl
-fixed_if false change hot = refl
-
-stocks-changed : (object : Object) (change : Slice → Slice) (hots : List (Object × Hot)) → stocks_of (with_slice_changed object change hots) ≡ stocks_of hots
-stocks-changed object change [] = refl
-stocks-changed object change (hot ∷ hots) = λ i. (hot.0, fixed_if (same_object object hot.0) change hot.1 i) ∷ stocks-changed object change hots i
-
-stocks-act : (hots : List (Object × Hot)) (act : Event) → stocks_of (slices_after_act hots act) ≡ stocks_of hots
-stocks-act hots (ListItem category item) = stocks-changed (Category category) (slice_with_item item) hots
-stocks-act hots (Bid id bid) = stocks-changed (Item id) (slice_with_bid bid) hots
-stocks-act hots (Comment user stars) = stocks-changed (User user) (slice_with_comment stars) hots
-stocks-act hots act = refl
-
-pub stocks-acts : (hots : List (Object × Hot)) (acts : List Event) → stocks_of (slices_after_acts hots acts) ≡ stocks_of hots
-stocks-acts hots [] = refl
-stocks-acts hots (act ∷ acts) = stocks-acts (slices_after_act hots act) acts ∙ stocks-act hots act
 
 -- a worker that starts has done nothing
 pub start_explained : (shards : ℕ) (w : WorkerState) → CanStart w → w.begun ≡ (w.counters, w.clock) → IsExplained shards w

@@ -34,13 +34,13 @@ use Rattle.item_shards.specs.Writing.{looks_of, writes_if}
 use Rattle.item_shards.proofs.AnswerLemmas.{item_reply, bids_reply, category_reply_is, user_reply_is, stock_is}
 use Rattle.shard_boxes.specs.Lines.{Line, acts_in, after_lines, AreTrueOf}
 use Rattle.shard_boxes.specs.States.{ShardState, state_at}
-use Rattle.phase_permits.specs.declared.worker.Counters.{Counters}
-use Rattle.phase_permits.specs.Txns.{Setting, Txn, hot_of, takes, line_on, stock_seen, refusal_by, IsAnswered, ReadSet}
-use Rattle.phase_permits.specs.Slicing.{stock_of}
-use Rattle.phase_permits.specs.Performing.{HasCommitted, HasCommittedSome, HasPerformedFirstSome, asks}
+use Rattle.worker_slices.specs.declared.counters.Counters.{Counters}
+use Rattle.phase_transactions.specs.Txns.{Setting, Txn, hot_of, takes, line_on, stock_seen, refusal_by, IsAnswered, ReadSet}
+use Rattle.worker_slices.specs.Slicing.{stock_of}
+use Rattle.phase_transactions.specs.Performing.{HasCommitted, HasCommittedSome, HasPerformedFirstSome, asks}
 use Rattle.phase_permits.specs.Replying.{CountsOf, SawTrue, StoodFor, HasFixed, IsModelReply, IsModelReplyToFirst, lines_found}
-use Rattle.phase_permits.specs.Workers.{WorkerState, last_reply, setting_of, txn_of, with_first_unstashed}
-use Rattle.phase_permits.proofs.HomeLemmas.{no_other, same_objects_of}
+use Rattle.phase_transactions.specs.Workers.{WorkerState, last_reply, setting_of, txn_of, with_first_unstashed}
+use Rattle.phase_transactions.proofs.HomeLemmas.{no_other, same_objects_of}
 use Rattle.phase_permits.proofs.LastLemmas.{as_read}
 use Rattle.phase_permits.proofs.UntouchedLemmas.{took_asked}
 use Rattle.phase_permits.proofs.LookLemmas.{look_true, value_there}

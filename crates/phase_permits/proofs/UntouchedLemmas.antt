@@ -13,10 +13,10 @@ use Rattle.auction_rows.specs.Refusals.{number_refusal}
 use Rattle.auction_rows.specs.Requests.{shard_of}
 use Rattle.shard_boxes.specs.Keys.{KeyState, no_seat, seat_at}
 use Rattle.shard_boxes.specs.States.{ShardState}
-use Rattle.phase_permits.specs.Txns.{hot_of, IsAnswered, ReadSet}
-use Rattle.phase_permits.specs.declared.transaction.PermitFault.{PermitFault}
-use Rattle.phase_permits.specs.Performing.{HasCommitted, HasFailed, HasPerformed, IsUntouched, shards_asked}
-use Rattle.phase_permits.specs.Workers.{WorkerState, setting_of, txn_of}
+use Rattle.phase_transactions.specs.Txns.{hot_of, IsAnswered, ReadSet}
+use Rattle.phase_transactions.specs.declared.transaction.PermitFault.{PermitFault}
+use Rattle.phase_transactions.specs.Performing.{HasCommitted, HasFailed, HasPerformed, IsUntouched, shards_asked}
+use Rattle.phase_transactions.specs.Workers.{WorkerState, setting_of, txn_of}
 
 -- a commit with an empty footprint leaves the key, and so does a failure
 same_key : (old new : KeyState) → new.boxes ≡ old.boxes → new.worker ≡ old.worker → length new.seats ≡ length old.seats → ((shard : ℕ) → seat_at new shard ≡ seat_at old shard) → new ≡ old

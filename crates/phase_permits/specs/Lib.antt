@@ -1,14 +1,2 @@
-pub mod Stashes
-pub mod Slicing
-pub mod Txns
-pub mod Works
-pub mod Workers
-pub mod WorkerFields
-pub mod Putting
-pub mod Takens
-pub mod Performing
+pub mod Permits
 pub mod Replying
-pub mod Homes
-pub mod Deeds
-pub mod Begun
-pub mod Viewing

@@ -15,14 +15,14 @@ use Rattle.item_shards.specs.Standing.{ContentsStandsFor}
 use Rattle.shard_boxes.specs.Keys.{KeyState, seen_at}
 use Rattle.shard_boxes.specs.Lines.{Line, acts_in, after_lines, AreTrueOf}
 use Rattle.shard_boxes.specs.States.{ShardState, state_at}
-use Rattle.phase_permits.specs.declared.slices.Hot.{Hot}
-use Rattle.phase_permits.specs.declared.transaction.Done.{Done}
-use Rattle.phase_permits.specs.declared.transaction.Done.TheVariants.{Committed, Stashed}
-use Rattle.phase_permits.specs.declared.worker.Counters.{Counters}
-use Rattle.phase_permits.specs.Performing.{asks}
-use Rattle.phase_permits.specs.Slicing.{hot_objects, stocks_of, stock_of}
-use Rattle.phase_permits.specs.Txns.{Setting, Txn, hot_of, takes, line_on}
-use Rattle.phase_permits.specs.Workers.{WorkerState}
+use Rattle.worker_slices.specs.declared.slices.Hot.{Hot}
+use Rattle.phase_transactions.specs.declared.transaction.Done.{Done}
+use Rattle.phase_transactions.specs.declared.transaction.Done.TheVariants.{Committed, Stashed}
+use Rattle.worker_slices.specs.declared.counters.Counters.{Counters}
+use Rattle.phase_transactions.specs.Performing.{asks}
+use Rattle.worker_slices.specs.Slicing.{hot_objects, stocks_of, stock_of}
+use Rattle.phase_transactions.specs.Txns.{Setting, Txn, hot_of, takes, line_on}
+use Rattle.phase_transactions.specs.Workers.{WorkerState}
 
 -- the worker's counters are those of a book
 pub record CountsOf (book : Book) (worker : ℕ) (counters : Counters) : Type 0 where

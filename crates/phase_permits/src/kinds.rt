@@ -3,14 +3,12 @@ ghost use Rattle.std.specs.Prelude.{◌≡◌, ◌≤◌, ◌<◌, ◌↔◌, []
 ghost use Rattle.item_shards.specs.CommitNumbers.{last_number};
 
 use crate::permit::Permit;
-use crate::slices::Slices;
-use crate::stash::Stash;
-use crate::transaction::{Done, PermitFault};
-use crate::worker::{Counters, WorkerStart};
 use auction_rows::{ItemId, MOST_TRIES, Opening, Reply, Request, Stars};
+use phase_transactions::{Done, PermitFault, WorkerStart};
 use shard_boxes::{Boxes, Key, PhaseName};
 use std::sync::Wait;
 use worker_journals::Journal;
+use worker_slices::{Counters, Slices, Stash};
 
 /// The kind of a phase.
 pub trait Kind {
@@ -40,9 +38,9 @@ impl Kind for SplitPhase {
 }
 
 impl<N: PhaseName> Permit<N, JoinedPhase> {
-    ghost use Rattle.phase_permits.specs.Performing.{HasCommitted, HasFailed, HasFailedFirst, HasPerformedFirst, HaveOpening};
+    ghost use Rattle.phase_transactions.specs.Performing.{HasCommitted, HasFailed, HasFailedFirst, HasPerformedFirst, HaveOpening};
     ghost use Rattle.phase_permits.specs.Replying.{IsModelReply, IsModelReplyToFirst};
-    ghost use Rattle.phase_permits.specs.Workers.{CanStart, new_worker, with_try};
+    ghost use Rattle.phase_transactions.specs.Workers.{CanStart, new_worker, with_try};
 
     /// A permit to perform so many requests. It takes no memory.
     pub fn new(
@@ -123,13 +121,13 @@ impl<N: PhaseName> Permit<N, JoinedPhase> {
 impl<N: PhaseName> Permit<N, SplitPhase> {
     ghost use Rattle.auction_rows.specs.declared.requests.Object.TheVariants.{Item, User};
     ghost use Rattle.auction_rows.specs.declared.requests.Request.TheVariants.{StoreBid, StoreComment};
-    ghost use Rattle.phase_permits.specs.declared.transaction.Done.TheVariants.{Stashed};
-    ghost use Rattle.phase_permits.specs.Homes.{IsHotStore};
-    ghost use Rattle.phase_permits.specs.Performing.{IsUntouched, HasCommitted, HasDealtWith, HasFailed, HaveOpening};
+    ghost use Rattle.phase_transactions.specs.declared.transaction.Done.TheVariants.{Stashed};
+    ghost use Rattle.worker_slices.specs.Homes.{IsHotStore};
+    ghost use Rattle.phase_transactions.specs.Performing.{IsUntouched, HasCommitted, HasDealtWith, HasFailed, HaveOpening};
     ghost use Rattle.phase_permits.specs.Replying.{IfCommitted, IsModelReply};
-    ghost use Rattle.phase_permits.specs.Slicing.{hot_objects};
-    ghost use Rattle.phase_permits.specs.Txns.{is_put_off};
-    ghost use Rattle.phase_permits.specs.Workers.{CanStart, IsHot, new_worker, with_try};
+    ghost use Rattle.worker_slices.specs.Slicing.{hot_objects};
+    ghost use Rattle.phase_transactions.specs.Txns.{is_put_off};
+    ghost use Rattle.phase_transactions.specs.Workers.{CanStart, IsHot, new_worker, with_try};
 
     /// A permit to perform so many requests. It takes no memory.
     pub fn new(

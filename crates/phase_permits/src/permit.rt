@@ -1,18 +1,15 @@
 //! A worker's right to perform in a phase, and what it leaves.
 ghost use Rattle.std.specs.Prelude.{◌≡◌, ◌≤◌, ◌<◌, ◌↔◌, [], length, true, false, slice_get, Ok, Some, IfOk, IfErr};
-ghost use Rattle.phase_permits.specs.Workers.{IsEmptyIf, CanStart, IsExplained, new_worker, with_try};
+ghost use Rattle.phase_transactions.specs.Workers.{IsEmptyIf, CanStart, IsExplained, new_worker, with_try};
 
 use crate::kinds::{JoinedPhase, Kind, SplitPhase};
-use crate::slices::Slices;
-use crate::stash::Stash;
-use crate::transaction::PermitFault;
-use crate::worker::{Counters, Worker, WorkerStart};
 use auction_rows::{MOST_TRIES, Object, Request};
-use ghost_log::GhostList;
+use phase_transactions::{PermitFault, Worker, WorkerStart};
 use shard_boxes::{Boxes, Key, MOST_COMMITS, PhaseName};
 use std::marker::{Model, PhantomData};
 use std::sync::Wait;
 use worker_journals::Journal;
+use worker_slices::{Counters, Slices, Stash};
 
 /// A worker's right to perform in a phase. It must be spent by `finish`.
 pub struct Permit<N: PhaseName, K: Kind> {
@@ -28,7 +25,8 @@ pub type SplitPermit<N> = Permit<N, SplitPhase>;
 
 impl<N: PhaseName, K: Kind> Model for Permit<N, K> {
     ghost use Rattle.std.specs.Prelude.{length};
-    ghost use Rattle.phase_permits.specs.Workers.{WorkerState, IsPermit};
+    ghost use Rattle.phase_transactions.specs.Workers.{WorkerState};
+    ghost use Rattle.phase_permits.specs.Permits.{IsPermit};
 
     ghost Value = { WorkerState };
 
@@ -59,7 +57,8 @@ pub type SplitReceipt<N> = Receipt<N, SplitPhase>;
 
 impl<N: PhaseName, K: Kind> Model for Receipt<N, K> {
     ghost use Rattle.std.specs.Prelude.{length};
-    ghost use Rattle.phase_permits.specs.Workers.{WorkerState, IsPermit};
+    ghost use Rattle.phase_transactions.specs.Workers.{WorkerState};
+    ghost use Rattle.phase_permits.specs.Permits.{IsPermit};
 
     ghost Value = { WorkerState };
 
@@ -70,9 +69,9 @@ impl<N: PhaseName, K: Kind> Model for Receipt<N, K> {
 
 impl<N: PhaseName, K: Kind> Permit<N, K> {
     ghost use Rattle.auction_rows.specs.Footprint.{is_hot};
-    ghost use Rattle.phase_permits.specs.Performing.{HasDealt, HasFailed, HasFailedFirst, HasPerformedFirstSome, HaveOpening, IsUntouched};
-    ghost use Rattle.phase_permits.specs.Slicing.{hot_objects};
-    ghost use Rattle.phase_permits.specs.Txns.{is_put_off};
+    ghost use Rattle.phase_transactions.specs.Performing.{HasDealt, HasFailed, HasFailedFirst, HasPerformedFirstSome, HaveOpening, IsUntouched};
+    ghost use Rattle.worker_slices.specs.Slicing.{hot_objects};
+    ghost use Rattle.phase_transactions.specs.Txns.{is_put_off};
 
     /// A permit with what its worker starts a phase with. It takes no memory.
     pub fn from_start(start: WorkerStart<N>) -> Permit<N, K>
@@ -82,32 +81,8 @@ impl<N: PhaseName, K: Kind> Permit<N, K> {
         ensures { result ≡ new_worker start.key start.opening start.counters start.journal
             start.stash start.slices start.quota start.clock }
     {
-        let WorkerStart {
-            key,
-            opening,
-            counters,
-            journal,
-            stash,
-            slices,
-            quota,
-            clock,
-        } = start;
-        let worker = Worker {
-            worker: journal.worker(),
-            shards: key.shards(),
-            key,
-            opening,
-            counters,
-            journal,
-            stash,
-            slices,
-            left: quota,
-            tries: 0,
-            clock,
-            begun: GhostList::new().and(&counters, &clock),
-        };
         Permit {
-            worker,
+            worker: Worker::new(start),
             kind: PhantomData,
         }
     }
@@ -173,7 +148,7 @@ impl<N: PhaseName, K: Kind> Permit<N, K> {
     pub fn left(&self) -> u32
         ensures { result ≡ self.now.left }
     {
-        self.worker.left
+        self.worker.left()
     }
 
     /// How many requests were put off: in a joined phase those of the last split one that are still
@@ -181,21 +156,28 @@ impl<N: PhaseName, K: Kind> Permit<N, K> {
     pub fn stashed(&self) -> usize
         ensures { result ≡ length self.now.stash.requests }
     {
-        self.worker.stash.len()
+        self.worker.stashed()
     }
 
     /// The first of these, with its index.
     pub fn first_stashed(&self) -> Option<(u32, Request)>
         ensures { result ≡ slice_get self.now.stash.requests 0 }
     {
-        self.worker.stash.get(0)
+        self.worker.stashed_at(0)
+    }
+
+    /// The one at a place, with its index.
+    pub fn stashed_at(&self, place: usize) -> Option<(u32, Request)>
+        ensures { result ≡ slice_get self.now.stash.requests place }
+    {
+        self.worker.stashed_at(place)
     }
 
     /// How many calls of `perform`, `commit`, `perform_stashed` and `commit_stashed` were made.
     pub fn tries(&self) -> u32
         ensures { result ≡ self.now.tries }
     {
-        self.worker.tries
+        self.worker.tries()
     }
 
     /// Whether an object is one of those that the slices are of: none is in a joined phase.
@@ -216,7 +198,7 @@ impl<N: PhaseName, K: Kind> Permit<N, K> {
 }
 
 impl<N: PhaseName, K: Kind> Receipt<N, K> {
-    ghost use Rattle.phase_permits.specs.Slicing.{HaveAtMost};
+    ghost use Rattle.worker_slices.specs.Slicing.{HaveAtMost};
 
     /// The journal, the slices, the stash, the key and the counters, which are explained by its
     /// transactions. There is no slice in a joined phase.
@@ -233,14 +215,6 @@ impl<N: PhaseName, K: Kind> Receipt<N, K> {
         ensures kind { IsEmptyIf K.IS_JOINED self.slices }
     {
         let Receipt { worker, kind: _ } = self;
-        let Worker {
-            key,
-            counters,
-            journal,
-            stash,
-            slices,
-            ..
-        } = worker;
-        (journal, slices, stash, key, counters)
+        worker.parts()
     }
 }

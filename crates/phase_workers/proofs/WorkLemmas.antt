@@ -13,13 +13,14 @@ use Rattle.auction_rows.specs.declared.rows.Entry.{Entry}
 use Rattle.auction_rows.specs.Phases.{is_put_off}
 use Rattle.auction_rows.specs.Replies.{row_of}
 use Rattle.item_shards.specs.Writing.{writes_if}
-use Rattle.phase_permits.specs.Workers.{WorkerState, with_try, with_first_unstashed}
-use Rattle.phase_permits.specs.Slicing.{hot_objects, stocks_of}
-use Rattle.phase_permits.proofs.HomeLemmas.{same_objects_of}
-use Rattle.phase_permits.proofs.LawfulLemmas.{objects-acts}
-use Rattle.phase_permits.proofs.PermitLemmas.{stocks-acts, none_put_off}
-use Rattle.phase_permits.specs.declared.transaction.PermitFault.{PermitFault}
-use Rattle.phase_permits.specs.Performing.{HasFailed, IsCause, HasCommitted, HasFailedFirst, HasDealt, HasPerformedFirstSome}
+use Rattle.phase_transactions.specs.Workers.{WorkerState, with_try, with_first_unstashed}
+use Rattle.worker_slices.specs.Slicing.{hot_objects, stocks_of}
+use Rattle.phase_transactions.proofs.HomeLemmas.{same_objects_of}
+use Rattle.phase_transactions.proofs.LawfulLemmas.{objects-acts}
+use Rattle.worker_slices.proofs.StockLemmas.{stocks-acts}
+use Rattle.phase_permits.proofs.PermitLemmas.{none_put_off}
+use Rattle.phase_transactions.specs.declared.transaction.PermitFault.{PermitFault}
+use Rattle.phase_transactions.specs.Performing.{HasFailed, IsCause, HasCommitted, HasFailedFirst, HasDealt, HasPerformedFirstSome}
 use Rattle.phase_laws.proofs.ListLemmas.{all-append}
 use Rattle.run_laws.specs.Serving.{call_of}
 use Rattle.shard_boxes.specs.States.{ShardState}

@@ -5,10 +5,10 @@ use Rattle.auction_rows.specs.declared.requests.Object.{Object}
 use Rattle.auction_rows.specs.declared.requests.Request.{Request}
 use Rattle.auction_rows.specs.Phases.{is_put_off}
 use Rattle.shard_boxes.specs.States.{ShardState}
-use Rattle.phase_permits.specs.Slicing.{hot_objects, stocks_of}
-use Rattle.phase_permits.specs.declared.transaction.PermitFault.{PermitFault}
-use Rattle.phase_permits.specs.Performing.{IsCause}
-use Rattle.phase_permits.specs.Workers.{WorkerState}
+use Rattle.worker_slices.specs.Slicing.{hot_objects, stocks_of}
+use Rattle.phase_transactions.specs.declared.transaction.PermitFault.{PermitFault}
+use Rattle.phase_transactions.specs.Performing.{IsCause}
+use Rattle.phase_transactions.specs.Workers.{WorkerState}
 use Rattle.run_laws.specs.Turns.{numbered}
 use Rattle.run_laws.specs.Serving.{call_of}
 

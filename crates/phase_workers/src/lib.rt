@@ -2,6 +2,7 @@
 //! one after the other.
 #![tactic(auto)]
 
+mod meeting;
 mod round;
 mod threads;
 mod worker;

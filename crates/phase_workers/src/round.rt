@@ -1,12 +1,13 @@
-//! The workers of a phase, each but the first on a thread of its own, but where the phase is short;
+//! The workers of a phase, each but the first on a thread of its own, unless threads save no time;
 //! and why they are not done.
 ghost use Rattle.std.specs.Prelude.{◌≡◌, ◌≤◌, Some, length, map, vec_len, vec_capacity, IfOk, IfErr, OnOk};
 ghost use Rattle.std.specs.List.{AllByRecursion, AllZip};
 ghost use Rattle.phase_workers.specs.Tasks.{task, tasks, CanBeDone, HasDoneTask, HasMetFault, without_fault, first_fault, IsFirstFault, IsFaultBy};
 ghost use Rattle.phase_workers.specs.Working.{IsPermitOf, ArePermitsOf};
 
+use crate::meeting::is_for_one_thread;
 use crate::threads::{Job, work_all};
-use crate::worker::{Gate, Post, perform_task, waiting};
+use crate::worker::{Gate, Post, perform_task};
 use auction_rows::MOST_WORKERS;
 use phase_permits::{Kind, Permit, PermitFault, Receipt};
 use shard_boxes::{Boxes, PhaseName};
@@ -61,9 +62,6 @@ impl From<PermitFault> for ServingFault {
         ServingFault::Worker(met)
     }
 }
-
-// A phase of at most so many requests takes no longer on one thread than the start of others takes.
-const SHORT_PHASE: u64 = 256;
 
 /// A phase, as its workers are told of it.
 #[derive(Drop)]
@@ -136,7 +134,7 @@ impl<'a, N: PhaseName, K: Kind, R: Wait, G: Gate> Job for WorkerTask<'a, N, K, R
 }
 
 /// Does the first worker's task of a round, and each other's by a thread of its own, or all in turn
-/// if the round is short and the gate needs no threads, and gives their receipts in order. If a
+/// if threads would save no time and the gate needs none, and gives their receipts in order. If a
 /// thread can't be started the fault is `Spawn`, else that of the least worker that met one; all
 /// threads have ended, and all permits are spent.
 pub fn serve_all<N, K, R, G>(
@@ -164,7 +162,7 @@ where
         (IsFirstFault K.IS_JOINED N.initial
         (tasks permits.items round.entry.scripts.now round.entry.first))) }
 {
-    if !round.gate.needs_threads() && requests_of(&permits) <= SHORT_PHASE {
+    if !round.gate.needs_threads() && is_for_one_thread(&permits, &round, boxes.shards()) {
         return serve_in_turn(rt, alloc, boxes, permits, round);
     }
     let own_tasks = own_tasks(rt, alloc, boxes, permits, round)?;
@@ -227,16 +225,6 @@ fn serve_in_turn<N: PhaseName, K: Kind, R: Wait, G: Gate>(
     }
     permits.destroy_empty();
     Ok(receipts)
-}
-
-// How many requests are to be performed by these permits.
-fn requests_of<N: PhaseName, K: Kind>(permits: &[Permit<N, K>]) -> u64 {
-    let mut requests = 0u64;
-    for permit in permits {
-        requests = requests.saturating_add(waiting(permit) as u64);
-        requests = requests.saturating_add(u64::from(permit.left()));
-    }
-    requests
 }
 
 // The task of each worker.

@@ -1,8 +1,8 @@
 //! What a worker does in a phase of a run, and where it can be watched.
 ghost use Rattle.std.specs.Prelude.{◌≡◌, ◌+◌, ◌-◌, ◌≤◌, ◌<◌, ◌++◌, false, true, Some, length, slice_get, OnOk, IfErr};
 ghost use Rattle.auction_rows.specs.declared.requests.Request.{Request as Asked};
-ghost use Rattle.phase_permits.specs.Performing.{HasFailed, HaveOpening, HasFailedFirst};
-ghost use Rattle.phase_permits.specs.Workers.{with_try};
+ghost use Rattle.phase_transactions.specs.Performing.{HasFailed, HaveOpening, HasFailedFirst};
+ghost use Rattle.phase_transactions.specs.Workers.{with_try};
 ghost use Rattle.phase_workers.specs.Tasks.{task, CanBeDone, HasDoneTask, HasMetFault};
 ghost use Rattle.phase_workers.specs.Working.{calls_from, committed, stashed, taken, hot_for, put_off, not_put_off, IsPermitOf, IsSamePermit, HasDealtWithNext, HasPerformedStash, HasPerformedWaiting, HasStopped};
 
@@ -22,8 +22,8 @@ pub trait Gate {
     fn leave(&self, phase: u64, worker: u32, index: u32);
 
     /// Whether each worker has a thread of its own in every phase, as a gate needs at which one
-    /// worker waits for another. Where it need not, a phase that is short may be performed by one
-    /// thread, worker after worker.
+    /// worker waits for another. If it need not, a phase that gains nothing by threads may be
+    /// performed by one, worker after worker.
     fn needs_threads(&self) -> bool {
         true
     }

@@ -1,4 +1,5 @@
 pub mod ErrorLemmas
+pub mod NumberWords
 pub mod OpenedLogs
 pub mod ProgramWords
 pub mod StartLemmas

@@ -1,7 +1,7 @@
 -- An auction before it has rows.
 use Rattle.std.proofs.Common.{◌≡◌, ℕ, zero, suc, replicate, ◌∙◌, [], refl, sym, ap, subst, arith}
 use Rattle.closing_laws.specs.Standing.{counters_at}
-use Rattle.phase_permits.specs.Workers.{no_counters}
+use Rattle.phase_transactions.specs.Workers.{no_counters}
 use Rattle.phase_floor.specs.Adding.{IsStartOf}
 use Rattle.phase_floor.specs.NextRun.{lasting}
 use Rattle.phase_floor.specs.States.{JoinedState, StandsFor}

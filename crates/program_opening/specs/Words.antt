@@ -1,5 +1,5 @@
 -- What the program's words say of its options, by the parser of words (`clap`).
-use Rattle.std.specs.Prelude.{◌≡◌, ◌≤◌, ◌⊎◌, ℕ, Bool, true, false, List, [], ◌∷◌, Option, None, Some, fold, codes, option_map, string_bytes}
+use Rattle.std.specs.Prelude.{◌≡◌, ◌≤◌, ◌⊎◌, ◌&&◌, ◌*◌, ℕ, Bool, true, false, not, List, [], ◌∷◌, Option, None, Some, fold, codes, option_map, string_bytes, if◌then◌else◌}
 use Rattle.auction_rows.specs.declared.limits.TheConstants.{MOST_HOT, MOST_SHARDS, MOST_WORKERS}
 use Rattle.clap.specs.Simple.{App, with_rule}
 use Rattle.clap.specs.Walk.{Rule}
@@ -16,6 +16,7 @@ option_rules =
     ∷ named_rule (codes "split") 1 MOST_ASKED (codes "64")
     ∷ named_rule (codes "threshold") 1 MOST_ASKED (codes "8")
     ∷ named_rule (codes "hot") 0 MOST_HOT (codes "8")
+    ∷ flag_rule (codes "fast")
     ∷ named_rule (codes "users") 0 MOST_ASKED (codes "100")
     ∷ named_rule (codes "categories") 0 MOST_ASKED (codes "10")
     ∷ named_rule (codes "live") 0 MOST_ASKED (codes "0")
@@ -37,12 +38,22 @@ SaysEnd (Some how) live ends =
     ((how ≡ codes "end") × (ends ≡ true))
     ⊎ ((how ≡ codes "answer") × ((1 ≤ live) × (ends ≡ false)))
 
--- Texts say the options: each number and flag by its own text; the log is the file that is named.
-pub record SayOptions (text value : List ℕ → Option (List ℕ)) (options : Options) : Type 0 where
+-- whether --fast says the number of an option: it is set, and the option is not given
+abbrev pub is_fast : (List ℕ → Option (List ℕ)) → (List ℕ → Bool) → List ℕ → Bool
+is_fast text given id = is_set (text (codes "fast")) && not (given id)
+
+-- the number of an option: this one if --fast says it, or else that of its text
+abbrev pub number_or : ℕ → (List ℕ → Option (List ℕ)) → (List ℕ → Bool) → List ℕ → ℕ
+number_or fast text given id = if is_fast text given id then fast else number_of (text id)
+
+-- Texts say the options: each number and flag by its own text, but for three numbers that --fast
+-- says too; the log is the file that is named.
+pub record SayOptions (text value : List ℕ → Option (List ℕ)) (given : List ℕ → Bool)
+    (options : Options) : Type 0 where
   pub workers : options.workers ≡ number_of (text (codes "workers"))
-  pub shards : options.shards ≡ number_of (text (codes "shards"))
-  pub joined : options.joined ≡ number_of (text (codes "joined"))
-  pub split : options.split ≡ number_of (text (codes "split"))
+  pub shards : options.shards ≡ number_or (4 * options.workers) text given (codes "shards")
+  pub joined : options.joined ≡ number_or 64 text given (codes "joined")
+  pub split : options.split ≡ number_or 4096 text given (codes "split")
   pub threshold : options.threshold ≡ number_of (text (codes "threshold"))
   pub hot : options.hot ≡ number_of (text (codes "hot"))
   pub users : options.users ≡ number_of (text (codes "users"))

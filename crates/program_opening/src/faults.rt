@@ -16,7 +16,7 @@ use std::io::Write;
 use thiserror::Error;
 
 /// Why the program failed, by the part that failed.
-#[derive(Debug, PartialEq, Eq, Drop, Error)]
+#[derive(Debug, Drop, Error)]
 pub enum Fault {
     /// The options were refused.
     #[error("{0}")]
@@ -45,7 +45,7 @@ pub enum Fault {
     /// A report was asked for of requests that are answered while more come.
     #[error("no report with --live or --log")]
     Report,
-    /// The log could not be opened.
+    /// The log could not be opened, or took no more rows.
     #[error("{0}")]
     OpenLog(LogFileFault),
     /// Rows could not be logged.

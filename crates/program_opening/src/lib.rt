@@ -12,7 +12,7 @@ pub use auction_text::{Cause, ReadFault, WriteFault};
 pub use auction_window::MakeFault;
 pub use faults::{Fault, status, write_fault};
 pub use item_shards::ResumeFault;
-pub use log_file::{LogFileFault, OpenedLog, open_log};
+pub use log_file::{LogCause, LogFileFault, OpenedLog, open_log};
 pub use log_opening::OpenFault;
 pub use opening::new_auction;
 pub use options::{Options, read_options};

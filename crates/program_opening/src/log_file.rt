@@ -1,12 +1,12 @@
 //! The file of a log: how it is opened and locked, and where what is cut off it is kept.
 ghost use Rattle.std.specs.Prelude.{[], None, IfOk};
 ghost use Rattle.phase_floor.specs.Adding.{HasBook, IsSameAuction, IsStartOf};
-ghost use Rattle.program_opening.specs.Opened.{IsOpenedFrom};
+ghost use Rattle.program_opening.specs.Opened.{IsOpenedFrom, NamesFile};
 
 use crate::faults::Fault;
 use auction_text::WriteFault;
 use log_opening::{OpenFault, cut_log, read_log};
-use part_log::{AppendFile, FileLog};
+use part_log::{AppendFile, FileLog, LogFault};
 use phase_floor::Joined;
 use std::alloc::Global;
 use std::fs::{File, OpenOptions, TryLockError};
@@ -15,33 +15,59 @@ use std::io::{ErrorKind, Write};
 use std::rt::Files;
 use thiserror::Error;
 
-/// Why a log is not opened. Its bytes are as they were.
-#[derive(Debug, PartialEq, Eq, Drop, Error)]
-pub enum LogFileFault {
-    /// Its file could not be opened or read, or its folder not read.
-    #[error("log cannot be read")]
-    Read,
-    /// Its file could not be cut or synced.
-    #[error("log cannot be written")]
-    Write,
+/// What is wrong with the file of a log.
+#[derive(Debug, Drop, Error)]
+pub enum LogCause {
+    /// It could not be opened or read, or its folder not read.
+    #[error("cannot be read: {0}")]
+    Read(io::Error),
+    /// It could not be cut or synced.
+    #[error("cannot be written: {0}")]
+    Write(io::Error),
     /// It is a pipe or a device.
-    #[error("log is not a regular file")]
+    #[error("not a regular file")]
     NotAFile,
     /// Another program has it.
-    #[error("log is in use")]
+    #[error("in use")]
     Locked,
     /// It could not be locked, so another program may have it.
-    #[error("log cannot be locked")]
-    NoLock,
-    /// Its text, in the file of this name, opens no auction.
-    #[error("{0}: {1}")]
-    Text(String, OpenFault),
+    #[error("cannot be locked: {0}")]
+    NoLock(io::Error),
+    /// Its text opens no auction.
+    #[error("{0}")]
+    Text(OpenFault),
+    /// Rows could not be added to it.
+    #[error("cannot be written")]
+    Log(LogFault),
     /// What is to be cut off it could not be kept.
-    #[error("cut bytes of the log cannot be kept")]
-    Tail,
+    #[error("cut bytes cannot be kept: {0}")]
+    Tail(io::Error),
     /// No memory was left.
+    #[error("no memory")]
+    Memory,
+}
+
+/// Why a log is not opened, or takes no more rows. One that is not opened is as it was.
+#[derive(Debug, Drop, Error)]
+pub enum LogFileFault {
+    /// This is wrong with the file of this name.
+    #[error("{0}: {1}")]
+    At(String, LogCause),
+    /// No memory was left for its name.
     #[error("log: no memory")]
     Memory,
+}
+
+impl LogFileFault {
+    /// The fault of the file at this path. For want of memory it names no file and no cause.
+    pub fn at(alloc: Global, path: &str, cause: LogCause) -> LogFileFault
+        ensures { NamesFile path.now cause result }
+    {
+        match path.to_owned(alloc) {
+            Ok(name) => LogFileFault::At(name, cause),
+            Err(_) => LogFileFault::Memory,
+        }
+    }
 }
 
 /// A log that was opened.
@@ -72,35 +98,40 @@ fn sync_folder<R: Files<File = File>>(rt: &R, alloc: Global, path: &str) -> io::
     folder.sync_all()
 }
 
+// A call that reads failed, or had no memory.
+fn unread(why: io::Error) -> LogCause {
+    match why.kind() {
+        ErrorKind::OutOfMemory => LogCause::Memory,
+        _ => LogCause::Read(why),
+    }
+}
+
 // Opens a file to read it and to add to its end, and makes it if it is missing. A read of what is
 // not a regular file might never end.
-fn open_regular<R: Files<File = File>>(rt: &R, path: &str) -> Result<File, LogFileFault> {
+fn open_regular<R: Files<File = File>>(rt: &R, path: &str) -> Result<File, LogCause> {
     let mut how = OpenOptions::new();
-    let Ok(file) = how.read(true).append(true).create(true).open(rt, path) else {
-        return Err(LogFileFault::Read);
+    let file = match how.read(true).append(true).create(true).open(rt, path) {
+        Ok(file) => file,
+        Err(why) => return Err(unread(why)),
     };
     match file.metadata() {
         Ok(metadata) if metadata.is_file() => Ok(file),
-        Ok(_) => Err(LogFileFault::NotAFile),
-        Err(_) => Err(LogFileFault::Read),
+        Ok(_) => Err(LogCause::NotAFile),
+        Err(why) => Err(unread(why)),
     }
 }
 
 // Opens the file of a log, which no other program may have open.
-fn open_locked<R: Files<File = File>>(
-    rt: &R,
-    alloc: Global,
-    path: &str,
-) -> Result<File, LogFileFault> {
+fn open_locked<R: Files<File = File>>(rt: &R, alloc: Global, path: &str) -> Result<File, LogCause> {
     let file = open_regular(rt, path)?;
     match file.try_lock() {
         Ok(()) => {}
-        Err(TryLockError::WouldBlock) => return Err(LogFileFault::Locked),
-        Err(TryLockError::Error(_)) => return Err(LogFileFault::NoLock),
+        Err(TryLockError::WouldBlock) => return Err(LogCause::Locked),
+        Err(TryLockError::Error(why)) => return Err(LogCause::NoLock(why)),
     }
     match sync_folder(rt, alloc, path) {
         Ok(()) => Ok(file),
-        Err(_) => Err(LogFileFault::Read),
+        Err(why) => Err(unread(why)),
     }
 }
 
@@ -110,16 +141,16 @@ fn keep_tail<R: Files<File = File>>(
     alloc: Global,
     path: &str,
     tail: &[u8],
-) -> Result<(), LogFileFault> {
+) -> Result<(), LogCause> {
     let Ok(mut name) = path.to_owned(alloc) else {
-        return Err(LogFileFault::Memory);
+        return Err(LogCause::Memory);
     };
     if name.push_str(".cut").is_err() {
-        return Err(LogFileFault::Memory);
+        return Err(LogCause::Memory);
     }
     match add_line(rt, alloc, name.as_str(), tail) {
         Ok(()) => Ok(()),
-        Err(_) => Err(LogFileFault::Tail),
+        Err(why) => Err(LogCause::Tail(why)),
     }
 }
 
@@ -130,24 +161,15 @@ fn add_line<R: Files<File = File>>(
     path: &str,
     line: &[u8],
 ) -> io::Result<()> {
-    let Ok(mut file) = open_regular(rt, path) else {
-        return Err(io::Error::from(ErrorKind::InvalidInput));
+    let mut file = match open_regular(rt, path) {
+        Ok(file) => file,
+        Err(LogCause::Read(why)) => return Err(why),
+        Err(_) => return Err(io::Error::other("not a regular file")),
     };
     file.write_all(line)?;
     file.write_all(b"\n")?;
     file.sync_all()?;
     sync_folder(rt, alloc, path)
-}
-
-// The fault of a log at this path.
-fn refused(alloc: Global, path: &str, fault: OpenFault) -> Fault {
-    if fault == OpenFault::Write {
-        return Fault::Write(WriteFault::Write);
-    }
-    match path.to_owned(alloc) {
-        Ok(path) => Fault::OpenLog(LogFileFault::Text(path, fault)),
-        Err(_) => Fault::OpenLog(LogFileFault::Memory),
-    }
 }
 
 /// A file, and the path at which it is.
@@ -174,11 +196,14 @@ pub fn open_file<R: Files<File = File>, F: AppendFile + Drop, W: Write>(
     let FileAt { file, path } = at;
     let logged = match read_log(alloc, &file, auction, told) {
         Ok(logged) => logged,
-        Err(fault) => return Err(refused(alloc, path, fault)),
+        Err(OpenFault::Write) => return Err(Fault::Write(WriteFault::Write)),
+        Err(fault) => return Err(LogFileFault::at(alloc, path, LogCause::Text(fault)).into()),
     };
     let cut = logged.tail.len();
     if cut > 0 {
-        keep_tail(rt, alloc, path, logged.tail.as_slice())?;
+        if let Err(cause) = keep_tail(rt, alloc, path, logged.tail.as_slice()) {
+            return Err(LogFileFault::at(alloc, path, cause).into());
+        }
     }
     match cut_log(file, &logged) {
         Ok(log) => Ok(OpenedLog {
@@ -186,7 +211,7 @@ pub fn open_file<R: Files<File = File>, F: AppendFile + Drop, W: Write>(
             log,
             cut,
         }),
-        Err(_) => Err(Fault::OpenLog(LogFileFault::Write)),
+        Err(why) => Err(LogFileFault::at(alloc, path, LogCause::Write(why)).into()),
     }
 }
 
@@ -206,6 +231,8 @@ pub fn open_log<R: Files<File = File>, W: Write>(
     ensures same { IfOk result (λ opened. IsSameAuction auction opened.auction) }
     ensures has { IfOk result (λ opened. HasBook opened.auction) }
 {
-    let file = open_locked(rt, alloc, path)?;
-    open_file(rt, alloc, FileAt { file, path }, auction, told)
+    match open_locked(rt, alloc, path) {
+        Ok(file) => open_file(rt, alloc, FileAt { file, path }, auction, told),
+        Err(cause) => Err(LogFileFault::at(alloc, path, cause).into()),
+    }
 }

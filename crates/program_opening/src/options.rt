@@ -1,18 +1,19 @@
 //! The options of the program.
-ghost use Rattle.std.specs.Prelude.{◌≡◌, Bool, IfOk, IfErr, OnOk, codes, false, map, string_bytes};
+ghost use Rattle.std.specs.Prelude.{◌≡◌, ◌≤◌, Bool, IfOk, IfErr, OnOk, codes, false, map, string_bytes, true};
 ghost use Rattle.clap.specs.Words.{app_of, first_value, found_of, one_text, rule_of};
-ghost use Rattle.program_options.specs.Options.{file_rule, number_of};
-ghost use Rattle.program_options.specs.Words.{AreTaken, HaveNumbers, text_in, value_in};
+ghost use Rattle.program_options.specs.Options.{SaysNumber, file_rule, is_given, number_of};
+ghost use Rattle.program_options.specs.Words.{AreTaken, HaveNumbers, given_in, text_in, value_in};
 ghost use Rattle.program_options.specs.declared.words.UsageFault.{UsageFault};
 ghost use Rattle.program_opening.specs.Options.{AreInRange};
-ghost use Rattle.program_opening.specs.Words.{SayOptions, SaysEnd, program};
+ghost use Rattle.program_opening.specs.Words.{SayOptions, SaysEnd, is_fast, program};
 
 use auction_rows::{MOST_HOT, MOST_SHARDS, MOST_WORKERS, Opening};
 use auction_run::Policy;
 use clap::{Arg, ArgMatches, Command};
 use program_options::{
     Description, FROM_ONE, FROM_ZERO, NumberRange, UsageFault, described_file, described_flag,
-    described_number, described_program, flag_of, number_of, parse_words, text_of, text_option,
+    described_number, described_program, flag_of, is_given, number_of, parse_words, text_of,
+    text_option,
 };
 use std::alloc::{AllocError, Global};
 
@@ -113,6 +114,7 @@ fn command<'a>(alloc: Global) -> Result<Command<'a>, AllocError>
         described_number(alloc, "split", FROM_ONE, "64", SPLIT_HELP),
         described_number(alloc, "threshold", FROM_ONE, "8", THRESHOLD_HELP),
         described_number(alloc, "hot", HOT, "8", HOT_HELP),
+        described_flag(alloc, "fast", FAST_HELP),
         described_number(alloc, "users", FROM_ZERO, "100", USERS_HELP),
         described_number(alloc, "categories", FROM_ZERO, "10", CATEGORIES_HELP),
         described_number(alloc, "live", FROM_ZERO, "0", LIVE_HELP),
@@ -155,23 +157,50 @@ fn is_end(alloc: Global, matches: &ArgMatches<'_>, live: u32) -> Result<bool, Us
     Err(refused_how(alloc, how))
 }
 
+// Whether `--fast` says the number of an option: the words do not give the option.
+fn is_fast(matches: &ArgMatches<'_>, id: &str) -> bool
+    ensures { result ≡ is_fast (one_text (found_of matches.now)) (is_given (found_of matches.now))
+        id.now }
+{
+    flag_of(matches, "fast") && !is_given(matches, id)
+}
+
+// The number of an option: this one if `--fast` says it.
+fn number_or(matches: &ArgMatches<'_>, id: &str, range: NumberRange, fast: u32) -> u32
+    ensures fast { is_fast (one_text (found_of matches.now)) (is_given (found_of matches.now))
+        id.now ≡ true → result ≡ fast }
+    ensures said { is_fast (one_text (found_of matches.now)) (is_given (found_of matches.now))
+        id.now ≡ false → SaysNumber range.least range.greatest
+        (one_text (found_of matches.now) id.now) result }
+    ensures least { range.least ≤ fast → range.least ≤ result }
+    ensures greatest { fast ≤ range.greatest → result ≤ range.greatest }
+{
+    if is_fast(matches, id) {
+        return fast;
+    }
+    number_of(matches, id, range)
+}
+
 fn options_of(alloc: Global, matches: &ArgMatches<'_>) -> Result<Options, UsageFault>
     ensures given { IfOk result (λ options. HaveNumbers program (one_text (found_of matches.now)) →
-        SayOptions (one_text (found_of matches.now)) (first_value (found_of matches.now)) options) }
+        SayOptions (one_text (found_of matches.now)) (first_value (found_of matches.now))
+        (is_given (found_of matches.now)) options) }
     ensures range { IfOk result AreInRange }
     ensures memory { IfErr result (λ fault. HaveNumbers program (one_text (found_of matches.now)) →
         (ends : Bool) → SaysEnd (first_value (found_of matches.now) (codes "faults"))
         (number_of (one_text (found_of matches.now) (codes "live"))) ends →
         fault ≡ UsageFault.Memory) }
 {
-    let log = text_of(alloc, matches, "log")?;
     let live = number_of(matches, "live", FROM_ZERO);
     let ends_at_fault = is_end(alloc, matches, live)?;
+    let log = text_of(alloc, matches, "log")?;
+    let workers = number_of(matches, "workers", WORKERS);
+    let fast = Policy::for_throughput(workers);
     Ok(Options {
-        workers: number_of(matches, "workers", WORKERS),
-        shards: number_of(matches, "shards", SHARDS),
-        joined: number_of(matches, "joined", FROM_ONE),
-        split: number_of(matches, "split", FROM_ONE),
+        workers,
+        shards: number_or(matches, "shards", SHARDS, fast.shards),
+        joined: number_or(matches, "joined", FROM_ONE, fast.joined_quota),
+        split: number_or(matches, "split", FROM_ONE, fast.split_quota),
         threshold: number_of(matches, "threshold", FROM_ONE),
         hot: number_of(matches, "hot", HOT),
         users: number_of(matches, "users", FROM_ZERO),
@@ -188,10 +217,13 @@ fn options_of(alloc: Global, matches: &ArgMatches<'_>) -> Result<Options, UsageF
 /// The options that the words give, the first of which is the program's name. If they say nothing
 /// else: one worker, 4 shards, phases of 64 requests, the threshold 8, 8 hot objects, 100 users, 10
 /// categories, all requests are read first, there is no log, and only the replies are written.
-/// Words that are refused, or that ask for help, are answered in `clap`'s words.
+/// With `--fast` the shards and the phases are those of `Policy::for_throughput`, but for what the
+/// words give themselves. Words that are refused, or that ask for help, are answered in `clap`'s
+/// words.
 pub fn read_options(alloc: Global, words: &[String]) -> Result<Options, UsageFault>
     ensures given { IfOk result (SayOptions (text_in program (map string_bytes words.now))
-        (value_in program (map string_bytes words.now))) }
+        (value_in program (map string_bytes words.now))
+        (given_in program (map string_bytes words.now))) }
     ensures range { IfOk result AreInRange }
     ensures taken { OnOk result (AreTaken program (map string_bytes words.now)) }
     ensures memory { IfErr result (λ fault. AreTaken program (map string_bytes words.now) →
@@ -220,12 +252,15 @@ const SHARDS_HELP: &str = "Parts of the data, each held by one worker at a time,
 
 const JOINED_HELP: &str = "Requests of each worker in a joined phase, 1 to 1000000";
 
-const SPLIT_HELP: &str = "Requests of each worker in a split phase, 1 to 1000000; 4096 for speed";
+const SPLIT_HELP: &str = "Requests of each worker in a split phase, 1 to 1000000";
 
 const THRESHOLD_HELP: &str =
     "New items, bids and comments on an object in a joined phase that make it hot, 1 to 1000000";
 
 const HOT_HELP: &str = "Objects that may be hot, and are split, at a time, 0 to 64";
+
+const FAST_HELP: &str =
+    "For speed, with W workers: --shards 4*W --joined 64 --split 4096, each unless it is given";
 
 const USERS_HELP: &str = "Users of the auction, 0 to 1000000";
 
@@ -271,9 +306,10 @@ Status: 0 all written, 1 options or help, 2 input, 3 run, 4 output, 5 log.
 A refused request is no fault: its reply says why.
 
 The defaults are for small inputs: phases are short, and --history shows how they alternate.
-Phases of at most 256 requests run on one thread. For speed on busy items, with W workers, use
---shards 4*W --split 4096; views of busy items then wait longer for the next joined phase.
+Phases of at most 128 requests a worker, or with half of them on one shard, run on one thread.
+For speed use --fast; views of busy items then wait longer for the next joined phase.
+Options given beside --fast win: --fast --split 1024.
 
 Examples:
   rubis_auction < first.csv
-  rubis_auction --workers 4 --shards 16 --split 4096 < load.csv > replies.txt";
+  rubis_auction --workers 4 --fast < load.csv > replies.txt";

@@ -1,14 +1,15 @@
 -- What a parse of a program's words found.
-use Rattle.std.proofs.Common.{◌≡◌, ◌∙◌, ◌⊎◌, ℕ, Bool, true, false, List, [], ◌∷◌, map, ap, sym, subst, inl, inr}
-use Rattle.std.specs.List.{filter}
+use Rattle.std.proofs.Common.{◌≡◌, ◌∙◌, ◌⊎◌, ℕ, Bool, true, false, List, [], ◌∷◌, Option, Some, None, map, refl, ap, sym, subst, inl, inr}
+use Rattle.std.specs.List.{filter, find}
+use Rattle.std.specs.Prelude.{option_and_then, option_map}
 use Rattle.std.specs.Str.{bytes_eq}
 use Rattle.clap.specs.Built.{BuildsOrBreaks, is_broken}
-use Rattle.clap.specs.Facts.{IsParsed, args_of, groups_of}
+use Rattle.clap.specs.Facts.{Entry, IsParsed, args_of, groups_of}
 use Rattle.clap.specs.Faults.{fault_of, is_simple_and_free}
 use Rattle.clap.specs.Kinds.{HasKind, IsAmong}
-use Rattle.clap.specs.Matches.{first_value, one_text}
+use Rattle.clap.specs.Matches.{first_value, matched_of, one_text}
 use Rattle.clap.specs.Simple.{App, HasMatchesOf, app_of, built, is_buildable, is_simple}
-use Rattle.clap.specs.Walk.{Rule, Text, first_of, one_of, rule_of}
+use Rattle.clap.specs.Walk.{Row, Rule, Text, first_of, one_of, row_of, rows_of, rule_of}
 use Rattle.clap.specs.Words.{found_of, kind_of}
 use Rattle.clap.specs.declared.builder.command.Command.{Command}
 use Rattle.clap.specs.declared.builder.command.Command.TheViews.{out-Command}
@@ -16,11 +17,22 @@ use Rattle.clap.specs.declared.error.Error.{Error}
 use Rattle.clap.specs.declared.error.kind.ErrorKind.TheVariants.{OutOfMemory}
 use Rattle.clap.specs.declared.parser.matches.ArgMatches.{ArgMatches}
 use Rattle.clap.specs.declared.parser.matches.Found.{Found}
+use Rattle.clap.specs.declared.parser.matches.MatchedArg.{MatchedArg}
 use Rattle.clap.proofs.SimpleLemmas.{is_false, is_nil}
-use Rattle.clap.proofs.WalkLemmas.{both, first_value-rows, one_text-rows}
-use Rattle.program_options.specs.Options.{IsNumberIn}
-use Rattle.program_options.specs.Words.{AreTaken, HaveNumbers, IsOneNumber, text_in, value_in}
+use Rattle.clap.proofs.WalkLemmas.{both, find-map, first_value-rows, one_text-rows}
+use Rattle.program_options.specs.Options.{IsNumberIn, is_from_words, is_given}
+use Rattle.program_options.specs.Words.{AreTaken, HaveNumbers, IsOneNumber, given_in, source_of, text_in, value_in}
 use Rattle.program_options.proofs.Parsed.{number_found}
+
+-- what is found for an option has its text from where its row has it
+source-rows : (f : Found) (id : Text) → option_and_then (λ (a : MatchedArg). a.source) (matched_of f id) ≡ source_of id (rows_of f)
+source-rows f id =
+    go (find (λ (e : Entry). bytes_eq e.0.now id) f.entries.items)
+    ∙ ap (option_and_then (λ (r : Row). r.source)) (find-map (λ (r : Row). bytes_eq r.id id) row_of f.entries.items)
+  where
+    go : (o : Option Entry) → option_and_then (λ (a : MatchedArg). a.source) (option_map (λ e. e.1) o) ≡ option_and_then (λ (r : Row). r.source) (option_map row_of o)
+    go None = refl
+    go (Some e) = refl
 
 module _ (program : App) (free : is_simple_and_free program ≡ true) where
   simple : is_simple program ≡ true
@@ -45,6 +57,11 @@ module _ (program : App) (free : is_simple_and_free program ≡ true) where
       → first_value (found_of m) id ≡ value_in program words id
   values_found words given m matches same id =
       first_value-rows (found_of m) id ∙ ap (first_of id) (matches simple).0 ∙ ap (λ ws. value_in program ws id) same
+
+  pub given_found : (words given : List Text) (m : ArgMatches) → HasMatchesOf program given m → given ≡ words → (id : Text)
+      → is_given (found_of m) id ≡ given_in program words id
+  given_found words given m matches same id =
+      ap is_from_words (source-rows (found_of m) id ∙ ap (source_of id) (matches simple).0) ∙ ap (λ ws. given_in program ws id) same
 
   -- words that are taken fail for want of memory alone
   pub only_memory : (words given : List Text) (error : Error) → HasKind (fault_of program given) error → given ≡ words → AreTaken program words

@@ -1,9 +1,13 @@
 -- Options of numbers and texts, and flags, as rules of the parser of words (`clap`), and what their texts say.
-use Rattle.std.specs.Prelude.{◌≡◌, ◌≤◌, ℕ, Bool, true, false, List, [], ◌∷◌, Option, Some, None, codes, pos, ⊤}
+use Rattle.std.specs.Prelude.{◌≡◌, ◌≤◌, ℕ, Bool, true, false, List, [], ◌∷◌, Option, Some, None, codes, option_and_then, pos, ⊤}
 use Rattle.std.specs.Str.{bytes_eq}
 use Rattle.std.specs.Str.Parse.{IsNumeral, digits_value, without_leading_plus}
 use Rattle.clap.specs.declared.builder.action.ArgAction.TheVariants.{Set, SetTrue}
 use Rattle.clap.specs.declared.builder.value_parser.ValueParser.TheVariants.{Signed}
+use Rattle.clap.specs.declared.parser.matches.Found.{Found}
+use Rattle.clap.specs.declared.parser.matches.ValueSource.{ValueSource}
+use Rattle.clap.specs.declared.parser.matches.ValueSource.TheVariants.{DefaultValue, CommandLine}
+use Rattle.clap.specs.Matches.{matched_of}
 use Rattle.clap.specs.Simple.{App, new_app, new_rule, on_top}
 use Rattle.clap.specs.Walk.{Rule}
 
@@ -59,3 +63,13 @@ SaysNumber least greatest (Some text) number =
 abbrev pub is_set : Option (List ℕ) → Bool
 is_set None = false
 is_set (Some text) = bytes_eq text (codes "true")
+
+-- a text is from the words, and not the usual one
+abbrev pub is_from_words : Option ValueSource → Bool
+is_from_words None = false
+is_from_words (Some DefaultValue) = false
+is_from_words (Some CommandLine) = true
+
+-- whether the words that were parsed give an option
+abbrev pub is_given : Found → List ℕ → Bool
+is_given found id = is_from_words (option_and_then (λ matched. matched.source) (matched_of found id))

@@ -1,14 +1,15 @@
 -- What a program's words say of its options, by the parser of words (`clap`).
-use Rattle.std.specs.Prelude.{◌≡◌, ◌<◌, ◌≤◌, ℕ, true, List, [], ◌∷◌, length, Option, Some, None, pos, string_bytes}
+use Rattle.std.specs.Prelude.{◌≡◌, ◌<◌, ◌≤◌, ℕ, Bool, true, List, [], ◌∷◌, length, Option, Some, None, find, option_and_then, pos, string_bytes}
 use Rattle.std.specs.List.{filter}
 use Rattle.std.specs.Str.{bytes_eq}
 use Rattle.clap.specs.declared.builder.action.ArgAction.TheVariants.{Set}
 use Rattle.clap.specs.declared.builder.value_parser.ValueParser.TheVariants.{Signed}
+use Rattle.clap.specs.declared.parser.matches.ValueSource.{ValueSource}
 use Rattle.clap.specs.Facts.{unwrap_or_range}
 use Rattle.clap.specs.Faults.{fault_of}
 use Rattle.clap.specs.Simple.{App, built, matches_of}
-use Rattle.clap.specs.Walk.{Rule, first_of, one_of}
-use Rattle.program_options.specs.Options.{IsNumberIn}
+use Rattle.clap.specs.Walk.{Rule, Row, first_of, one_of}
+use Rattle.program_options.specs.Options.{IsNumberIn, is_from_words}
 use Rattle.program_options.specs.declared.words.UsageFault.{UsageFault}
 use Rattle.program_options.specs.declared.words.UsageFault.TheVariants.{Text, Memory}
 
@@ -23,6 +24,14 @@ text_in program words id = one_of id (matches_of program words)
 -- the same, as it stands in the words
 abbrev pub value_in : App → List (List ℕ) → List ℕ → Option (List ℕ)
 value_in program words id = first_of id (matches_of program words)
+
+-- where the row of an option has its text from
+abbrev pub source_of : List ℕ → List Row → Option ValueSource
+source_of id rows = option_and_then (λ row. row.source) (find (λ row. bytes_eq row.id id) rows)
+
+-- whether the words give an option
+abbrev pub given_in : App → List (List ℕ) → List ℕ → Bool
+given_in program words id = is_from_words (source_of id (matches_of program words))
 
 -- The option takes one number of a range, and has a usual one.
 pub record IsNumberRule (id : List ℕ) (least greatest : ℕ) (rule : Rule) : Type 0 where

@@ -7,7 +7,7 @@ mod words;
 
 pub use options::{
     Description, FROM_ONE, FROM_ZERO, MOST_ASKED, NumberRange, VERSION, described_file,
-    described_flag, described_number, described_program, flag, flag_of, number_of, number_option,
-    text_of, text_option,
+    described_flag, described_number, described_program, flag, flag_of, is_given, number_of,
+    number_option, text_of, text_option,
 };
 pub use words::{UsageFault, parse_words, program_words, words_fault};

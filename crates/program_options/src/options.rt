@@ -3,11 +3,12 @@
 ghost use Rattle.std.specs.Prelude.{◌≡◌, ◌≤◌, IfErr, IfOk, false, option_map, pos, string_bytes};
 ghost use Rattle.clap.specs.Words.{first_value, found_of, one_text, rule_of, app_of};
 ghost use Rattle.clap.specs.declared.builder.value_parser.ValueParser.TheVariants as vp;
-ghost use Rattle.program_options.specs.Options.{SaysNumber, flag_rule, is_set, number_rule, text_rule, file_rule, named_rule, versioned_program};
+ghost use Rattle.program_options.specs.Options.{SaysNumber, flag_rule, is_given, is_set, number_rule, text_rule, file_rule, named_rule, versioned_program};
 ghost use Rattle.program_options.specs.declared.words.UsageFault.{UsageFault};
 
 use crate::words::UsageFault;
 use clap::builder::ValueParser;
+use clap::parser::ValueSource;
 use clap::{Arg, ArgAction, ArgMatches, Command};
 use std::alloc::Global;
 
@@ -109,6 +110,13 @@ pub fn flag_of(matches: &ArgMatches<'_>, id: &str) -> bool
     ensures { result ≡ is_set (one_text (found_of matches.now) id.now) }
 {
     matches.get_one(id).unwrap_or(false)
+}
+
+/// Whether the words give an option: if not, its text is the usual one.
+pub fn is_given(matches: &ArgMatches<'_>, id: &str) -> bool
+    ensures { result ≡ is_given (found_of matches.now) id.now }
+{
+    matches.value_source(id) == Some(ValueSource::CommandLine)
 }
 
 /// What `--version` prints after a program's name.

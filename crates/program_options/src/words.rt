@@ -6,7 +6,8 @@ ghost use Rattle.clap.specs.Words.{kind_of, app_of, first_value, found_of, one_t
 ghost use Rattle.clap.specs.declared.error.kind.ErrorKind.{ErrorKind};
 ghost use Rattle.clap.specs.Faults.{is_simple_and_free};
 ghost use Rattle.program_options.specs.declared.words.UsageFault.{UsageFault};
-ghost use Rattle.program_options.specs.Words.{AreTaken, HaveNumbers, text_in, value_in};
+ghost use Rattle.program_options.specs.Options.{is_given};
+ghost use Rattle.program_options.specs.Words.{AreTaken, HaveNumbers, given_in, text_in, value_in};
 
 use clap::error::ErrorKind;
 use clap::{ArgMatches, Command};
@@ -57,6 +58,8 @@ pub fn parse_words<'a>(
         → IfOk result (λ matches. (id : List ℕ) → one_text (found_of matches) id ≡ text_in (app_of command.entry) (map string_bytes words.now) id) }
     ensures values { is_simple_and_free (app_of command.entry) ≡ true
         → IfOk result (λ matches. (id : List ℕ) → first_value (found_of matches) id ≡ value_in (app_of command.entry) (map string_bytes words.now) id) }
+    ensures given { is_simple_and_free (app_of command.entry) ≡ true
+        → IfOk result (λ matches. (id : List ℕ) → is_given (found_of matches) id ≡ given_in (app_of command.entry) (map string_bytes words.now) id) }
     ensures numbers { is_simple_and_free (app_of command.entry) ≡ true
         → IfOk result (λ matches. HaveNumbers (app_of command.entry) (one_text (found_of matches))) }
     ensures taken { is_simple_and_free (app_of command.entry) ≡ true

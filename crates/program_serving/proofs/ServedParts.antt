@@ -1,20 +1,17 @@
--- A part that is served, or is not.
-use Rattle.std.proofs.Common.{◌≡◌, ◌≤◌, ◌++◌, ◌∙◌, ℕ, Bool, true, false, List, [], Option, None, Some, IfErr, IfNone, IfSome, Result, ap, arith, inl, inr, length, map, refl, sym, subst}
+-- A part that begins, or does not.
+use Rattle.std.proofs.Common.{◌≡◌, ◌≤◌, ◌++◌, ◌∙◌, ℕ, Bool, true, false, List, [], Option, None, Some, IfNone, IfSome, ap, arith, inl, inr, length, map, refl, sym, subst}
 use Rattle.std.proofs.lemmas.List.{length-map}
-use Rattle.std.specs.Result.{IsErr, IsErrAnd}
 use Rattle.auction_rows.specs.declared.limits.TheConstants.{MOST_WORKERS}
 use Rattle.auction_rows.specs.declared.requests.Request.{Request}
 use Rattle.auction_rows.specs.declared.values.Opening.{Opening}
 use Rattle.auction_rows.specs.Book.{Book}
 use Rattle.auction_run.specs.Beginning.{AreShortFor}
 use Rattle.auction_run.specs.GoingOn.{AreShortOn, HasScripts}
-use Rattle.auction_run.specs.RunFault.TheVariants.{NumberFull}
 use Rattle.auction_text.specs.Moved.{BeforeView, CannotCount, Gone, gone_by}
 use Rattle.auction_text.specs.Scripts.{Asked}
 use Rattle.item_shards.specs.OpeningRows.{rows_by}
 use Rattle.item_shards.specs.declared.openings.Opened.{Opened}
 use Rattle.log_opening.specs.Parts.{HasAdded, rows_from}
-use Rattle.part_log.specs.declared.log.Teller.{Teller}
 use Rattle.phase_floor.specs.Adding.{HasBook, IsSameAuction, IsStartOf}
 use Rattle.phase_floor.specs.NextRun.{for_next_run}
 use Rattle.phase_floor.specs.States.{JoinedState, StandsFor}
@@ -23,12 +20,10 @@ use Rattle.program_opening.specs.Options.{FitsOptions, opening_asked}
 use Rattle.program_opening.specs.declared.faults.Fault.{Fault}
 use Rattle.program_opening.specs.declared.faults.Fault.TheVariants.{Usage, Read, Resume, Row, Make, Run, Limit, Write, Report, OpenLog, Log}
 use Rattle.program_opening.specs.declared.options.Options.{Options}
-use Rattle.program_serving.specs.PartRuns.{AreDoneOf, BeginsAt, IsPastOn, done_of}
-use Rattle.program_serving.specs.ServeFaults.{AreNotRunOn, FailsPart, IsFirstBadRow, IsFirstNotAdded, IsPartRefused, IsPastCounts}
+use Rattle.program_serving.specs.PartRuns.{AreDoneOf, BeginsAt, IsBegun, IsPastOn, done_of}
+use Rattle.program_serving.specs.ServeFaults.{AreNotRunOn, IsFirstBadRow, IsFirstNotAdded, IsPartRefused, IsPastCounts}
 use Rattle.program_serving.specs.Serving.{AddsRows, ends_at_fault}
-use Rattle.program_opening.proofs.ErrorLemmas.{error_is}
 use Rattle.program_serving.proofs.StoppedRuns.{added_fits, next_fits, next_start, short_behind, stored}
-use Rattle.program_serving.proofs.ToldLemmas.{nothing_told}
 
 -- before another run an auction has its book yet
 pub next_has : (state next : JoinedState) → next ≡ for_next_run state → ((b : Book) → StandsFor state b → StandsFor next b) → HasBook state → (book : Book) × IsStartOf next book
@@ -92,11 +87,6 @@ module _ (options : Options) (state next : JoinedState) (book : Book) (scripts :
             },
           )
 
-      -- a count that is past 64 bits with what is done is so with what is done of what is asked for
-      pub past_with_done : (gone : Gone) (before : ℕ) → IsPastCounts options book gone before (record { rows = asked; scripts = run })
-          → IsPastCounts options book gone before (done_of past (record { rows = asked; scripts = all }))
-      past_with_done gone before counts = subst (λ (a : Asked). IsPastCounts options book gone before a) done_is counts
-
       -- its scripts begin behind the rows
       pub run_begins : BeginsAt options mid run (book ++ added)
       run_begins = record {
@@ -104,41 +94,14 @@ module _ (options : Options) (state next : JoinedState) (book : Book) (scripts :
         workers = ap length (ap (λ (a : Asked). a.scripts) done_is) ∙ same_count past (record { rows = asked; scripts = all }) ∙ counted ∙ begins.workers;
       }
 
-      -- the requests of what is done cannot be counted behind those that went before
-      pub requests_past : (before : BeforeView) (read : ℕ) → length mid.counters ≤ MOST_WORKERS → (counts : List (List Request)) → counts ≡ run → CannotCount before counts
-          → IsPastCounts options book (gone_by before) read (record { rows = asked; scripts = run })
-      requests_past before read few counts are cannot = at (subst (CannotCount before) are cannot)
-        where
-          at : CannotCount before run → IsPastCounts options book (gone_by before) read (record { rows = asked; scripts = run })
-          at (inl many) = absurd (omega (arith, many, few, run_begins.workers, run_begins.start.fits.workers))
-          at (inr past) = inr (inl past)
-
-      -- why they are not run
-      pub run_refused : (gone : Gone) (before : ℕ) (fault : Fault) → (ends_at_fault options ≡ false → mid.limit ≡ MOST_COMMITS → HasScripts mid all → AreShortOn mid run) → AreNotRunOn options fault (book ++ added) run
-          → IsPartRefused options book gone before (done_of past (record { rows = asked; scripts = all })) fault
-      run_refused gone before fault short why = subst (λ (a : Asked). IsPartRefused options book gone before a fault) done_is (refused fault why)
-        where
-          behind_rows : (fault : Fault) → AreNotRunOn options fault (book ++ added) run → AreNotRunOn options fault (rows_from (opening_asked options) book asked) run
-          behind_rows fault why = subst (λ (b : Book). AreNotRunOn options fault b run) (sym part_adds.adds) why
-
-          is_end : (ends : Bool) → ends_at_fault options ≡ ends → ¬ AreShortFor MOST_COMMITS (book ++ added) run → ends_at_fault options ≡ true
-          is_end true is not_short = is
-          is_end false is not_short =
-              absurd (not_short (short_behind mid (book ++ added) run MOST_COMMITS begins_behind.start.fits.limit (run_begins.workers ∙ sym begins_behind.start.fits.workers) begins_behind.start.of.stands
-              (short is begins_behind.start.fits.limit (counted ∙ begins.workers ∙ sym begins_behind.start.fits.workers))))
-
-          refused : (fault : Fault) → AreNotRunOn options fault (book ++ added) run → IsPartRefused options book gone before (record { rows = asked; scripts = run }) fault
-          refused (Run fault) why = inl (behind_rows (Run fault) why)
-          refused (Limit most) why = (is_end (ends_at_fault options) refl why.1.1, behind_rows (Limit most) why)
-          refused (Usage fault) why = absurd why
-          refused (Read fault) why = absurd why
-          refused (Resume fault) why = absurd why
-          refused (Row number fault) why = absurd why
-          refused (Make fault) why = absurd why
-          refused (Write fault) why = absurd why
-          refused Report why = absurd why
-          refused (OpenLog fault) why = absurd why
-          refused (Log fault) why = absurd why
+      pub begun : (ends_at_fault options ≡ false → mid.limit ≡ MOST_COMMITS → HasScripts mid all → AreShortOn mid run) → IsBegun options book (record { rows = asked; scripts = all }) mid added run past
+      begun short = record {
+        adds = part_adds;
+        begins = run_begins;
+        done = done_is;
+        are = are_done;
+        short = λ is. short is begins_behind.start.fits.limit (counted ∙ begins.workers ∙ sym begins_behind.start.fits.workers);
+      }
 
   taken : (gone : Gone) (before : ℕ) (asked : Asked) (fault : Fault) → IsFirstNotAdded next book asked.rows before fault → IsPartRefused options book gone before asked fault
   taken gone before asked (Row number fault) why =
@@ -160,18 +123,42 @@ module _ (options : Options) (state next : JoinedState) (book : Book) (scripts :
   pub not_taken : (gone : Gone) (before : ℕ) (asked : Asked) (given : List Opened) → given ≡ asked.rows → (fault : Fault) → IsFirstNotAdded next book given before fault → IsPartRefused options book gone before asked fault
   not_taken gone before asked given are fault why = taken gone before asked fault (subst (λ (rows : List Opened). IsFirstNotAdded next book rows before fault) are why)
 
--- a part is refused, and nothing of it is told
-pub refused_untold : {L W T : Type 0} (accepted : L → Option (List ℕ)) (contents : W → Option (List ℕ)) (teller : Teller L W) (options : Options) (auction : JoinedState) (scripts : List (List Request)) (gone : Gone)
-    (before : ℕ) (asked : Asked) (past : Option ℕ) (result : Result T Fault) (fault : Fault) → IsErr result × IsErrAnd result (λ f. f ≡ fault)
-    → ((book : Book) → BeginsAt options auction scripts book → AreDoneOf options book asked past × IsPartRefused options book gone before (done_of past asked) fault)
-    → IfErr result (λ f. (book : Book) → BeginsAt options auction scripts book → FailsPart accepted contents teller teller options book gone before asked f)
-refused_untold accepted contents teller options auction scripts gone before asked past result fault is why =
-    error_is result fault (λ f. (book : Book) → BeginsAt options auction scripts book → FailsPart accepted contents teller teller options book gone before asked f) is
-    (λ book begins. record { past = past; are = (why book begins).0; fails = inl (nothing_told accepted contents teller, (why book begins).1) })
+module _ (options : Options) (book : Book) (asked : Asked) (auction : JoinedState) (added : Book) (run : List (List Request)) (past : Option ℕ) (begun : IsBegun options book asked auction added run past) where
+  -- a count that is past 64 bits with what is done is so with what is done of what is asked for
+  pub past_with_done : (gone : Gone) (before : ℕ) → IsPastCounts options book gone before (record { rows = asked.rows; scripts = run }) → IsPastCounts options book gone before (done_of past asked)
+  past_with_done gone before counts = subst (λ (a : Asked). IsPastCounts options book gone before a) begun.done counts
 
--- a count is past 64 bits, and nothing of the part is told
-pub past_untold : {L W : Type 0} (accepted : L → Option (List ℕ)) (contents : W → Option (List ℕ)) (teller : Teller L W) (options : Options) (auction : JoinedState) (scripts : List (List Request)) (gone : Gone)
-    (before : ℕ) (asked : Asked) (past : Option ℕ) → ((book : Book) → BeginsAt options auction scripts book → AreDoneOf options book asked past × IsPastCounts options book gone before (done_of past asked))
-    → (book : Book) → BeginsAt options auction scripts book → FailsPart accepted contents teller teller options book gone before asked (Run NumberFull)
-past_untold accepted contents teller options auction scripts gone before asked past why =
-    λ book begins. record { past = past; are = (why book begins).0; fails = inl (nothing_told accepted contents teller, inr (refl, (why book begins).1)) }
+  -- the requests of what is done cannot be counted behind those that went before
+  pub requests_past : (before : BeforeView) (read : ℕ) → length auction.counters ≤ MOST_WORKERS → (counts : List (List Request)) → counts ≡ run → CannotCount before counts
+      → IsPastCounts options book (gone_by before) read (record { rows = asked.rows; scripts = run })
+  requests_past before read few counts are cannot = at (subst (CannotCount before) are cannot)
+    where
+      at : CannotCount before run → IsPastCounts options book (gone_by before) read (record { rows = asked.rows; scripts = run })
+      at (inl many) = absurd (omega (arith, many, few, begun.begins.workers, begun.begins.start.fits.workers))
+      at (inr past) = inr (inl past)
+
+  -- why they are not run
+  pub run_refused : (gone : Gone) (before : ℕ) (fault : Fault) → AreNotRunOn options fault (book ++ added) run → IsPartRefused options book gone before (done_of past asked) fault
+  run_refused gone before fault why = subst (λ (a : Asked). IsPartRefused options book gone before a fault) begun.done (refused fault why)
+    where
+      behind_rows : (fault : Fault) → AreNotRunOn options fault (book ++ added) run → AreNotRunOn options fault (rows_from (opening_asked options) book asked.rows) run
+      behind_rows fault why = subst (λ (b : Book). AreNotRunOn options fault b run) (sym begun.adds.adds) why
+
+      is_end : (ends : Bool) → ends_at_fault options ≡ ends → ¬ AreShortFor MOST_COMMITS (book ++ added) run → ends_at_fault options ≡ true
+      is_end true is not_short = is
+      is_end false is not_short =
+          let at = begun.begins in
+          absurd (not_short (short_behind auction (book ++ added) run MOST_COMMITS at.start.fits.limit (at.workers ∙ sym at.start.fits.workers) at.start.of.stands (begun.short is)))
+
+      refused : (fault : Fault) → AreNotRunOn options fault (book ++ added) run → IsPartRefused options book gone before (record { rows = asked.rows; scripts = run }) fault
+      refused (Run fault) why = inl (behind_rows (Run fault) why)
+      refused (Limit most) why = (is_end (ends_at_fault options) refl why.1.1, behind_rows (Limit most) why)
+      refused (Usage fault) why = absurd why
+      refused (Read fault) why = absurd why
+      refused (Resume fault) why = absurd why
+      refused (Row number fault) why = absurd why
+      refused (Make fault) why = absurd why
+      refused (Write fault) why = absurd why
+      refused Report why = absurd why
+      refused (OpenLog fault) why = absurd why
+      refused (Log fault) why = absurd why

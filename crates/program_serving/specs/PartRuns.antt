@@ -6,7 +6,7 @@ use Rattle.auction_rows.specs.declared.requests.Request.{Request}
 use Rattle.auction_rows.specs.declared.rows.Entry.{Entry}
 use Rattle.auction_rows.specs.Book.{Book}
 use Rattle.auction_rows.specs.History.{book_after}
-use Rattle.auction_run.specs.GoingOn.{IsShortOn}
+use Rattle.auction_run.specs.GoingOn.{AreShortOn, IsShortOn}
 use Rattle.auction_run.specs.Phases.{hot_sets}
 use Rattle.auction_run.specs.Outcome.{Outcome}
 use Rattle.auction_text.specs.LiveParts.{HasToSay, live_workers, rows_said}
@@ -83,6 +83,17 @@ abbrev pub AreDoneOf : Options → Book → Asked → Option ℕ → Type 0
 AreDoneOf options book asked None = Unit {0}
 AreDoneOf options book asked (Some worker) = (ends_at_fault options ≡ false)
     × IsPastLimit (rows_from (opening_asked options) book asked.rows) asked.scripts worker
+
+-- What is asked for begins from a book: these rows are added to it, and behind them these scripts
+-- begin, which are what is done of it.
+pub record IsBegun (options : Options) (book : Book) (asked : Asked) (auction : JoinedState)
+    (added : Book) (scripts : List (List Request)) (past : Option ℕ) : Type 0 where
+  pub adds : AddsRows (opening_asked options) book asked.rows added
+  pub begins : BeginsAt options auction scripts (book ++ added)
+  pub done : record { rows = asked.rows; scripts = scripts } ≡ done_of past asked
+  pub are : AreDoneOf options book asked past
+  -- unless a fault ends the input, each script has room
+  pub short : ends_at_fault options ≡ false → AreShortOn auction scripts
 
 -- what went before what follows a part: so many phases, and the requests of scripts
 abbrev pub gone_with : Gone → ℕ → List (List Request) → Gone

@@ -115,6 +115,12 @@ IsPartRefused options book gone before asked (Limit most) = (ends_at_fault optio
     asked.scripts
 IsPartRefused options book gone before asked _ = ⊥
 
+-- of what is asked for from a book, what is done is refused
+abbrev pub IsNotBegun : Options → Book → Gone → ℕ → Asked → Fault → Type 0
+IsNotBegun options book gone before asked fault = (past : Option ℕ)
+    × (AreDoneOf options book asked past
+    × IsPartRefused options book gone before (done_of past asked) fault)
+
 -- why a part is not served from a book: it is not done, or it is and is not told
 abbrev pub IsPartFault : {L W : Type 0} → (L → Option (List ℕ)) → (W → Option (List ℕ)) →
     Teller L W → Teller L W → Options → Book → Gone → ℕ → Asked → Fault → Type 0

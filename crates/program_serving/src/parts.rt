@@ -1,17 +1,17 @@
 //! The run of one part, and what is logged and written of it.
-ghost use Rattle.std.specs.Prelude.{◌<◌, ◌+◌, ◌^◌, IfErr, IfOk, ◌≡◌, IfSome, OnOk, length};
+ghost use Rattle.std.specs.Prelude.{ℕ, ◌<◌, ◌+◌, ◌^◌, IfErr, IfOk, ◌≡◌, IfSome, OnOk, length};
 ghost use Rattle.auction_rows.specs.Book.{Book};
 ghost use Rattle.auction_rows.specs.History.{book_after};
 ghost use Rattle.auction_text.specs.Moved.{gone_by};
 ghost use Rattle.auction_text.specs.RowLines.{rows_text};
-ghost use Rattle.auction_text.specs.Scripts.{asked_of};
+ghost use Rattle.auction_text.specs.Scripts.{Asked, asked_of};
 ghost use Rattle.auction_text.specs.Writing.{WritesText};
 ghost use Rattle.log_opening.specs.Parts.{HasAdded};
 ghost use Rattle.phase_floor.specs.Adding.{HasBook, IsSameAuction, IsStartOf};
 ghost use Rattle.phase_floor.specs.States.{IsBookOf};
 ghost use Rattle.program_opening.specs.Options.{FitsOptions, opening_asked};
-ghost use Rattle.program_serving.specs.PartRuns.{AnswersScripts, AreDoneOf, BeginsAt, ServesPart, done_of};
-ghost use Rattle.program_serving.specs.ServeFaults.{AreNotRunOn, AreToldAt, FailsPart, IsFirstNotAdded, told_fault};
+ghost use Rattle.program_serving.specs.PartRuns.{AnswersScripts, AreDoneOf, BeginsAt, IsBegun, ServesPart, done_of, gone_with};
+ghost use Rattle.program_serving.specs.ServeFaults.{AreNotRunOn, AreToldAt, FailsPart, IsFirstNotAdded, IsNotBegun, told_fault};
 ghost use Rattle.program_serving.specs.Serving.{AreTold, OfPart, part_text};
 
 use crate::limits::take_past;
@@ -159,6 +159,118 @@ fn run_part<R: Threads + Wait + Sync>(
     }
 }
 
+// A part whose rows are added, and what is done of it behind them.
+#[derive(Drop)]
+struct BegunPart {
+    auction: Joined,
+    // How many rows of the input are added with it.
+    rows: u64,
+    before: Before,
+    // What goes before the next part, but for the phases of this one.
+    next: Before,
+    added: Vec<Row>,
+    scripts: Vec<Script>,
+    past: Option<u32>,
+}
+
+// Adds the rows of a part, and takes the requests out of its scripts if one is past its limit and
+// this does not end the input.
+fn begin_part(alloc: Global, part: NextPart, options: &Options) -> Result<BegunPart, Fault>
+    requires { HasBook part.served.auction }
+    ensures begins { IfOk result (λ begun. (book : Book) →
+        BeginsAt options.now part.served.auction part.input.scripts.items book →
+        IsBegun options.now book (asked_of part.input) begun.auction begun.added.items
+        begun.scripts.items begun.past) }
+    ensures before { IfOk result (λ begun. begun.before ≡ part.served.before) }
+    ensures next { IfOk result (λ begun.
+        gone_by begun.next ≡ gone_with (gone_by part.served.before) 0 begun.scripts.items) }
+    ensures rows { IfOk result (λ begun.
+        begun.rows ≡ part.served.rows + length part.input.rows.items) }
+    ensures has { IfOk result (λ begun. HasBook begun.auction) }
+    ensures cause { IfErr result (λ fault. (book : Book) →
+        BeginsAt options.now part.served.auction part.input.scripts.items book →
+        IsNotBegun options.now book (gone_by part.served.before) part.served.rows
+        (asked_of part.input) fault) }
+{
+    let NextPart { served, input } = part;
+    let Served {
+        auction,
+        rows,
+        before,
+    } = served;
+    let Some(rows_read) = rows.checked_add(input.rows.len() as u64) else {
+        return Err(Fault::Run(RunFault::NumberFull));
+    };
+    // A worker's limit counts its rows, and not the views and refusals of the parts before.
+    let mut auction = auction.for_next_run();
+    let added = add_part(alloc, &mut auction, input.rows.as_slice(), rows)?;
+    let mut scripts = input.scripts;
+    let past = take_past(alloc, &auction, &mut scripts, options);
+    let Some(next) = before.with_scripts(scripts.as_slice()) else {
+        // There are no more scripts than workers, so a count of requests is past 64 bits.
+        let _ = auction.workers();
+        return Err(Fault::Run(RunFault::NumberFull));
+    };
+    Ok(BegunPart {
+        auction,
+        rows: rows_read,
+        before,
+        next,
+        added,
+        scripts,
+        past,
+    })
+}
+
+// Performs the scripts of a part, logs all rows that it adds, and then writes what is asked for.
+fn perform_part<R: Threads + Wait + Sync, L: Log, W: Write, E>(
+    rt: &R,
+    alloc: Global,
+    teller: &mut LiveTeller<L, W, E>,
+    begun: BegunPart,
+    options: &Options,
+) -> Result<ServedPart, Fault>
+    requires next { gone_by begun.next ≡ gone_with (gone_by begun.before) 0 begun.scripts.items }
+    ensures serves { IfOk result (λ done. (book : Book) (asked : Asked) →
+        IsBegun options.now book asked begun.auction begun.added.items begun.scripts.items
+        begun.past → ServesPart options.now book (gone_by begun.before)
+        (done_of done.past asked) done.served
+        (AreTold L.accepted W.contents teller.old.teller teller.new.teller)) }
+    ensures past { IfOk result (λ done. done.past ≡ begun.past) }
+    ensures rows { IfOk result (λ done. done.served.rows ≡ begun.rows) }
+    ensures has { IfOk result (λ done. HasBook begun.auction → HasBook done.served.auction) }
+    ensures cause { IfErr result (λ fault. (book : Book) (asked : Asked) (before : ℕ) →
+        IsBegun options.now book asked begun.auction begun.added.items begun.scripts.items
+        begun.past → FailsPart L.accepted W.contents teller.old.teller teller.new.teller
+        options.now book (gone_by begun.before) before asked fault) }
+{
+    let BegunPart {
+        auction,
+        rows,
+        before,
+        next,
+        added,
+        scripts,
+        past,
+    } = begun;
+    let outcome = run_part(rt, alloc, auction, scripts, options)?;
+    let Some(next) = next.with_phases(outcome.hot.len()) else {
+        return Err(Fault::Run(RunFault::NumberFull));
+    };
+    let committed = Committed {
+        before,
+        rows: added,
+        history: outcome.history,
+    };
+    tell_part(alloc, teller, options, &committed)?;
+    let served = Served {
+        auction: outcome.state,
+        rows,
+        before: next,
+    };
+    Ok(ServedPart { served, past })
+}
+
 /// Adds the rows of a part, performs its scripts, logs all rows that this adds, and then writes
 /// what is asked for of it. If a script is past its worker's limit, and this does not end the
 /// input, only the rows are served.
@@ -186,41 +298,8 @@ pub fn serve_part<R: Threads + Wait + Sync, L: Log, W: Write, E>(
         FailsPart L.accepted W.contents teller.old.teller teller.new.teller options.now book
         (gone_by part.served.before) part.served.rows (asked_of part.input) fault) }
 {
-    let NextPart { served, input } = part;
-    let Served {
-        auction,
-        rows,
-        before,
-    } = served;
-    let Some(rows_read) = rows.checked_add(input.rows.len() as u64) else {
-        return Err(Fault::Run(RunFault::NumberFull));
-    };
-    // A worker's limit counts its rows, and not the views and refusals of the parts before.
-    let mut auction = auction.for_next_run();
-    let added = add_part(alloc, &mut auction, input.rows.as_slice(), rows)?;
-    let mut scripts = input.scripts;
-    let past = take_past(alloc, &auction, &mut scripts, options);
-    let Some(next) = before.with_scripts(scripts.as_slice()) else {
-        // There are no more scripts than workers, so a count of requests is past 64 bits.
-        let _ = auction.workers();
-        return Err(Fault::Run(RunFault::NumberFull));
-    };
-    let outcome = run_part(rt, alloc, auction, scripts, options)?;
-    let Some(next) = next.with_phases(outcome.hot.len()) else {
-        return Err(Fault::Run(RunFault::NumberFull));
-    };
-    let committed = Committed {
-        before,
-        rows: added,
-        history: outcome.history,
-    };
-    tell_part(alloc, teller, options, &committed)?;
-    let served = Served {
-        auction: outcome.state,
-        rows: rows_read,
-        before: next,
-    };
-    Ok(ServedPart { served, past })
+    let begun = begin_part(alloc, part, options)?;
+    perform_part(rt, alloc, teller, begun, options)
 }
 
 // The text of the rows that a part adds, for a log that keeps it: of one that keeps nothing no

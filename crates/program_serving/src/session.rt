@@ -111,26 +111,55 @@ fn serve_lines<R: Threads + Wait + Sync, I: Read + Drop, L: Log, W: Write, E: Wr
         (AreTold L.accepted W.contents start teller.old.teller) →
         IsServeFault L.accepted W.contents start teller.new.teller options.now book all fault) }
 {
-    let Session {
-        mut served,
-        mut end,
-    } = session;
+    let mut session = session;
     for _ in 0..u64::MAX {
-        let Some(left) = pass_fault(alloc, teller, options, &served.before, end)? else {
+        let Some(next) = serve_next(rt, alloc, teller, session, options)? else {
             return Ok(());
         };
-        let LivePart {
-            input,
-            requests: _,
-            end: next,
-        } = left.next_part(alloc, most_of_a_part(options, &served.auction))?;
-        let part = NextPart { served, input };
-        let done = serve_part(rt, alloc, teller, part, options)?;
-        tell_past(alloc, teller, options, &done)?;
-        served = done.served;
-        end = next;
+        session = next;
     }
     Err(Fault::Read(ReadFault::Read))
+}
+
+// Serves the next part, and gives how the input goes on behind it: nothing at its end.
+fn serve_next<R: Threads + Wait + Sync, I: Read + Drop, L: Log, W: Write, E: Write>(
+    rt: &R,
+    alloc: Global,
+    teller: &mut LiveTeller<L, W, E>,
+    session: Session<I>,
+    options: &Options,
+) -> Result<Option<Session<I>>, Fault>
+    requires { HasBook session.served.auction }
+    ensures goes_on { IfOk result (λ next. (book : Book) (all : List Says) (start : Told L W) →
+        IsSession options.now book all session.served
+        (GoesOnTo I.remaining options.now.workers session.end)
+        (AreTold L.accepted W.contents start teller.old.teller) →
+        MatchOption next
+        (ServesAll options.now book all (AreTold L.accepted W.contents start teller.new.teller))
+        (λ session. IsSession options.now book all session.served
+        (GoesOnTo I.remaining options.now.workers session.end)
+        (AreTold L.accepted W.contents start teller.new.teller))) }
+    ensures has { IfOk result (λ next. IfSome next (λ session. HasBook session.served.auction)) }
+    ensures cause { IfErr result (λ fault. (book : Book) (all : List Says) (start : Told L W) →
+        IsSession options.now book all session.served
+        (GoesOnTo I.remaining options.now.workers session.end)
+        (AreTold L.accepted W.contents start teller.old.teller) →
+        IsServeFault L.accepted W.contents start teller.new.teller options.now book all fault) }
+{
+    let Session { served, end } = session;
+    let Some(left) = pass_fault(alloc, teller, options, &served.before, end)? else {
+        return Ok(None);
+    };
+    let LivePart {
+        input,
+        requests: _,
+        end,
+    } = left.next_part(alloc, most_of_a_part(options, &served.auction))?;
+    let part = NextPart { served, input };
+    let done = serve_part(rt, alloc, teller, part, options)?;
+    tell_past(alloc, teller, options, &done)?;
+    let served = done.served;
+    Ok(Some(Session { served, end }))
 }
 
 // Gives what is left of an input behind its next line, if that has a fault: it is answered, or ends

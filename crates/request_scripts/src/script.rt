@@ -1,5 +1,7 @@
 //! A worker's script, compact: in few bytes a request.
-ghost use Rattle.std.specs.Prelude.{◌≡◌, ◌<◌, ◌++◌, ◌∷◌, ◌==◌, [], Some, length, slice_get, vec_len, vec_capacity, IfOk, IfSome, OnOk, OnErr};
+ghost use Rattle.std.specs.Prelude.{◌≡◌, ◌<◌, ◌++◌, ◌∷◌, ◌==◌, [], List, Some, length, map, slice_get, vec_len, vec_capacity, IfOk, IfSome, OnOk, OnErr};
+ghost use Rattle.auction_rows.specs.declared.requests.Facts.{Facts as FactsKept};
+ghost use Rattle.request_scripts.specs.ShortRequests.{CanShift, HasListRoom, HaveRequests, shifted};
 
 use crate::short_request::{ShortRequest, facts_stored, keep_request};
 use auction_rows::{Facts, Request};
@@ -67,6 +69,27 @@ impl Script {
         Ok(())
     }
 
+    /// Puts the requests of another script at the end. If memory is refused, the script has the
+    /// requests that it had.
+    pub fn append(&mut self, other: &Script) -> Result<(), AllocError>
+        ensures appended { OnOk result (self.new ≡ self.old ++ other.now) }
+        ensures refused { OnErr result (self.new ≡ self.old) }
+    {
+        let before = self.facts.len();
+        self.requests.reserve(other.requests.len())?;
+        self.facts.extend_from_slice(&other.facts)?;
+        push_after(&mut self.requests, &other.requests, before);
+        Ok(())
+    }
+
+    /// Lets all requests go, and keeps the memory.
+    pub fn clear(&mut self)
+        ensures { self.new ≡ [] }
+    {
+        self.requests.clear();
+        self.facts.clear();
+    }
+
     /// How many requests there are.
     #[inline(always)]
     pub fn len(&self) -> usize
@@ -119,6 +142,19 @@ impl Script {
             requests.push(self.request(place))?;
         }
         Ok(requests)
+    }
+}
+
+// Puts short requests at the end of a list, with their facts after so many others. It takes no
+// memory.
+fn push_after(requests: &mut Vec<ShortRequest>, others: &[ShortRequest], before: usize)
+    requires facts { (all : List FactsKept) × HaveRequests all others.now × CanShift all before }
+    requires room { HasListRoom (length others.now) (vec_len requests.old)
+        (vec_capacity requests.old) }
+    ensures { requests.new.items ≡ requests.old.items ++ map (shifted before) others.now }
+{
+    for short in others {
+        requests.push_reserved(short.after(before));
     }
 }
 

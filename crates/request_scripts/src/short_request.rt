@@ -1,5 +1,6 @@
 //! A request in 32 bytes, with the facts of the item that it stores in a list beside it.
-ghost use Rattle.std.specs.Prelude.{◌≡◌, ◌++◌, length, vec_len, vec_capacity};
+ghost use Rattle.std.specs.Prelude.{◌≡◌, ◌++◌, length, vec_len, vec_capacity, List};
+ghost use Rattle.auction_rows.specs.declared.requests.Facts.{Facts as FactsKept};
 ghost use Rattle.request_scripts.specs.ShortRequests.{HasListRoom, SaysRequest, facts_in};
 
 use crate::side_index::{SideIndex, keep_one};
@@ -30,7 +31,21 @@ pub enum ShortRequest {
 }
 
 impl ShortRequest {
-    ghost use Rattle.request_scripts.specs.ShortRequests.{HasRequest, request_from};
+    ghost use Rattle.request_scripts.specs.ShortRequests.{CanShift, HasRequest, request_from, shifted};
+
+    /// The same request, of which the facts lie after so many others.
+    #[inline(always)]
+    pub(crate) fn after(self, before: usize) -> ShortRequest
+        requires { (all : List FactsKept) × HasRequest all self × CanShift all before }
+        ensures { result ≡ shifted before self }
+    {
+        match self {
+            ShortRequest::StoreItem(facts, time) => {
+                ShortRequest::StoreItem(SideIndex::of(before + facts.get()), time)
+            }
+            other => other,
+        }
+    }
 
     /// The request, made whole, with the facts that are kept beside it.
     #[inline(always)]

@@ -6,8 +6,8 @@ ghost use Rattle.std.specs.Prelude.{[]};
 ghost use Rattle.phase_floor.specs.Adding.{HasBook, IsStartOf};
 
 use auction_program::{
-    Fault, Joined, LiveTeller, Log, LogFileFault, LoggedInput, NoLog, OpenedLog, Options, Teller,
-    UntilEnd, execute, new_auction, open_log, read_options, serve, status, write_fault,
+    Fault, Joined, LiveTeller, Log, LogCause, LogFileFault, LoggedInput, NoLog, OpenedLog, Options,
+    Teller, UntilEnd, execute, new_auction, open_log, read_options, serve, status, write_fault,
 };
 use program_options::program_words;
 use std::alloc::Global;
@@ -121,8 +121,9 @@ where
     requires { IsStartOf auction [] }
 {
     let alloc = rt.alloc();
-    let Ok(_places) = held_places(rt) else {
-        return Err(Fault::OpenLog(LogFileFault::Read));
+    let _places = match held_places(rt) {
+        Ok(places) => places,
+        Err(why) => return Err(LogFileFault::at(alloc, path, LogCause::Read(why)).into()),
     };
     let opened = if options.rows {
         open_log(rt, alloc, path, auction, &mut io::writer(rt))?
@@ -142,5 +143,8 @@ where
         auction,
         reader: &mut reader,
     };
-    serve_input(rt, errors, source, log, options)
+    match serve_input(rt, errors, source, log, options) {
+        Err(Fault::Log(why)) => Err(LogFileFault::at(alloc, path, LogCause::Log(why)).into()),
+        served => served,
+    }
 }

@@ -22,11 +22,11 @@ use Rattle.run_laws.specs.Serving.{call_of, script_of}
 use Rattle.run_laws.proofs.ScriptLemmas.{past_end}
 use Rattle.shard_boxes.specs.Keys.{BoxId}
 use Rattle.shard_boxes.specs.States.{ShardState, state_of}
-use Rattle.phase_permits.specs.Slicing.{hot_objects, stocks_of, slices_of}
-use Rattle.phase_permits.specs.Stashes.{StashState}
-use Rattle.phase_permits.specs.declared.transaction.PermitFault.TheVariants as permit
-use Rattle.phase_permits.specs.Workers.{WorkerState}
-use Rattle.phase_permits.specs.Performing.{HaveOpening}
+use Rattle.worker_slices.specs.Slicing.{hot_objects, stocks_of, slices_of}
+use Rattle.worker_slices.specs.Stashes.{StashState}
+use Rattle.phase_transactions.specs.declared.transaction.PermitFault.TheVariants as permit
+use Rattle.phase_transactions.specs.Workers.{WorkerState}
+use Rattle.phase_transactions.specs.Performing.{HaveOpening}
 use Rattle.closing_laws.specs.Phases.{no_receipt, receipt_at, journal_of, counters_of}
 use Rattle.closing_laws.specs.Standing.{StandFor, counters_at}
 use Rattle.worker_journals.specs.Journals.{entry_worker}

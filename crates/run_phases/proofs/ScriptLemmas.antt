@@ -3,7 +3,7 @@ use Rattle.std.proofs.Common.{◌≡◌, ℕ, zero, suc, ◌+◌, ◌<◌, ◌�
 use Rattle.std.proofs.lemmas.Bool.{cases_lt}
 use Rattle.std.proofs.lemmas.List.{get_or_default, get_or_past}
 use Rattle.auction_rows.specs.declared.requests.Request.{Request}
-use Rattle.phase_permits.specs.Stashes.{StashState}
+use Rattle.worker_slices.specs.Stashes.{StashState}
 use Rattle.phase_floor.specs.Floors.{no_stash}
 use Rattle.run_laws.specs.Serving.{script_of}
 use Rattle.run_laws.proofs.ScriptLemmas.{past_end}

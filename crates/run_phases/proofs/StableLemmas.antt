@@ -9,7 +9,7 @@ use Rattle.auction_rows.specs.declared.requests.Request.{Request}
 use Rattle.item_shards.specs.Values.{stock}
 use Rattle.closing_laws.specs.Phases.{value_on}
 use Rattle.closing_laws.specs.Standing.{counters_at}
-use Rattle.phase_permits.specs.Stashes.{StashState}
+use Rattle.worker_slices.specs.Stashes.{StashState}
 use Rattle.phase_floor.specs.States.{JoinedState, states_of, DoesExist, DoAllExist}
 use Rattle.run_laws.specs.Phases.{is_split}
 use Rattle.auction_rows.specs.declared.limits.Policy.{Policy}

@@ -63,8 +63,8 @@ pub record BeginsWith (state : JoinedState) (rows : Book) (policy : Policy)
 abbrev pub CannotBegin : JoinedState → Policy → List (List Request) → Type 0
 CannotBegin state policy scripts = (rows : Book) → BeginsWith state rows policy scripts → ⊥
 
--- A board can be shown such a run: it begins from the book of the phases that the board has, and its
--- state is not a lasting one.
+-- A board can be shown such a run: it begins from the book of the phases that the board has, and
+-- its state is not a lasting one.
 pub record CanShowRun {B : Type 0} (has : B → Opening → Book → List (List Row) → Type 0)
     (board : B) (state : JoinedState) (policy : Policy) (scripts : List (List Request))
     : Type 0 where

@@ -5,10 +5,10 @@ use Rattle.auction_rows.specs.declared.requests.Object.{Object}
 use Rattle.auction_rows.specs.declared.requests.Request.{Request}
 use Rattle.auction_rows.specs.declared.rows.Entry.{Entry}
 use Rattle.shard_boxes.specs.States.{ShardState}
-use Rattle.phase_permits.specs.Performing.{HaveOpening}
-use Rattle.phase_permits.specs.Slicing.{hot_objects}
-use Rattle.phase_permits.specs.Stashes.{StashState}
-use Rattle.phase_permits.specs.Workers.{WorkerState}
+use Rattle.phase_transactions.specs.Performing.{HaveOpening}
+use Rattle.worker_slices.specs.Slicing.{hot_objects}
+use Rattle.worker_slices.specs.Stashes.{StashState}
+use Rattle.phase_transactions.specs.Workers.{WorkerState}
 use Rattle.phase_floor.specs.Closings.{AreReceiptsOf, Leaves}
 use Rattle.phase_floor.specs.Floors.{FloorState, AreBegun, stash_at}
 use Rattle.phase_floor.specs.States.{JoinedState}

@@ -5,7 +5,7 @@ ghost use Rattle.run_laws.specs.Run.{first_index};
 ghost use Rattle.run_laws.specs.Serving.{script_of};
 ghost use Rattle.run_laws.specs.Phases.{is_split};
 ghost use Rattle.worker_journals.specs.Merged.{added, merged};
-ghost use Rattle.phase_permits.specs.Stashes.{StashState};
+ghost use Rattle.worker_slices.specs.Stashes.{StashState};
 ghost use Rattle.phase_floor.specs.declared.floor.BeginFault.TheVariants.{Memory};
 ghost use Rattle.phase_floor.specs.States.{states_of};
 ghost use Rattle.phase_workers.specs.Tasks.{tasks};

@@ -28,10 +28,6 @@ pub indexes_are : (phase worker : ℕ) (sides : SideLists) (heads : List Head) �
 indexes_are phase worker sides [] = refl
 indexes_are phase worker sides (head ∷ heads) = ap (λ xs. head.index ∷ xs) (indexes_are phase worker sides heads)
 
--- they rise from any index up to the first
-pub rises_from : (from first next : ℕ) (xs : List ℕ) → RisesTo 0 (first ∷ xs) next → from ≤ first → RisesTo from (first ∷ xs) next
-rises_from from first next xs rise before = (before, rise.1)
-
 -- none was passed
 pub none_passed : (from : ℕ) (entries : List Entry) → HasPassed from entries entries from
 none_passed from entries = record { passed = []; parts = refl; rise = refl }

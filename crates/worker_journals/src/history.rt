@@ -229,8 +229,8 @@ impl<'a> Model for WorkerEntries<'a> {
 }
 
 impl WorkerEntries<'_> {
-    /// Passes over journals as long as the next entry is the first of one whose indexes rise from this
-    /// one on. It looks at no entry, and gives the index after the last one that it passed.
+    /// Passes over journals as long as the next entry is the first of one whose indexes rise from
+    /// this one on. It looks at no entry, and gives the index after the last one that it passed.
     pub fn pass_rising(&mut self, from: u64) -> u64
         ensures { HasPassed from self.old self.new result }
     {

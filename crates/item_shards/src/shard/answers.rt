@@ -100,7 +100,8 @@ impl Shard {
         }
     }
 
-    /// Bids on an item by one look-up, unless the item refuses the bid: then it gives the first reason.
+    /// Bids on an item by one look-up, unless the item refuses the bid: then it gives the first
+    /// reason.
     #[inline(always)]
     pub fn try_bid(&mut self, item: ItemId, bid: BidEntry) -> Option<Refusal>
         requires here { LiesIn self.old (Item item) }

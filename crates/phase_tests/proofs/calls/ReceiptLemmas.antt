@@ -1,6 +1,6 @@
 -- The one receipt of a phase of one worker.
 use Rattle.std.proofs.Common.{◌≡◌, ℕ, zero, suc, ◌<◌, List, [], ◌∷◌, length, get_or, sym, subst, arith}
-use Rattle.phase_permits.specs.Workers.{WorkerState}
+use Rattle.phase_transactions.specs.Workers.{WorkerState}
 use Rattle.phase_floor.specs.Closings.{AreReceiptsOf, IsReceipt}
 use Rattle.phase_floor.specs.Floors.{FloorState}
 

@@ -3,9 +3,9 @@ use Rattle.std.proofs.Common.{◌≡◌, ℕ, List, Option, Some, None, Result, 
 use Rattle.std.specs.Prelude.{IfOk, IfErr, IfSome, IfNone}
 use Rattle.auction_rows.specs.declared.replies.Reply.{Reply}
 use Rattle.auction_rows.specs.declared.requests.Request.{Request}
-use Rattle.phase_permits.specs.Workers.{WorkerState, with_try}
-use Rattle.phase_permits.specs.declared.transaction.PermitFault.{PermitFault}
-use Rattle.phase_permits.specs.Performing.{HasFailed, HasCommitted, HasPerformedFirst, HasFailedFirst}
+use Rattle.phase_transactions.specs.Workers.{WorkerState, with_try}
+use Rattle.phase_transactions.specs.declared.transaction.PermitFault.{PermitFault}
+use Rattle.phase_transactions.specs.Performing.{HasFailed, HasCommitted, HasPerformedFirst, HasFailedFirst}
 use Rattle.shard_boxes.specs.States.{ShardState}
 
 -- for the same boxes, users and categories, and the same worker

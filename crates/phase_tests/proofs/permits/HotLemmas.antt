@@ -7,8 +7,8 @@ use Rattle.auction_rows.specs.declared.requests.Object.TheVariants.{Item}
 use Rattle.auction_rows.specs.Footprint.{is_hot}
 use Rattle.auction_rows.specs.Requests.{same_object}
 use Rattle.auction_rows.proofs.RequestLemmas.{same_object-true}
-use Rattle.phase_permits.specs.declared.slices.Hot.{Hot}
-use Rattle.phase_permits.specs.Workers.{HasStashRoom}
+use Rattle.worker_slices.specs.declared.slices.Hot.{Hot}
+use Rattle.phase_transactions.specs.Workers.{HasStashRoom}
 
 -- room for the quota is room enough
 pub stash_room : (hots : List (Object × Hot)) (left room : ℕ) → left ≤ room → HasStashRoom hots left room

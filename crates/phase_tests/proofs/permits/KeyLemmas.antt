@@ -3,7 +3,7 @@ use Rattle.std.proofs.Common.{◌≡◌, ℕ, zero, suc, ◌+◌, ◌<◌, List,
 use Rattle.std.proofs.lemmas.List.{length-append}
 use Rattle.shard_boxes.specs.Closed.{AreSpent, IsSpent}
 use Rattle.shard_boxes.specs.Keys.{BoxId, KeyState, key_at, IsNewKey, AreNewKeys}
-use Rattle.phase_permits.specs.Workers.{IsIdle}
+use Rattle.phase_transactions.specs.Workers.{IsIdle}
 
 pub only_key : (boxes : List BoxId) (workers : ℕ) (keys rest : List KeyState) (key : KeyState) → keys ≡ rest ++ key ∷ [] → 1 ≡ workers → AreNewKeys boxes workers keys → IsNewKey boxes 0 key
 only_key boxes workers keys [] key is one new = subst (λ (k : List KeyState). IsNewKey boxes 0 (key_at k 0)) is (new.1 0 (omega (arith, one)))

@@ -5,7 +5,7 @@ ghost use Rattle.item_shards.specs.CommitNumbers.{last_number};
 ghost use Rattle.item_shards.specs.ShardContents.{clock, opening, LiesIn};
 ghost use Rattle.shard_boxes.specs.Lines.{after_line, seen_line};
 ghost use Rattle.shard_boxes.specs.States.{state_of, AreInitial};
-ghost use Rattle.phase_permits.specs.Performing.{HaveOpening};
+ghost use Rattle.phase_transactions.specs.Performing.{HaveOpening};
 
 use crate::comparing::assert_same;
 use crate::permits::closing::{assert_clocks, close_one};

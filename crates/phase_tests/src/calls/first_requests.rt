@@ -1,8 +1,8 @@
 //! A store, asked once more where it is refused memory, and a view that needs none.
 ghost use Rattle.std.specs.Prelude.{◌≡◌, ◌≤◌, [], length, map, vec_capacity, IfOk};
 ghost use Rattle.shard_boxes.specs.States.{state_of, AreInitial};
-ghost use Rattle.phase_permits.specs.Performing.{HaveOpening};
-ghost use Rattle.phase_permits.specs.Workers.{IsIdle};
+ghost use Rattle.phase_transactions.specs.Performing.{HaveOpening};
+ghost use Rattle.phase_transactions.specs.Workers.{IsIdle};
 
 use crate::calls::printing::{look_for_memory, print_count, print_journal};
 use crate::comparing::assert_same;

@@ -1,7 +1,7 @@
 //! Rows that are added to an auction one after the other.
 use crate::comparing::assert_same;
 use crate::testing::{FIRST, OPENING, VIEW, bid, item_seen, put_up, vases};
-use auction_rows::{BidId, BidRow, Row};
+use auction_rows::{BidId, BidRow, Refusal, Request, Row};
 use item_shards::Opened;
 use phase_floor::{AddFault, Joined};
 
@@ -37,10 +37,17 @@ fn added_rows_are_shown(rt: HostRuntime) {
 }
 
 #[test]
-fn bids_on_no_item_and_rows_of_a_third_worker_are_not_added(rt: HostRuntime) {
-    for (worker, request) in [(1, bid(3, 20, 5)), (2, put_up(vases(&rt, 10, 1)))] {
+fn what_is_no_row_is_not_added(rt: HostRuntime) {
+    let item = put_up(vases(&rt, 10, 1));
+    for (worker, request, fault) in [
+        (1, bid(3, 20, 5), AddFault::Refused(Refusal::NoSuchItem)),
+        (1, bid(10, 20, 5), AddFault::Refused(Refusal::NoSuchUser)),
+        (1, VIEW, AddFault::Refused(Refusal::NoSuchItem)),
+        (1, Request::ViewUser { user: 3 }, AddFault::BadRow),
+        (2, item, AddFault::BadRow),
+    ] {
         let row = Opened { worker, request };
         let mut state = Joined::new(rt.alloc(), OPENING, 2, 4).expect(&rt, "memory");
-        assert_same(&rt, state.add(&row), Err(AddFault::BadRow));
+        assert_same(&rt, state.add(&row), Err(fault));
     }
 }

@@ -4,7 +4,7 @@ ghost use Rattle.auction_rows.specs.declared.requests.Object.TheVariants.{Item};
 ghost use Rattle.item_shards.specs.ShardContents.{LiesIn};
 ghost use Rattle.shard_boxes.specs.States.{state_of};
 ghost use Rattle.shard_boxes.specs.Closed.{AreClosed};
-ghost use Rattle.phase_permits.specs.Workers.{IsIdle};
+ghost use Rattle.phase_transactions.specs.Workers.{IsIdle};
 
 use crate::comparing::assert_same;
 use crate::testing::FIRST;

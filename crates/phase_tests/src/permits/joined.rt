@@ -1,7 +1,7 @@
 //! A joined permit, and how it performs.
 ghost use Rattle.std.specs.Prelude.{◌≡◌, ◌≤◌, length, IfOk};
-ghost use Rattle.phase_permits.specs.Workers.{IsUnused};
-ghost use Rattle.phase_permits.specs.Performing.{HaveOpening};
+ghost use Rattle.phase_transactions.specs.Workers.{IsUnused};
+ghost use Rattle.phase_transactions.specs.Performing.{HaveOpening};
 
 use crate::testing::OPENING;
 use auction_rows::{MOST_TRIES, Reply, Request};

@@ -1,7 +1,7 @@
 //! Requests at the end of numbers, and what waits.
 ghost use Rattle.std.specs.Prelude.{◌≡◌, length, map};
 ghost use Rattle.shard_boxes.specs.States.{state_of, AreInitial};
-ghost use Rattle.phase_permits.specs.Performing.{HaveOpening};
+ghost use Rattle.phase_transactions.specs.Performing.{HaveOpening};
 
 use crate::comparing::assert_same;
 use crate::permits::joined::{joined_permit, perform, perform_stashed};

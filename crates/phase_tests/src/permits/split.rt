@@ -5,10 +5,10 @@ ghost use Rattle.auction_rows.specs.declared.requests.ItemId.{ItemId as Id};
 ghost use Rattle.auction_rows.specs.declared.requests.Object.TheVariants.{Item};
 ghost use Rattle.auction_rows.specs.Footprint.{is_hot};
 ghost use Rattle.auction_rows.specs.Requests.{same_object};
-ghost use Rattle.phase_permits.specs.Slicing.{hot_objects, IsStocked};
-ghost use Rattle.phase_permits.specs.declared.transaction.Done.TheVariants.{Stashed};
-ghost use Rattle.phase_permits.specs.Workers.{IsUnused};
-ghost use Rattle.phase_permits.specs.Performing.{HaveOpening};
+ghost use Rattle.worker_slices.specs.Slicing.{hot_objects, IsStocked};
+ghost use Rattle.phase_transactions.specs.declared.transaction.Done.TheVariants.{Stashed};
+ghost use Rattle.phase_transactions.specs.Workers.{IsUnused};
+ghost use Rattle.phase_transactions.specs.Performing.{HaveOpening};
 
 use crate::testing::{FIRST, OPENING};
 use auction_rows::{Facts, MOST_TRIES, Object, Reply, Request, Stars};

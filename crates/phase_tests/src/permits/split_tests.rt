@@ -1,8 +1,8 @@
 //! Stores on hot objects alone.
 ghost use Rattle.std.specs.Prelude.{◌≡◌, ◌≤◌, [], length, map, vec_capacity};
 ghost use Rattle.shard_boxes.specs.States.{state_of, AreInitial};
-ghost use Rattle.phase_permits.specs.Performing.{HaveOpening};
-ghost use Rattle.phase_permits.specs.Workers.{IsUnused};
+ghost use Rattle.phase_transactions.specs.Performing.{HaveOpening};
+ghost use Rattle.phase_transactions.specs.Workers.{IsUnused};
 
 use crate::comparing::assert_same;
 use crate::permits::closing::{assert_clocks, close_one};
@@ -81,7 +81,7 @@ fn bids_on_a_hot_item<N: PhaseName, R: Wait + Abort>(rt: &R, alloc: Global, shar
     assert_left(rt, alloc, &journal, &stash, slices);
 }
 
-// Asserts the numbers of the commits, that the view waits, and that there is one slice, of the item.
+// Asserts the numbers of the commits, that the view waits, and that the one slice is of the item.
 fn assert_left(
     rt: &impl Abort,
     alloc: Global,

@@ -2,8 +2,8 @@
 ghost use Rattle.std.specs.Prelude.{◌≡◌, ◌∷◌, [], length, map, vec_len, IfOk};
 ghost use Rattle.shard_boxes.specs.States.{state_of, AreInitial};
 ghost use Rattle.shard_boxes.specs.Keys.{IsNewKey};
-ghost use Rattle.phase_permits.specs.Workers.{IsUnused};
-ghost use Rattle.phase_permits.specs.Performing.{HaveOpening};
+ghost use Rattle.phase_transactions.specs.Workers.{IsUnused};
+ghost use Rattle.phase_transactions.specs.Performing.{HaveOpening};
 
 use crate::testing::OPENING;
 use item_shards::Shard;

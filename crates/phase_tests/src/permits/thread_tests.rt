@@ -1,8 +1,8 @@
 //! Two workers who perform at one time, each on a thread of its own, over the same boxes.
 ghost use Rattle.std.specs.Prelude.{◌≡◌, length, map};
 ghost use Rattle.shard_boxes.specs.States.{state_of, AreInitial};
-ghost use Rattle.phase_permits.specs.Performing.{HaveOpening};
-ghost use Rattle.phase_permits.specs.Workers.{IsIdle, IsUnused};
+ghost use Rattle.phase_transactions.specs.Performing.{HaveOpening};
+ghost use Rattle.phase_transactions.specs.Workers.{IsIdle, IsUnused};
 
 use crate::comparing::assert_same;
 use crate::permits::closing::{assert_clocks, close_two};

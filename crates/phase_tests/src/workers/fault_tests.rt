@@ -1,8 +1,8 @@
 //! What the workers of a phase answer where one meets the end of commit numbers: no run is so long.
 ghost use Rattle.std.specs.Prelude.{◌≡◌, ◌∷◌, [], length, map};
 ghost use Rattle.shard_boxes.specs.States.{state_of, AreInitial};
-ghost use Rattle.phase_permits.specs.Workers.{IsUnused};
-ghost use Rattle.phase_permits.specs.Performing.{HaveOpening};
+ghost use Rattle.phase_transactions.specs.Workers.{IsUnused};
+ghost use Rattle.phase_transactions.specs.Performing.{HaveOpening};
 
 use crate::comparing::assert_same;
 use crate::permits::testing::{boxes_of_one, four};

@@ -5,13 +5,13 @@ ghost use Rattle.phase_floor.specs.Adding.{HasBook, IsStartOf};
 use crate::comparing::assert_same;
 use crate::logs::mem_file::MemFile;
 use crate::testing::extend;
-use auction_rows::Opening;
+use auction_rows::{Opening, Refusal};
 use auction_text::{Cause, ReadFault};
 use log_opening::{
     MOST_OF_A_ROW, OpenFault, cut_log, is_cut_row, open_parts, read_log, whole_lines,
 };
 use part_log::AppendFile;
-use phase_floor::Joined;
+use phase_floor::{AddFault, Joined};
 use std::alloc::{AllocError, Global};
 use std::io;
 use std::io::Write;
@@ -114,7 +114,7 @@ fn a_line_that_is_no_row_as_written_is_named(rt: HostRuntime) {
     assert_after_rows(&rt, b"1,+bid,x,0.0,30,6\n", Err(number));
     let worker = OpenFault::Record(ReadFault::Worker(3));
     assert_after_rows(&rt, b"2,+bid,1,0.0,30,6\n", Err(worker));
-    let low = OpenFault::BadRow(3);
+    let low = OpenFault::Row(3, AddFault::Refused(Refusal::BelowStart));
     assert_after_rows(&rt, b"1,+bid,1,0.0,9,6\n", Err(low));
     for line in [
         b"1,+buynow,2,0.0,1,5\r\n".as_slice(),
@@ -161,8 +161,8 @@ fn rows_are_counted_through_all_parts(rt: HostRuntime) {
     let len = text.len() as u64;
     assert_same(&rt, opened(&rt, alloc, text.as_slice()), Ok((10_000, len)));
     extend(&rt, &mut text, b"1,+bid,1,0.0,9,5\n");
-    let low = Err(OpenFault::BadRow(10_001));
-    assert_same(&rt, opened(&rt, alloc, text.as_slice()), low);
+    let low = OpenFault::Row(10_001, AddFault::Refused(Refusal::BelowStart));
+    assert_same(&rt, opened(&rt, alloc, text.as_slice()), Err(low));
 }
 
 #[test]

@@ -1,9 +1,11 @@
 //! Faults to which the built program can't be brought. The others stand in tests/limits.py, ends.py
 //! and refused_memory.py.
 use crate::comparing::assert_same;
+use crate::testing::extend;
 use auction_program::{AddFault, Fault, status, write_fault};
+use auction_rows::{Refusal, Reply};
 use auction_run::RunFault;
-use auction_text::WriteFault;
+use auction_text::{WriteFault, push_reply};
 use auction_window::MakeFault;
 use std::alloc::Global;
 use std::io;
@@ -37,15 +39,36 @@ fn faults_have_their_status_and_line(rt: HostRuntime) {
     for (fault, text) in faults {
         assert_told(&rt, rt.alloc(), Fault::Run(fault), text);
     }
-    let refused = Fault::Row(3, AddFault::BadRow);
-    assert_told(&rt, rt.alloc(), refused, b"rubis_auction: row 3: refused\n");
-    let no_memory = Fault::Row(3, AddFault::Memory);
-    assert_told(
-        &rt,
-        rt.alloc(),
-        no_memory,
-        b"rubis_auction: row 3: no memory\n",
-    );
+    let rows: [(AddFault, &[u8]); 2] = [
+        (
+            AddFault::BadRow,
+            b"rubis_auction: row 3: not a store of a worker\n",
+        ),
+        (AddFault::Memory, b"rubis_auction: row 3: no memory\n"),
+    ];
+    for (fault, text) in rows {
+        assert_told(&rt, rt.alloc(), Fault::Row(3, fault), text);
+    }
+}
+
+#[test]
+fn a_refused_row_is_told_in_the_words_of_replies(rt: HostRuntime) {
+    for reason in [
+        Refusal::NoSuchUser,
+        Refusal::NoSuchCategory,
+        Refusal::NoSuchItem,
+        Refusal::BelowStart,
+        Refusal::Closed,
+        Refusal::SoldOut,
+        Refusal::NotEnough,
+    ] {
+        let mut text = Vec::new(rt.alloc());
+        extend(&rt, &mut text, b"rubis_auction: row 3: ");
+        push_reply(&mut text, &Reply::Refused(reason)).expect(&rt, "memory");
+        extend(&rt, &mut text, b"\n");
+        let refused = Fault::Row(3, AddFault::Refused(reason));
+        assert_told(&rt, rt.alloc(), refused, text.as_slice());
+    }
 }
 
 // Takes nothing.

@@ -3,8 +3,8 @@
 ghost use Rattle.phase_floor.specs.Adding.{HasBook};
 
 use crate::comparing::assert_same;
-use crate::testing::FIRST;
-use auction_program::{Fault, Joined, LiveTeller, LoggedInput, NoLog, Options, Teller, serve};
+use crate::testing::{FIRST, line_of};
+use auction_program::{Joined, LiveTeller, LoggedInput, NoLog, Options, Teller, serve};
 use auction_rows::{Facts, Name, Opening, Quantity, Request, Stars};
 use item_shards::Opened;
 use std::alloc::Global;
@@ -102,14 +102,14 @@ fn options(rows: bool, ends_at_fault: bool) -> Options {
     }
 }
 
-// Asserts how these lines are served: what is written, what is told apart from it, and how they
-// end.
+// Asserts how these lines are served: what is written, what is told apart from it, and the line of
+// the fault that ends them.
 fn assert_served<R: Abort + Alloc<A = Global> + Threads + Wait + Sync>(
     rt: &R,
     options: &Options,
     written: &[u8],
     errors: &[u8],
-    ended: Result<(), Fault>,
+    ended: &[u8],
 ) {
     let alloc = rt.alloc();
     let source = LoggedInput {
@@ -122,7 +122,7 @@ fn assert_served<R: Abort + Alloc<A = Global> + Threads + Wait + Sync>(
     };
     let mut teller = LiveTeller::of(alloc, texts, Vec::new(alloc));
     let served = serve(rt, alloc, source, &mut teller, options);
-    assert_same(rt, served, ended);
+    assert_same(rt, line_of(rt, alloc, &served).as_slice(), ended);
     assert_same(rt, teller.teller.writer.as_slice(), written);
     assert_same(rt, teller.errors.as_slice(), errors);
 }
@@ -140,7 +140,7 @@ fn a_request_past_a_limit_is_answered_and_changes_nothing(rt: HostRuntime) {
 1,1,viewitem seller=0 category=0 start=10 closes=1000 highest=- bidder=- bids=0 left=3 name=Vase
 1,2,user rating=9 comments=3
 ";
-    assert_served(&rt, &options(false, false), answers, b"", Ok(()));
+    assert_served(&rt, &options(false, false), answers, b"", b"");
 }
 
 #[test]
@@ -156,7 +156,7 @@ rubis_auction: more than 1000000 requests for a worker
 rubis_auction: more than 1000000 requests for a worker
 rubis_auction: record 8: unknown kind
 ";
-    assert_served(&rt, &options(true, false), rows, faults, Ok(()));
+    assert_served(&rt, &options(true, false), rows, faults, b"");
 }
 
 #[test]
@@ -166,6 +166,6 @@ fn a_request_past_a_limit_may_end_the_input(rt: HostRuntime) {
 0,1,user rating=5 comments=1
 0,2,comment 0.999998
 ";
-    let limit = Err(Fault::Limit(1_000_000));
+    let limit = b"rubis_auction: more than 1000000 requests for a worker\n";
     assert_served(&rt, &options(false, true), answers, b"", limit);
 }

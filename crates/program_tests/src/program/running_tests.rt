@@ -1,7 +1,8 @@
 //! The program's library, from words and an input to what is written. Other words and inputs are
 //! tried on the built program, in `tests/`.
 use crate::comparing::assert_same;
-use auction_program::{Fault, ReadFault, execute, read_options};
+use crate::testing::line_of;
+use auction_program::{execute, read_options};
 use std::alloc::Global;
 use std::process::Abort;
 use std::sync::Wait;
@@ -16,13 +17,13 @@ fn to_strings(rt: &impl Abort, alloc: Global, words: &[&str]) -> Vec<String> {
     strings
 }
 
-// Asserts how an input is executed, by the words of a command line: how it ends, and what is
-// written.
+// Asserts how an input is executed, by the words of a command line: the line of the fault that ends
+// it, and what is written.
 fn assert_executed<R: Abort + Alloc<A = Global> + Threads + Wait + Sync>(
     rt: &R,
     words: &[&str],
     input: &[u8],
-    ended: Result<(), Fault>,
+    ended: &[u8],
     written: &[u8],
 ) {
     let alloc = rt.alloc();
@@ -30,7 +31,7 @@ fn assert_executed<R: Abort + Alloc<A = Global> + Threads + Wait + Sync>(
     let options = read.expect(rt, "options");
     let mut text = Vec::new(alloc);
     let executed = execute(rt, alloc, input, &mut text, &options);
-    assert_same(rt, executed, ended);
+    assert_same(rt, line_of(rt, alloc, &executed).as_slice(), ended);
     assert_same(rt, text.as_slice(), written);
 }
 
@@ -75,12 +76,12 @@ category 0 latest 1:0.0
 category 1 latest
 user 3 rating=0 comments=3
 ";
-    assert_executed(&rt, &words, COMMENTS, Ok(()), reported);
+    assert_executed(&rt, &words, COMMENTS, b"", reported);
 }
 
 #[test]
 fn an_input_with_a_fault_is_not_performed(rt: HostRuntime) {
     let input: &[u8] = b"0,item,0,0,Vase,10,100,1\n5,foo";
-    let fault = Err(Fault::Read(ReadFault::Worker(2)));
+    let fault = b"rubis_auction: record 2: no such worker\n";
     assert_executed(&rt, &["rubis_auction"], input, fault, b"");
 }

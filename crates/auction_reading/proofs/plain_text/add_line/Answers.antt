@@ -1,5 +1,6 @@
-use Rattle.std.proofs.Common.{◌≡◌, ◌&&◌, Bool, arith, ap, false, inr, refl, true}
-use Rattle.auction_reading.proofs.ProgressLemmas.{reads_on_line}
+use Rattle.std.proofs.Common.{◌≡◌, ◌&&◌, Bool, arith, ap, drop, false, inr, refl, true}
+use Rattle.auction_reading.specs.Said.{read_by}
+use Rattle.auction_reading.proofs.SaidLemmas.{has_read_line, has_read_none}
 use Rattle.auction_reading.proofs.plain_text.add_line.Goals.{else-said-via-then-said+else-progress, else-said-via-else-said}
 use Rattle.auction_reading.proofs.plain_text.add_line.Goals as goal
 
@@ -17,6 +18,12 @@ returns c =
     ] in
     record {
       place = inr refl;
-      reads = λ text line. reads_on_line old c.add.new.progress text c.args.at said c.args.next line c.in_ok-add.ensures.adds c.requires.room (omega (arith, c.if-said-len.false, c.len.ensures)) early;
+      reads = λ text line. has_read_line old c.add.new.progress text c.args.at said c.args.next line c.in_ok-add.ensures.adds c.requires.room (omega (arith, c.if-said-len.false, c.len.ensures)) early;
       fails = tt;
     }
+
+pub returns-then-said-len-clause-reads : goal.returns-then-said-len-clause-reads
+returns-then-said-len-clause-reads c text line = has_read_none (read_by c.args.progress.now) (drop c.args.at text) (omega (arith, c.requires.room))
+
+pub returns-then-progress-clause-reads : goal.returns-then-progress-clause-reads
+returns-then-progress-clause-reads c text line = has_read_none (read_by c.args.progress.now) (drop c.args.at text) (omega (arith, c.requires.room))

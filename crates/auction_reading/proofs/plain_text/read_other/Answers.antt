@@ -1,6 +1,7 @@
 use Rattle.std.proofs.Common.{arith, drop, inl, inr}
 use Rattle.std.proofs.lemmas.Result.{IfOk-weaker}
-use Rattle.auction_reading.proofs.ProgressLemmas.{reads_on_none}
+use Rattle.auction_reading.specs.Said.{read_by}
+use Rattle.auction_reading.proofs.SaidLemmas.{has_read_none}
 use Rattle.auction_reading.proofs.plain_text.read_other.Goals as goal
 
 pub returns-in-Some-clause-after : goal.returns-in-Some-clause-after
@@ -17,4 +18,4 @@ pub returns-in-Some-clause-reads : goal.returns-in-Some-clause-reads
 returns-in-Some-clause-reads c = IfOk-weaker c.add_line.result _ _ (λ place reads. reads c.args.text.now c.in-Some.ensures) c.add_line.ensures.reads
 
 pub returns-in-None-clause-reads : goal.returns-in-None-clause-reads
-returns-in-None-clause-reads c = reads_on_none c.args.progress.now (drop c.args.at c.args.text.now) (omega arith)
+returns-in-None-clause-reads c = has_read_none (read_by c.args.progress.now) (drop c.args.at c.args.text.now) (omega arith)

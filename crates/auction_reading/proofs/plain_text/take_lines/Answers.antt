@@ -2,6 +2,7 @@ use Rattle.std.proofs.Common.{arith, ◌≤◌, ◌+◌, ◌-◌, take, drop}
 use Rattle.std.proofs.lemmas.Grind.{common_steps}
 use Rattle.record_reading.proofs.BufferLemmas.{ends_later, held, moved}
 use Rattle.auction_reading.proofs.ProgressLemmas.{reads_on_before}
+use Rattle.auction_reading.proofs.SaidLemmas.{read_on}
 use Rattle.auction_reading.proofs.plain_text.take_lines.Goals as goal
 
 pub read_plain-requires-clause-ends : goal.read_plain-requires-clause-ends
@@ -20,7 +21,7 @@ returns-clause-reads c =
     let before : at ≤ end = grind (arith, common_steps) in
     let tail = take (filled - end) (drop end buffer) in
     rw (held buffer filled end within, c.copy_within.ensures.after, ← moved buffer at end filled before within c.requires.filled)
-    (reads_on_before c.args.progress.now c.read_plain.new.progress (take end buffer) (drop at (take end buffer)) tail c.in_ok-at.ensures.reads)
+    (reads_on_before c.args.progress.now c.read_plain.new.progress (take end buffer) (drop at (take end buffer)) tail (read_on c.args.progress.now c.read_plain.new.progress (take end buffer) (drop at (take end buffer)) c.in_ok-at.ensures.reads))
 
 pub returns-clause-some : goal.returns-clause-some
 returns-clause-some c =

@@ -1,4 +1,4 @@
-use Rattle.phase_permits.proofs.KeyLemmas.{lines_put, idle_put}
+use Rattle.phase_transactions.proofs.KeyLemmas.{lines_put, idle_put}
 use Rattle.closing_laws.proofs.commits.one_shard_put.Goals as goal
 
 pub returns-clause-lines : goal.returns-clause-lines

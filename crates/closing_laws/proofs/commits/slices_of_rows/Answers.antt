@@ -1,4 +1,4 @@
-use Rattle.phase_permits.proofs.RowSlices.{row_more, few_rows}
+use Rattle.worker_slices.proofs.RowSlices.{row_more, few_rows}
 use Rattle.closing_laws.proofs.commits.slices_of_rows.Goals as goal
 
 pub returns-clause-one_more : goal.returns-clause-one_more

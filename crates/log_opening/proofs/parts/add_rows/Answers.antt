@@ -14,7 +14,7 @@ returns-in-Err-clause-refused c = λ book start.
     let within : c.loop-place.place < length all = search rules in
     let was = c.loop-place.invariant.added book start in
     first_refused c.args.auction.now mid book all c.loop-place.place opened within c.index-opened-place.is rows c.loop-place.invariant.same was c.in-Err.fault
-    (not_taken mid (book ++ rows) opened c.add.result c.in-Err.fault c.in-Err.is was.start c.add.ensures.too_long.0 c.add.ensures.bad_row)
+    (not_taken mid (book ++ rows) opened c.add.result c.in-Err.fault c.in-Err.is was.start c.add.ensures.too_long.0 c.add.ensures.refused c.add.ensures.bad_row)
 
 pub returns-in_default-clause-refused : goal.returns-in_default-clause-refused
 returns-in_default-clause-refused c = λ book start.

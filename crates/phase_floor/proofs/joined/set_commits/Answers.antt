@@ -1,9 +1,9 @@
 use Rattle.std.proofs.Common.{arith, ◌≡◌, ◌<◌, length, set, refl, ap, sym, ◌∙◌}
 use Rattle.std.proofs.lemmas.List.{get_or_read}
 use Rattle.std.proofs.lemmas.List.Edits.{map_over_more}
-use Rattle.phase_permits.specs.declared.worker.Counters.{Counters}
+use Rattle.worker_slices.specs.declared.counters.Counters.{Counters}
 use Rattle.closing_laws.specs.Standing.{counters_at, stores}
-use Rattle.phase_permits.specs.Workers.{no_counters}
+use Rattle.phase_transactions.specs.Workers.{no_counters}
 use Rattle.phase_floor.specs.NextRun.{stores_as_commits}
 use Rattle.phase_floor.proofs.joined.set_commits.Goals as goal
 

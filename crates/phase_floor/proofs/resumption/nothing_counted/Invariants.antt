@@ -1,5 +1,5 @@
 use Rattle.std.proofs.Common.{◌≡◌, replicate}
-use Rattle.phase_permits.specs.Workers.{no_counters}
+use Rattle.phase_transactions.specs.Workers.{no_counters}
 use Rattle.phase_floor.proofs.resumption.nothing_counted.Given as goal
 
 abbrev pub invariant-loop-made : goal.invariant-loop-made

@@ -4,8 +4,8 @@ use Rattle.std.proofs.lemmas.Option.{get_or_from_slice_get}
 use Rattle.auction_rows.specs.declared.requests.Object.{Object}
 use Rattle.auction_rows.specs.declared.requests.Request.{Request}
 use Rattle.auction_rows.specs.Phases.{is_put_off}
-use Rattle.phase_permits.specs.Workers.{WorkerState}
-use Rattle.phase_permits.specs.Performing.{HaveOpening}
+use Rattle.phase_transactions.specs.Workers.{WorkerState}
+use Rattle.phase_transactions.specs.Performing.{HaveOpening}
 use Rattle.run_laws.specs.Turns.{numbered}
 use Rattle.run_laws.proofs.QuotaLemmas.{next_call}
 use Rattle.phase_workers.specs.Working.{calls_from, committed, stashed, hot_for, put_off, not_put_off, HasStopped}

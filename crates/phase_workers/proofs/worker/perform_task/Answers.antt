@@ -2,7 +2,7 @@ use Rattle.std.proofs.Common.{ℕ, ◌+◌, ◌≤◌, Bool, true, false, cond, 
 use Rattle.std.proofs.lemmas.Result.{IfErr-weaker}
 use Rattle.auction_rows.specs.declared.limits.TheConstants.{MOST_TRIES}
 use Rattle.auction_rows.specs.declared.requests.Request.{Request}
-use Rattle.phase_permits.specs.Workers.{WorkerState}
+use Rattle.phase_transactions.specs.Workers.{WorkerState}
 use Rattle.phase_workers.specs.Tasks.{task, HasMetFault}
 use Rattle.phase_workers.specs.Working.{calls_from, stashed, taken, HasStopped}
 use Rattle.phase_workers.proofs.WorkLemmas.{on_ok3, task_done, err_as, stopped_early, stopped_late}

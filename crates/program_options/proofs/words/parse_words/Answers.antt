@@ -1,7 +1,7 @@
 use Rattle.std.proofs.Common.{map, refl, string_bytes}
 use Rattle.clap.specs.Matches.{has_subcommand}
 use Rattle.clap.specs.Simple.{app_of}
-use Rattle.program_options.proofs.WordLemmas.{no_fault, numbers_parsed, only_memory, texts_found, values_found}
+use Rattle.program_options.proofs.WordLemmas.{given_found, no_fault, numbers_parsed, only_memory, texts_found, values_found}
 use Rattle.program_options.proofs.words.parse_words.Goals as goal
 
 pub returns-in-Ok-clause-texts : goal.returns-in-Ok-clause-texts
@@ -11,6 +11,10 @@ returns-in-Ok-clause-texts c = λ free.
 pub returns-in-Ok-clause-values : goal.returns-in-Ok-clause-values
 returns-in-Ok-clause-values c = λ free.
     values_found (app_of c.args.command) free (map string_bytes c.args.words.now) _ c.in-Ok.matches c.in-Ok.ensures.ok.2 refl
+
+pub returns-in-Ok-clause-given : goal.returns-in-Ok-clause-given
+returns-in-Ok-clause-given c = λ free.
+    given_found (app_of c.args.command) free (map string_bytes c.args.words.now) _ c.in-Ok.matches c.in-Ok.ensures.ok.2 refl
 
 pub returns-in-Ok-clause-numbers : goal.returns-in-Ok-clause-numbers
 returns-in-Ok-clause-numbers c = λ free.

@@ -1,154 +1,42 @@
-use Rattle.std.proofs.Common.{◌≡◌, List, [], Some, subst}
+use Rattle.std.proofs.Common.{◌≡◌, Option, None, Some, IfSome, MatchOption, List, refl, subst}
 use Rattle.auction_rows.specs.Book.{Book}
-use Rattle.auction_text.specs.Scripts.{asked_of}
 use Rattle.auction_text.specs.ReadFault.TheVariants as read
 use Rattle.auction_text.specs.Said.{Said}
+use Rattle.phase_floor.specs.Adding.{HasBook}
 use Rattle.part_log.specs.declared.log.Teller.{Teller}
 use Rattle.program_opening.specs.declared.faults.Fault.{Fault}
 use Rattle.program_opening.specs.declared.faults.Fault.TheVariants.{Read}
-use Rattle.program_serving.specs.PartRuns.{GoesOnTo, IsSession, MayHaveToSay}
+use Rattle.program_serving.specs.PartRuns.{GoesOnTo, IsSession}
 use Rattle.program_serving.specs.ServeFaults.{IsServeFault}
-use Rattle.program_serving.specs.Serving.{AreTold, book_left}
+use Rattle.program_serving.specs.Serving.{AreTold}
 use Rattle.program_opening.proofs.ErrorLemmas.{error_is}
-use Rattle.program_serving.proofs.PartSteps.{part_fails, part_goes_on, part_served}
-use Rattle.program_serving.proofs.RowsBefore.{no_late_row}
-use Rattle.program_serving.proofs.Sessions.{answer_stops_all, is_none, part_read, session_answered, session_ends, session_passed, session_stops}
+use Rattle.program_serving.proofs.Sessions.{session_stops}
 use Rattle.program_serving.proofs.ToldLemmas.{nothing_told}
 use Rattle.program_serving.proofs.session.serve_lines.Goals as goal
 
-pub returns-in_default-clause-all : goal.returns-in_default-clause-all
-returns-in_default-clause-all g c = λ book all start session.
-    let remaining = g.I.Read.remaining in
-    let accepted = g.L.Log.accepted in
-    let contents = g.W.Write.contents in
-    let options = c.args.options.now in
-    let new = c.pass_fault.new.teller.teller in
-    let left = c.in_ok-left.field-0 in
-    let before = c.loop.invariant.session book all start session in
-    let passed = session_passed accepted contents options book all start c.loop.teller.teller new c.loop.served (GoesOnTo remaining options.workers c.loop.end) before remaining left
-    (c.in_ok-left.ensures.passes remaining options.workers before.rest before.left) in
-    let none : passed.rest ≡ [] = subst (λ o. MayHaveToSay remaining options.workers o passed.rest) (is_none left c.in_default.not-Some) passed.left in
-    session_ends accepted contents options book all start new new c.loop.served (MayHaveToSay remaining options.workers left) passed none
+at_none : {T : Type 0} (known : Option T) (P : Type 0) (Q : T → Type 0) → ((x : T) → known ≡ Some x → ⊥) → MatchOption known P Q → P
+at_none None P Q not_some holds = holds
+at_none (Some x) P Q not_some holds = absurd (not_some x refl)
+
+at_some : {T : Type 0} (known : Option T) (x : T) (P : Type 0) (Q : T → Type 0) → known ≡ Some x → MatchOption known P Q → Q x
+at_some known x P Q is holds = subst (λ o. MatchOption o P Q) is holds
 
 pub loop-preserved : goal.loop-preserved
 loop-preserved g c = record {
-  has = c.in_ok-done.ensures.has;
-  session = λ book all start session.
-      let remaining = g.I.Read.remaining in
-      let accepted = g.L.Log.accepted in
-      let contents = g.W.Write.contents in
-      let options = c.args.options.now in
-      let mid = c.pass_fault.new.teller.teller in
-      let next = c.serve_part.new.teller.teller in
-      let before = c.loop.invariant.session book all start session in
-      let passed = subst (λ left. IsSession options book all c.loop.served (MayHaveToSay remaining options.workers left) (AreTold accepted contents start mid)) c.in-Some.is
-      (session_passed accepted contents options book all start c.loop.teller.teller mid c.loop.served (GoesOnTo remaining options.workers c.loop.end) before remaining c.in_ok-left.field-0
-      (c.in_ok-left.ensures.passes remaining options.workers before.rest before.left)) in
-      let part = c.in_ok-input.field-0 in
-      let Next : List Said → Type 0 = GoesOnTo remaining options.workers part.end in
-      let reads = part_read remaining options _ c.most_of_a_part.result c.most_of_a_part.ensures.asked passed.left.0 passed.rest part (c.in_ok-input.ensures.part passed.rest passed.left.1) c.in_ok-input.ensures.workers in
-      let free = no_late_row remaining c.in-Some.left passed.rest passed.left.1 in
-      let done = c.in_ok-done.done in
-      session_answered accepted contents options book all start next c.tell_past.new.teller.teller done.served Next done.past
-      (part_served accepted contents options book all start mid next c.loop.served (MayHaveToSay remaining options.workers (Some c.in-Some.left)) passed c.most_of_a_part.result (asked_of part.input) Next reads free
-      c.most_of_a_part.ensures.few c.most_of_a_part.ensures.room done.past done.served c.in_ok-done.ensures.past c.in_ok-done.ensures.rows c.in_ok-done.ensures.serves)
-      (part_goes_on accepted contents options book all start mid next c.loop.served (MayHaveToSay remaining options.workers (Some c.in-Some.left)) passed c.most_of_a_part.result (asked_of part.input) Next reads free
-      c.most_of_a_part.ensures.few c.most_of_a_part.ensures.room done.past c.in_ok-done.ensures.past)
-      c.in_ok-tell_past.ensures.told;
+  has = subst (λ next. IfSome next (λ s. HasBook s.served.auction)) c.in-Some.is c.in_ok-next.ensures.has;
+  session = λ book all start session. at_some c.in_ok-next.field-0 c.in-Some.next _ _ c.in-Some.is (c.in_ok-next.ensures.goes_on book all start (c.loop.invariant.session book all start session));
 }
 
-pub returns-in_err-left-clause-cause : goal.returns-in_err-left-clause-cause
-returns-in_err-left-clause-cause g c =
-    let remaining = g.I.Read.remaining in
-    let accepted = g.L.Log.accepted in
-    let contents = g.W.Write.contents in
-    let options = c.args.options.now in
-    let old = c.loop.teller.teller in
-    let mid = c.pass_fault.new.teller.teller in
-    let fault = c.in_err-left.field-0.0 in
-    error_is c.from_residual.result fault (λ (f : Fault). (book : Book) (all : List Said) (start : Teller _ _)
-    → IsSession options book all c.args.session.served (GoesOnTo remaining options.workers c.args.session.end) (AreTold accepted contents start c.args.teller.now.teller)
-    → IsServeFault accepted contents start mid options book all f) c.from_residual.ensures
-    (λ book all start session.
-    let before = c.loop.invariant.session book all start session in
-    session_stops accepted contents options book all start old mid c.loop.served (GoesOnTo remaining options.workers c.loop.end) before fault
-    (c.in_err-left.ensures.stops remaining options.workers before.rest before.left (book_left options book before.steps) c.loop.served.rows))
+pub returns-in_default-clause-all : goal.returns-in_default-clause-all
+returns-in_default-clause-all g c = λ book all start session.
+    at_none c.in_ok-next.field-0 _ _ c.in_default.not-Some (c.in_ok-next.ensures.goes_on book all start (c.loop.invariant.session book all start session))
 
-pub returns-in_err-input-clause-cause : goal.returns-in_err-input-clause-cause
-returns-in_err-input-clause-cause g c =
-    let remaining = g.I.Read.remaining in
-    let accepted = g.L.Log.accepted in
-    let contents = g.W.Write.contents in
-    let options = c.args.options.now in
-    let old = c.loop.teller.teller in
-    let mid = c.pass_fault.new.teller.teller in
-    let fault = c.in_err-input.field-0.0 in
-    error_is c.from_residual-in_err-input.result (Read fault) (λ (f : Fault). (book : Book) (all : List Said) (start : Teller _ _)
-    → IsSession options book all c.args.session.served (GoesOnTo remaining options.workers c.args.session.end) (AreTold accepted contents start c.args.teller.now.teller)
-    → IsServeFault accepted contents start mid options book all f) c.from_residual-in_err-input.ensures
-    (λ book all start session.
-    let before = c.loop.invariant.session book all start session in
-    let passed = subst (λ left. IsSession options book all c.loop.served (MayHaveToSay remaining options.workers left) (AreTold accepted contents start mid)) c.in-Some.is
-    (session_passed accepted contents options book all start old mid c.loop.served (GoesOnTo remaining options.workers c.loop.end) before remaining c.in_ok-left.field-0
-    (c.in_ok-left.ensures.passes remaining options.workers before.rest before.left)) in
-    session_stops accepted contents options book all start mid mid c.loop.served (MayHaveToSay remaining options.workers (Some c.in-Some.left)) passed (Read fault)
-    (nothing_told accepted contents mid, λ input. absurd (c.in_err-input.ensures.fails input)))
-
-pub returns-in_err-done-clause-cause : goal.returns-in_err-done-clause-cause
-returns-in_err-done-clause-cause g c =
-    let remaining = g.I.Read.remaining in
-    let accepted = g.L.Log.accepted in
-    let contents = g.W.Write.contents in
-    let options = c.args.options.now in
-    let old = c.loop.teller.teller in
-    let mid = c.pass_fault.new.teller.teller in
-    let new = c.serve_part.new.teller.teller in
-    let fault = c.in_err-done.field-0.0 in
-    error_is c.from_residual-in_err-done.result fault (λ (f : Fault). (book : Book) (all : List Said) (start : Teller _ _)
-    → IsSession options book all c.args.session.served (GoesOnTo remaining options.workers c.args.session.end) (AreTold accepted contents start c.args.teller.now.teller)
-    → IsServeFault accepted contents start new options book all f) c.from_residual-in_err-done.ensures
-    (λ book all start session.
-    let before = c.loop.invariant.session book all start session in
-    let passed = subst (λ left. IsSession options book all c.loop.served (MayHaveToSay remaining options.workers left) (AreTold accepted contents start mid)) c.in-Some.is
-    (session_passed accepted contents options book all start old mid c.loop.served (GoesOnTo remaining options.workers c.loop.end) before remaining c.in_ok-left.field-0
-    (c.in_ok-left.ensures.passes remaining options.workers before.rest before.left)) in
-    let part = c.in_ok-input.field-0 in
-    let Next : List Said → Type 0 = GoesOnTo remaining options.workers part.end in
-    let reads = part_read remaining options _ c.most_of_a_part.result c.most_of_a_part.ensures.asked passed.left.0 passed.rest part (c.in_ok-input.ensures.part passed.rest passed.left.1) c.in_ok-input.ensures.workers in
-    part_fails accepted contents options book all start mid new c.loop.served (MayHaveToSay remaining options.workers (Some c.in-Some.left)) passed c.most_of_a_part.result (asked_of part.input) Next reads
-    (no_late_row remaining c.in-Some.left passed.rest passed.left.1) c.most_of_a_part.ensures.few c.most_of_a_part.ensures.room fault c.in_err-done.ensures.cause)
-
-pub returns-in_err-tell_past-clause-cause : goal.returns-in_err-tell_past-clause-cause
-returns-in_err-tell_past-clause-cause g c =
-    let remaining = g.I.Read.remaining in
-    let accepted = g.L.Log.accepted in
-    let contents = g.W.Write.contents in
-    let options = c.args.options.now in
-    let old = c.loop.teller.teller in
-    let mid = c.pass_fault.new.teller.teller in
-    let next = c.serve_part.new.teller.teller in
-    let new = c.tell_past.new.teller.teller in
-    let fault = c.in_err-tell_past.field-0.0 in
-    error_is c.from_residual-in_err-tell_past.result fault (λ (f : Fault). (book : Book) (all : List Said) (start : Teller _ _)
-    → IsSession options book all c.args.session.served (GoesOnTo remaining options.workers c.args.session.end) (AreTold accepted contents start c.args.teller.now.teller)
-    → IsServeFault accepted contents start new options book all f) c.from_residual-in_err-tell_past.ensures
-    (λ book all start session.
-    let before = c.loop.invariant.session book all start session in
-    let Left : List Said → Type 0 = MayHaveToSay remaining options.workers (Some c.in-Some.left) in
-    let passed = subst (λ left. IsSession options book all c.loop.served (MayHaveToSay remaining options.workers left) (AreTold accepted contents start mid)) c.in-Some.is
-    (session_passed accepted contents options book all start old mid c.loop.served (GoesOnTo remaining options.workers c.loop.end) before remaining c.in_ok-left.field-0
-    (c.in_ok-left.ensures.passes remaining options.workers before.rest before.left)) in
-    let part = c.in_ok-input.field-0 in
-    let Next : List Said → Type 0 = GoesOnTo remaining options.workers part.end in
-    let reads = part_read remaining options _ c.most_of_a_part.result c.most_of_a_part.ensures.asked passed.left.0 passed.rest part (c.in_ok-input.ensures.part passed.rest passed.left.1) c.in_ok-input.ensures.workers in
-    let free = no_late_row remaining c.in-Some.left passed.rest passed.left.1 in
-    let done = c.in_ok-done.done in
-    answer_stops_all accepted contents options book all start next new done.served Next done.past
-    (part_served accepted contents options book all start mid next c.loop.served Left passed c.most_of_a_part.result (asked_of part.input) Next reads free
-    c.most_of_a_part.ensures.few c.most_of_a_part.ensures.room done.past done.served c.in_ok-done.ensures.past c.in_ok-done.ensures.rows c.in_ok-done.ensures.serves)
-    (part_goes_on accepted contents options book all start mid next c.loop.served Left passed c.most_of_a_part.result (asked_of part.input) Next reads free
-    c.most_of_a_part.ensures.few c.most_of_a_part.ensures.room done.past c.in_ok-done.ensures.past)
-    fault c.in_err-tell_past.ensures.so_far)
+pub returns-in_err-next-clause-cause : goal.returns-in_err-next-clause-cause
+returns-in_err-next-clause-cause g c =
+    error_is c.from_residual.result c.in_err-next.field-0.0 (λ (f : Fault). (book : Book) (all : List Said) (start : Teller _ _)
+    → IsSession c.args.options.now book all c.args.session.served (GoesOnTo g.I.Read.remaining c.args.options.now.workers c.args.session.end) (AreTold g.L.Log.accepted g.W.Write.contents start c.args.teller.now.teller)
+    → IsServeFault g.L.Log.accepted g.W.Write.contents start c.serve_next.new.teller.teller c.args.options.now book all f) c.from_residual.ensures
+    (λ book all start session. c.in_err-next.ensures.cause book all start (c.loop.invariant.session book all start session))
 
 pub returns-clause-cause : goal.returns-clause-cause
 returns-clause-cause g c = λ book all start session.
@@ -156,5 +44,5 @@ returns-clause-cause g c = λ book all start session.
     let contents = g.W.Write.contents in
     let options = c.args.options.now in
     let now = c.loop.teller.teller in
-    session_stops accepted contents options book all start now now c.loop.served (GoesOnTo g.I.Read.remaining options.workers c.loop.end) (c.loop.invariant.session book all start session) (Read read.Read)
+    session_stops accepted contents options book all start now now c.loop.session.served (GoesOnTo g.I.Read.remaining options.workers c.loop.session.end) (c.loop.invariant.session book all start session) (Read read.Read)
     (nothing_told accepted contents now, λ input. absurd input)

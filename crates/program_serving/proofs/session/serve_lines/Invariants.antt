@@ -9,8 +9,8 @@ use Rattle.program_serving.proofs.session.serve_lines.Given as goal
 
 abbrev pub invariant-loop : goal.invariant-loop
 invariant-loop g l = record {
-  has : HasBook l.served.auction;
+  has : HasBook l.session.served.auction;
   session : (book : Book) (all : List Said) (start : Teller _ _)
       → IsSession l.options book all l.fn.session.served (GoesOnTo g.I.Read.remaining l.options.workers l.fn.session.end) (AreTold g.L.Log.accepted g.W.Write.contents start l.fn.teller.teller)
-      → IsSession l.options book all l.served (GoesOnTo g.I.Read.remaining l.options.workers l.end) (AreTold g.L.Log.accepted g.W.Write.contents start l.teller.teller);
+      → IsSession l.options book all l.session.served (GoesOnTo g.I.Read.remaining l.options.workers l.session.end) (AreTold g.L.Log.accepted g.W.Write.contents start l.teller.teller);
 }

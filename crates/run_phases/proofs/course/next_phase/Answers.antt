@@ -6,15 +6,6 @@ use Rattle.run_phases.proofs.RunLemmas.{stepped, may_perform}
 use Rattle.run_phases.proofs.StableLemmas.{may_still}
 use Rattle.run_phases.proofs.course.next_phase.Goals as goal
 
-pub perform_phase-requires-clause-may : goal.perform_phase-requires-clause-may
-perform_phase-requires-clause-may g c κs within =
-    let policy = c.args.plan.policy in
-    let scripts = c.args.plan.round.scripts.now in
-    let hot = c.in_ok-hot_now.hot_now.keys in
-    may_still policy scripts c.args.running.state c.args.running.stashes.items hot c.requires.counted c.in_ok-hot_now.ensures.joined
-    (λ never. c.requires.running (λ on.
-    never (may_perform policy scripts c.args.running c.requires.shards.some on c.requires.counted hot c.in_ok-hot_now.ensures.joined c.in_ok-hot_now.ensures.split)))
-
 pub returns-clause-running : goal.returns-clause-running
 returns-clause-running g c = λ opening rows is_book run.
     let phase = c.in_ok-next.ensures.performed in
@@ -31,3 +22,12 @@ returns-clause-grown g c =
 
 pub returns-clause-limit : goal.returns-clause-limit
 returns-clause-limit g c = c.in_ok-next.ensures.performed.closed.limit_is
+
+pub perform_phase-requires-clause-may : goal.perform_phase-requires-clause-may
+perform_phase-requires-clause-may g c κs within =
+    let policy = c.args.plan.policy in
+    let scripts = c.args.plan.round.scripts.now in
+    let hot = c.in_ok-hot_now.hot_now.keys in
+    may_still policy scripts c.args.running.state c.args.running.stashes.items hot c.requires.counted c.in_ok-hot_now.ensures.joined
+    (λ never. c.requires.running (λ on.
+    never (may_perform policy scripts c.args.running c.requires.shards.some on c.requires.counted hot c.in_ok-hot_now.ensures.joined c.in_ok-hot_now.ensures.split)))

@@ -1,5 +1,5 @@
 use Rattle.std.proofs.Common.{false, length, refl, ap, ◌∙◌}
-use Rattle.phase_permits.specs.Slicing.{hot_objects}
+use Rattle.worker_slices.specs.Slicing.{hot_objects}
 use Rattle.run_phases.proofs.PhaseLemmas.{only_memory, not_too_long, given_quotas}
 use Rattle.run_phases.proofs.phase.begin_joined_phase.Goals as goal
 

@@ -4,13 +4,14 @@ use Rattle.auction_rows.specs.Book.{Book}
 use Rattle.auction_rows.specs.Replies.{reply, row_of}
 use Rattle.auction_rows.specs.declared.rows.Row.{Row}
 use Rattle.item_shards.specs.Serial.{serial_opening, HoldsBook}
-use Rattle.item_shards.proofs.SerialLemmas.{goes_on, worker_of_added}
+use Rattle.item_shards.proofs.SerialLemmas.{goes_on, view_adds_none, worker_of_added}
 use Rattle.item_shards.proofs.serial.SerialAuction.perform_row.Goals as goal
 
-pub returns-in_default-clause-book : goal.returns-in_default-clause-book
-returns-in_default-clause-book c = λ b holds not_full.
+pub returns-then-is_view-clause-book : goal.returns-then-is_view-clause-book
+returns-then-is_view-clause-book c = λ b holds not_full.
     let start = serial_opening c.args.self.now in
-    let none = c.in_default.ensures.view (reply start b c.args.worker c.args.request.now) in
+    let request = c.args.request.now in
+    let none = view_adds_none c.args.worker request (reply start b c.args.worker request) (sym c.is_view.ensures ∙ c.if-is_view.true) in
     subst (λ (after : Book). HoldsBook c.args.self.now after) (sym (ap (λ (o : Option Row). b ++ option_to_list o) none ∙ append-nil b)) holds
 
 pub store-requires : goal.store-requires
@@ -19,9 +20,9 @@ store-requires c =
     let w = c.args.worker in
     let request = c.args.request.now in
     let b = c.requires.room.book in
-    let row = c.in-Some-row_of_store.row in
+    let row = c.in-Some.row in
     let is : row_of w request (reply start b w request) ≡ Some row =
-    ap (row_of w request) (sym (c.in-Some.ensures.reply b c.requires.room.holds)) ∙ sym c.row_of_store.ensures ∙ c.in-Some-row_of_store.is in
+    ap (row_of w request) (sym (c.reply_to_store-reply.ensures b c.requires.room.holds)) ∙ sym c.row_of_store.ensures ∙ c.in-Some.is in
     record {
       book = b;
       holds = c.requires.room.holds;
@@ -35,15 +36,15 @@ returns-in_ok-store-clause-book c = λ b holds not_full.
     let start = serial_opening c.args.self.now in
     let w = c.args.worker in
     let request = c.args.request.now in
-    let added : row_of w request (reply start b w request) ≡ Some c.in-Some-row_of_store.row =
-    ap (row_of w request) (sym (c.in-Some.ensures.reply b holds)) ∙ sym c.row_of_store.ensures ∙ c.in-Some-row_of_store.is in
+    let added : row_of w request (reply start b w request) ≡ Some c.in-Some.row =
+    ap (row_of w request) (sym (c.reply_to_store-reply.ensures b holds)) ∙ sym c.row_of_store.ensures ∙ c.in-Some.is in
     subst (λ (o : Option Row). HoldsBook c.store.new.self (b ++ option_to_list o)) (sym added) (c.in_ok-store.ensures.stored b holds not_full)
 
-pub returns-in_default-row_of_store-clause-book : goal.returns-in_default-row_of_store-clause-book
-returns-in_default-row_of_store-clause-book c = λ b holds not_full.
+pub returns-in_default-clause-book : goal.returns-in_default-clause-book
+returns-in_default-clause-book c = λ b holds not_full.
     let start = serial_opening c.args.self.now in
     let w = c.args.worker in
     let request = c.args.request.now in
     let none : row_of w request (reply start b w request) ≡ None =
-    ap (row_of w request) (sym (c.in-Some.ensures.reply b holds)) ∙ sym c.row_of_store.ensures ∙ c.in_default-row_of_store.is in
+    ap (row_of w request) (sym (c.reply_to_store-reply.ensures b holds)) ∙ sym c.row_of_store.ensures ∙ c.in_default.is in
     subst (λ (after : Book). HoldsBook c.args.self.now after) (sym (ap (λ (o : Option Row). b ++ option_to_list o) none ∙ append-nil b)) holds

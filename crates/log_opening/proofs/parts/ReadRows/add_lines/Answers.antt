@@ -4,25 +4,23 @@ use Rattle.item_shards.specs.declared.openings.Opened.{Opened}
 use Rattle.auction_text.specs.RowLines.{rows_text}
 use Rattle.auction_text.specs.Scripts.{Asked, input_of}
 use Rattle.log_opening.specs.Differences.{IsFirstDifference}
-use Rattle.log_opening.specs.Opening.{AreNotRows, AreRefused}
 use Rattle.log_opening.specs.Parts.{AreRowsFrom, IsFirstRefused, rows_from}
-use Rattle.log_opening.specs.declared.opening.OpenFault.{OpenFault}
 use Rattle.log_opening.proofs.PartLemmas.{fault_place, line_low, place_within}
-use Rattle.log_opening.proofs.ReadingLemmas.{reads_added, row_refused, rows_within}
+use Rattle.log_opening.proofs.ReadingLemmas.{reads_added, rows_within}
 use Rattle.log_opening.proofs.parts.ReadRows.add_lines.Goals as goal
 
 pub counted_after-requires : goal.counted_after-requires
 counted_after-requires c =
     omega (arith, rows_within c.args.self.now c.requires.can.book c.requires.can.has, c.requires.can.room, fault_place c.workers.result c.args.lines.now c.in-Err.fault c.in-Err.ensures.fault)
 
-pub overflow_add-self : goal.overflow_add-self
-overflow_add-self c =
+pub overflow_add-result : goal.overflow_add-result
+overflow_add-result c =
     let first = c.in-Err-add_rows.ensures.refused c.requires.can.book c.requires.can.has.start in
     let rows = c.in-Ok.input.rows in
     omega (arith, rows_within c.args.self.now c.requires.can.book c.requires.can.has, c.requires.can.room, place_within _ _ _ _ _ _ _ first, ap (λ (all : List Opened). length all) c.as_slice.ensures.value, rows.ok.0, rows.ok.1, rows.small)
 
-pub overflow_add-self-in-Err-add_rows : goal.overflow_add-self-in-Err-add_rows
-overflow_add-self-in-Err-add_rows c =
+pub overflow_add-result-in-Err-add_rows : goal.overflow_add-result-in-Err-add_rows
+overflow_add-result-in-Err-add_rows c =
     let first = c.in-Err-add_rows.ensures.refused c.requires.can.book c.requires.can.has.start in
     let rows = c.in-Ok.input.rows in
     omega (arith, rows_within c.args.self.now c.requires.can.book c.requires.can.has, c.requires.can.room, place_within _ _ _ _ _ _ _ first, ap (λ (all : List Opened). length all) c.as_slice.ensures.value, rows.ok.0, rows.ok.1, rows.small)
@@ -35,20 +33,17 @@ returns-in-Err-add_rows-clause-refused c = λ book has behind.
     let asked : Asked = record { rows = c.in-Ok.input.rows.items; scripts = c.in-Ok.input.scripts.items } in
     let place = c.in-Err-add_rows.field-0.place in
     let fault = c.in-Err-add_rows.field-0.fault in
-    let number = c.args.self.now.rows + place + 1 in
-    let refused : AreRefused auction.limit fault workers auction.opening book lines number = record {
+    record {
       are_lines = c.requires.lines;
       asked = asked;
       read = ap (λ (w : ℕ). input_of w lines) (sym c.workers.ensures.count) ∙ c.in-Ok.ensures.input;
       place = place;
       first = subst (λ (all : List Opened). IsFirstRefused auction.limit fault workers auction.opening book all place) c.as_slice.ensures.value (c.in-Err-add_rows.ensures.refused book has.start);
       number_is = ap (λ (n : ℕ). n + place + 1) has.rows;
-    } in
-    subst (λ (f : OpenFault). AreNotRows f auction.limit workers auction.opening book lines behind) (sym c.row_fault.ensures)
-    (row_refused auction.limit number fault workers auction.opening book lines behind refused)
+    }
 
-pub overflow_add-result : goal.overflow_add-result
-overflow_add-result c =
+pub overflow_add-result-in-Ok-Some : goal.overflow_add-result-in-Ok-Some
+overflow_add-result-in-Ok-Some c =
     omega (arith, rows_within c.args.self.now c.requires.can.book c.requires.can.has, c.requires.can.room, c.line_at.ensures, line_low c.args.lines.now c.in-Ok-Some.at)
 
 pub returns-in-Ok-Some-clause-refused : goal.returns-in-Ok-Some-clause-refused
@@ -70,6 +65,11 @@ returns-in-Ok-Some-clause-refused c = λ book has behind.
       differs = subst (λ (rows : Book). IsFirstDifference lines (rows_text rows []) at) c.as_slice-2.ensures.value first;
       number_is = ap (λ (n : ℕ). n + c.line_at.result) has.rows ∙ ap (λ (n : ℕ). length book + n) c.line_at.ensures;
     }
+
+pub overflow_add-self : goal.overflow_add-self
+overflow_add-self c =
+    let added = c.in-Ok-add_rows.added in
+    omega (arith, rows_within c.args.self.now c.requires.can.book c.requires.can.has, c.requires.can.room, c.len.ensures, added.ok.0, added.ok.1, added.small)
 
 pub overflow_add-self-2 : goal.overflow_add-self-2
 overflow_add-self-2 c =

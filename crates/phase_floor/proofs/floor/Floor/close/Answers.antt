@@ -10,7 +10,7 @@ use Rattle.worker_journals.proofs.AddedLemmas.{added_front, last_merged}
 use Rattle.closing_laws.specs.Phases.{journal_of}
 use Rattle.phase_floor.specs.Closings.{HasReconciled}
 use Rattle.phase_floor.specs.Floors.{FloorState, IsOpen}
-use Rattle.phase_permits.specs.Workers.{IsEmptyIf}
+use Rattle.phase_transactions.specs.Workers.{IsEmptyIf}
 use Rattle.phase_floor.proofs.Closings.{nothing_added, in_order, are_spent}
 use Rattle.phase_floor.proofs.Cold.{all_kept, has_settled}
 use Rattle.phase_floor.proofs.Leaving.{shards_one, slices_known, slices_can, reconciled, kept_left, leaves}

@@ -2,7 +2,7 @@ use Rattle.std.proofs.Common.{◌≡◌, ℕ, ◌+◌, ◌<◌, get_or, length, 
 use Rattle.std.proofs.lemmas.List.{get_or_read}
 use Rattle.std.specs.Vec.Iter.{into_iter_items}
 use Rattle.shard_boxes.proofs.Each.{at_head, each_push, drop_next}
-use Rattle.phase_permits.specs.Workers.{IsEmptyIf, new_worker, no_counters}
+use Rattle.phase_transactions.specs.Workers.{IsEmptyIf, new_worker, no_counters}
 use Rattle.closing_laws.specs.Standing.{counters_at}
 use Rattle.phase_floor.specs.Floors.{FloorState, IsOpen, IsNewPermit, stash_at}
 use Rattle.phase_floor.proofs.Begins.{begun_next, can_start, kit_cold}

@@ -1,6 +1,6 @@
 use Rattle.std.proofs.Common.{◌≡◌, ℕ, ◌+◌, ◌<◌, ◌≤◌, get_or, drop, vec_len, vec_capacity}
 use Rattle.std.specs.Vec.Iter.{into_iter_items, into_iter_len}
-use Rattle.phase_permits.specs.Workers.{WorkerState}
+use Rattle.phase_transactions.specs.Workers.{WorkerState}
 use Rattle.phase_floor.specs.Floors.{stash_at, IsNewPermit}
 use Rattle.phase_floor.proofs.floor.Floor.give.Given as goal
 

@@ -2,9 +2,9 @@ use Rattle.std.proofs.Common.{[], List, refl, sym, ap, ◌∙◌, subst}
 use Rattle.std.proofs.lemmas.Bool.{false≢true}
 use Rattle.std.specs.List.{IsDistinct}
 use Rattle.auction_rows.specs.Requests.{same_object}
-use Rattle.phase_permits.specs.Slicing.{hot_objects}
-use Rattle.phase_permits.specs.Stashes.{StashState}
-use Rattle.phase_permits.proofs.Places.{distinct_objects}
+use Rattle.worker_slices.specs.Slicing.{hot_objects}
+use Rattle.worker_slices.specs.Stashes.{StashState}
+use Rattle.worker_slices.proofs.Places.{distinct_objects}
 use Rattle.phase_floor.specs.Begins.{HaveStashRoom, IsTooLong}
 use Rattle.phase_floor.specs.Floors.{AreBegun}
 use Rattle.phase_floor.specs.States.{JoinedState, DoAllExist, states_of}

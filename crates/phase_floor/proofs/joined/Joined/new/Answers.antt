@@ -1,7 +1,7 @@
 use Rattle.std.proofs.Common.{◌≡◌, length, replicate, ap, ◌∙◌, arith}
 use Rattle.std.proofs.lemmas.List.{length-replicate}
 use Rattle.auction_rows.specs.declared.limits.TheConstants.{MOST_OF_A_WORKER}
-use Rattle.phase_permits.specs.Workers.{no_counters}
+use Rattle.phase_transactions.specs.Workers.{no_counters}
 use Rattle.phase_floor.proofs.Blank.{blank_stands, blank_kept}
 use Rattle.phase_floor.proofs.joined.Joined.new.Goals as goal
 

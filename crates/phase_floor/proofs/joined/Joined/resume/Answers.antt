@@ -5,7 +5,7 @@ use Rattle.auction_rows.specs.Book.{Book, worker_of}
 use Rattle.auction_rows.specs.History.{GoOn, IsBook}
 use Rattle.item_shards.specs.OpeningRows.{rows_by}
 use Rattle.item_shards.proofs.SerialLemmas.{next_goes_on, one_more}
-use Rattle.phase_permits.specs.declared.worker.Counters.{Counters}
+use Rattle.worker_slices.specs.declared.counters.Counters.{Counters}
 use Rattle.closing_laws.specs.Standing.{counters_at}
 use Rattle.phase_floor.specs.Resuming.{counters_in}
 use Rattle.phase_floor.specs.States.{IsBookOf, StandsFor}

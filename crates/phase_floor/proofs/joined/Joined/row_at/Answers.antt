@@ -2,14 +2,14 @@ use Rattle.std.proofs.Common.{◌≡◌, ◌<◌, None, length, sym, ap, subst, 
 use Rattle.std.proofs.lemmas.List.{get_or_read}
 use Rattle.auction_rows.specs.Replies.{answer, answer_unless, reply, row_of}
 use Rattle.phase_permits.specs.Replying.{CountsOf}
-use Rattle.phase_permits.specs.Workers.{no_counters}
+use Rattle.phase_transactions.specs.Workers.{no_counters}
 use Rattle.closing_laws.specs.Standing.{counters_at}
 use Rattle.phase_floor.specs.States.{JoinedState}
 use Rattle.phase_floor.proofs.RowLemmas.{view_adds_none}
 use Rattle.phase_floor.proofs.joined.Joined.row_at.Goals as goal
 
 pub returns-in_err-stored : goal.returns-in_err-stored
-returns-in_err-stored c = λ book stands.
+returns-in_err-stored c = λ book stands accepted.
     let w = c.args.opened.now.worker in let request = c.args.opened.now.request in
     let below : w < length c.self.inside.counters.items = omega (arith, c.requires, ap (λ (s : JoinedState). length s.counters) c.self.view_is) in
     let read = get_or_read c.self.inside.counters.items w c.index.result.now below c.index.ensures no_counters ∙ ap (λ (s : JoinedState). counters_at s.counters w) c.self.view_is in
@@ -17,10 +17,9 @@ returns-in_err-stored c = λ book stands.
     none ∙ sym (view_adds_none w request (reply c.args.self.now.opening book w request) (c.in_err-stored.ensures book (subst (CountsOf book w) (sym read) (stands.counts w c.requires))))
 
 pub returns : goal.returns
-returns c = λ book stands.
+returns c = λ book stands accepted.
     let w = c.args.opened.now.worker in let request = c.args.opened.now.request in
     let below : w < length c.self.inside.counters.items = omega (arith, c.requires, ap (λ (s : JoinedState). length s.counters) c.self.view_is) in
     let read = get_or_read c.self.inside.counters.items w c.index.result.now below c.index.ensures no_counters ∙ ap (λ (s : JoinedState). counters_at s.counters w) c.self.view_is in
-    let none : c.refusal.result ≡ None = search rules in
     let told = (c.in_ok-stored.ensures book (subst (CountsOf book w) (sym read) (stands.counts w c.requires))).1 in
-    c.row_of_store.ensures ∙ ap (row_of w request) (told ∙ ap (λ o. answer_unless o (answer book w request)) (sym none ∙ c.refusal.ensures book stands))
+    c.row_of_store.ensures ∙ ap (row_of w request) (told ∙ ap (λ o. answer_unless o (answer book w request)) (sym accepted))

@@ -5,7 +5,7 @@ use Rattle.auction_rows.specs.declared.requests.Object.{Object}
 use Rattle.auction_rows.specs.declared.requests.Object.TheVariants.{Item}
 use Rattle.auction_rows.specs.declared.requests.Facts.{Facts}
 use Rattle.phase_laws.proofs.OrderLemmas.{all_push}
-use Rattle.phase_permits.specs.Slicing.{hot_objects, IsStocked}
+use Rattle.worker_slices.specs.Slicing.{hot_objects, IsStocked}
 use Rattle.closing_laws.specs.Phases.{IsReadFrom}
 use Rattle.phase_floor.specs.States.{DoesExist, states_of}
 use Rattle.phase_floor.proofs.Every.{at_place}

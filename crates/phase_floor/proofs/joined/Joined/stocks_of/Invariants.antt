@@ -1,6 +1,6 @@
 use Rattle.std.proofs.Common.{◌≡◌, take}
 use Rattle.std.specs.List.{AllByRecursion}
-use Rattle.phase_permits.specs.Slicing.{hot_objects, IsStocked}
+use Rattle.worker_slices.specs.Slicing.{hot_objects, IsStocked}
 use Rattle.closing_laws.specs.Phases.{IsReadFrom}
 use Rattle.phase_floor.specs.States.{states_of}
 use Rattle.phase_floor.proofs.joined.Joined.stocks_of.Given as goal

@@ -1,5 +1,5 @@
 use Rattle.std.proofs.Common.{sym, subst}
-use Rattle.phase_permits.specs.Workers.{CanStart, new_worker}
+use Rattle.phase_transactions.specs.Workers.{CanStart, new_worker}
 use Rattle.phase_permits.proofs.kinds.Permit+N+JoinedPhase.new.Goals as goal
 
 pub from_start-requires-clause-can : goal.from_start-requires-clause-can

@@ -1,9 +1,9 @@
 use Rattle.std.proofs.Common.{length, sym, ap, subst}
 use Rattle.std.specs.Prelude.{is_some}
-use Rattle.phase_permits.specs.Homes.{IsHotStore}
-use Rattle.phase_permits.specs.Performing.{HasCommitted, HasCommittedSome}
-use Rattle.phase_permits.specs.Workers.{WorkerState, IsExplained}
-use Rattle.phase_permits.proofs.EmptyLemmas.{hot_commits}
+use Rattle.worker_slices.specs.Homes.{IsHotStore}
+use Rattle.phase_transactions.specs.Performing.{HasCommitted, HasCommittedSome}
+use Rattle.phase_transactions.specs.Workers.{WorkerState, IsExplained}
+use Rattle.phase_transactions.proofs.EmptyLemmas.{hot_commits}
 use Rattle.phase_permits.proofs.LastLemmas.{some_entry, as_read}
 use Rattle.phase_permits.proofs.PermitLemmas.{commit_explained}
 use Rattle.phase_permits.proofs.RightLemmas.{model_reply}

@@ -9,8 +9,8 @@ use Rattle.shard_boxes.specs.Helds.{taken_at}
 use Rattle.shard_boxes.specs.Keys.{putting, seen_at}
 use Rattle.shard_boxes.specs.Lines.{after_line, seen_line}
 use Rattle.shard_boxes.specs.States.{ShardState, state_of}
-use Rattle.phase_permits.specs.Workers.{IsIdle}
-use Rattle.phase_permits.proofs.KeyLemmas.{idle_put}
+use Rattle.phase_transactions.specs.Workers.{IsIdle}
+use Rattle.phase_transactions.proofs.KeyLemmas.{idle_put}
 use Rattle.phase_tests.proofs.permits.ClosedLemmas.{first_has}
 use Rattle.phase_tests.proofs.boxes.line_tests.put_by_hand.Goals as goal
 

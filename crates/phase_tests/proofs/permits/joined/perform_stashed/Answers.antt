@@ -1,5 +1,5 @@
 use Rattle.std.proofs.Common.{sym, subst, ◌∙◌}
-use Rattle.phase_permits.specs.Performing.{HaveOpening}
+use Rattle.phase_transactions.specs.Performing.{HaveOpening}
 use Rattle.phase_tests.proofs.permits.AnswerLemmas.{performed_first}
 use Rattle.phase_tests.proofs.permits.joined.perform_stashed.Goals as goal
 

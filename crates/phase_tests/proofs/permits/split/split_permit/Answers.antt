@@ -2,8 +2,8 @@ use Rattle.std.proofs.Common.{◌≡◌, [], length, sym, ap, ◌∙◌, arith}
 use Rattle.std.proofs.lemmas.Result.{IfOk-at_ok}
 use Rattle.auction_rows.specs.declared.requests.Object.TheVariants.{Item}
 use Rattle.auction_rows.specs.Footprint.{is_hot}
-use Rattle.phase_permits.specs.Slicing.{hot_objects, slices_of, stocks_of}
-use Rattle.phase_permits.proofs.Places.{stocks_of_rows}
+use Rattle.worker_slices.specs.Slicing.{hot_objects, slices_of, stocks_of}
+use Rattle.worker_slices.proofs.Places.{stocks_of_rows}
 use Rattle.phase_floor.proofs.HotItems.{objects_of_slices}
 use Rattle.phase_tests.proofs.permits.HotLemmas.{stash_room}
 use Rattle.worker_journals.specs.Journals.{JournalView}

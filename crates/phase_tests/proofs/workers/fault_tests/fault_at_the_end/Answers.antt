@@ -5,8 +5,8 @@ use Rattle.auction_rows.specs.declared.requests.Request.{Request}
 use Rattle.shard_boxes.specs.Keys.{BoxId}
 use Rattle.shard_boxes.specs.States.{ShardState}
 use Rattle.worker_journals.specs.Journals.{JournalView}
-use Rattle.phase_permits.specs.Workers.{WorkerState}
-use Rattle.phase_permits.specs.Performing.{HaveOpening}
+use Rattle.phase_transactions.specs.Workers.{WorkerState}
+use Rattle.phase_transactions.specs.Performing.{HaveOpening}
 use Rattle.phase_workers.specs.Tasks.{task, tasks, CanBeDone}
 use Rattle.phase_workers.specs.Working.{stashed, ArePermitsOf, IsPermitOf}
 use Rattle.phase_tests.proofs.workers.fault_tests.fault_at_the_end.Goals as goal

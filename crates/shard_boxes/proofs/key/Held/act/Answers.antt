@@ -7,11 +7,16 @@ use Rattle.shard_boxes.specs.States.{state_of}
 use Rattle.shard_boxes.proofs.EventLemmas.{line_follows, line_done}
 use Rattle.shard_boxes.proofs.key.Held.act.Goals as goal
 
-pub apply_acts-requires-clause-later : goal.apply_acts-requires-clause-later
-apply_acts-requires-clause-later g c = subst (λ (h : HeldState). clock h.shard < c.args.number) (sym c.self.view_is) c.requires.later
-
-pub apply_acts-requires-clause-can : goal.apply_acts-requires-clause-can
-apply_acts-requires-clause-can g c = subst (λ (h : HeldState). CanDo h.shard c.args.acts.now) (sym c.self.view_is) c.requires.can
+pub returns-clause-after : goal.returns-clause-after
+returns-clause-after g c =
+    let old = c.self.inside.shard in
+    let new = c.apply_acts.new.self in
+    let made = c.apply_acts.ensures in
+    let line = line_of c.of.result c.of-2.result c.of-4.result c.of-3.result in
+    subst (λ (h : HeldState). state_of new ≡ after_line (state_of h.shard) line) c.self.view_is
+    (line_done old c.args.number c.args.index c.args.acts.now line
+    (λ i. line_of (c.of.ensures i) (c.of-2.ensures i) (c.of-4.ensures i) (c.of-3.ensures i))
+    new c.type_inv.acts made.same made.contents made.clock)
 
 pub returns-clause-line : goal.returns-clause-line
 returns-clause-line g c =
@@ -24,13 +29,8 @@ returns-clause-follows g c =
     line_follows c.args.self.now.shard c.args.number c.args.index c.args.acts.now _
     (λ i. line_of (c.of.ensures i) (c.of-2.ensures i) (c.of-4.ensures i) (found i)) c.requires.later
 
-pub returns-clause-after : goal.returns-clause-after
-returns-clause-after g c =
-    let old = c.self.inside.shard in
-    let new = c.apply_acts.new.self in
-    let made = c.apply_acts.ensures in
-    let line = line_of c.of.result c.of-2.result c.of-4.result c.of-3.result in
-    subst (λ (h : HeldState). state_of new ≡ after_line (state_of h.shard) line) c.self.view_is
-    (line_done old c.args.number c.args.index c.args.acts.now line
-    (λ i. line_of (c.of.ensures i) (c.of-2.ensures i) (c.of-4.ensures i) (c.of-3.ensures i))
-    new c.type_inv.acts made.same made.contents made.clock)
+pub apply_acts-requires-clause-later : goal.apply_acts-requires-clause-later
+apply_acts-requires-clause-later g c = subst (λ (h : HeldState). clock h.shard < c.args.number) (sym c.self.view_is) c.requires.later
+
+pub apply_acts-requires-clause-can : goal.apply_acts-requires-clause-can
+apply_acts-requires-clause-can g c = subst (λ (h : HeldState). CanDo h.shard c.args.acts.now) (sym c.self.view_is) c.requires.can

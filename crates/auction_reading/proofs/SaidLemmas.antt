@@ -1,0 +1,112 @@
+-- What the records of a text ask for, wherever it stands.
+use Rattle.std.proofs.Common.{arith, ◌≡◌, ◌==◌, ◌&&◌, ◌||◌, ◌<◌, ◌≤◌, ◌+◌, ◌∷◌, ◌++◌, ◌∙◌, [], ℕ, List, Bool, false, not, drop, length, refl, sym, ap, subst, length-append}
+use Rattle.csv.specs.Reading.{default_config, records, strip_bom}
+use Rattle.auction_reading.specs.declared.plain_text.Progress.{Progress}
+use Rattle.record_reading.specs.declared.record.Record.{Record}
+use Rattle.record_reading.specs.declared.inputs.TheConstants.{MOST_RECORDS}
+use Rattle.record_reading.specs.Lines.{IsLine}
+use Rattle.auction_reading.specs.Said.{CanFollow, HasRead, IsUpTo, SaysRecords, WasRead, begun_after, read_by, with_records}
+use Rattle.auction_reading.specs.Progress.{HasAdded, ReadsOn, unmarked}
+use Rattle.record_reading.specs.Asking.{Asked, asked_of, with_record}
+use Rattle.auction_reading.specs.Scripts.{records_of}
+use Rattle.auction_reading.proofs.ProgressLemmas.{same_if}
+use Rattle.auction_reading.proofs.SoFar.{so_far_more}
+
+-- records one after the other
+with_both : (xs ys : List Record) (asked : Asked) → with_records (xs ++ ys) asked ≡ with_records ys (with_records xs asked)
+with_both [] ys asked = refl
+with_both (x ∷ xs) ys asked = with_both xs ys (with_record x asked)
+
+begun_both : (xs ys : List Record) (begun : Bool) → begun_after (xs ++ ys) begun ≡ begun_after ys (begun_after xs begun)
+begun_both [] ys begun = refl
+begun_both (x ∷ xs) ys begun = begun_both xs ys (begun || not x.is_row)
+
+follow_parts : (workers : ℕ) (begun : Bool) (xs ys : List Record) → CanFollow workers begun (xs ++ ys) → CanFollow workers begun xs × CanFollow workers (begun_after xs begun) ys
+follow_parts workers begun [] ys can = (tt, can)
+follow_parts workers begun (x ∷ xs) ys can = let more = follow_parts workers (begun || not x.is_row) xs ys can.2 in ((can.0, can.1, more.0), more.1)
+
+follow_both : (workers : ℕ) (begun : Bool) (xs ys : List Record) → CanFollow workers begun xs → CanFollow workers (begun_after xs begun) ys → CanFollow workers begun (xs ++ ys)
+follow_both workers begun [] ys first second = second
+follow_both workers begun (x ∷ xs) ys first second = (first.0, first.1, follow_both workers (begun || not x.is_row) xs ys first.2 second)
+
+-- a line says its record
+line_says : (text : List ℕ) (at : ℕ) (said : Record) (next : ℕ) → IsLine text at said next → SaysRecords (drop at text) (said ∷ []) (drop next text)
+line_says text at said next line workers bytes more count begun asked room can up_to =
+    let source = drop at text ++ more in
+    let is : unmarked count source ≡ source = same_if (count == 0) (strip_bom source) source (line.unmarked more) in
+    let some : (count + 1 == 0) ≡ false = grind arith in
+    rw some (so_far_more workers (records_of bytes) count begun line.fields (records default_config (drop next text ++ more)) asked said (rw (is, line.reads more) at up_to) (omega arith)
+    (line.says workers (count + 1) begun can.0 can.1) can.0)
+
+-- two texts, of which the second is what is left of the first
+says_both : (x y z : List ℕ) (first second : List Record) → SaysRecords x first y → SaysRecords y second z → SaysRecords x (first ++ second) z
+says_both x y z first second one two workers bytes more count begun asked room can up_to =
+    let sum = length-append first second in
+    let parts = follow_parts workers begun first second can in
+    let middle = one workers bytes more count begun asked (omega (arith, sum)) parts.0 up_to in
+    let end = two workers bytes more (count + length first) (begun_after first begun) (with_records first asked) (omega (arith, sum)) parts.1 middle in
+    let counted : count + length first + length second ≡ count + length (first ++ second) = omega (arith, sum) in
+    subst (λ n. IsUpTo workers bytes n (begun_after (first ++ second) begun) (with_records (first ++ second) asked) (z ++ more)) counted
+    (rw (begun_both first second begun, with_both first second asked) end)
+
+-- nothing is read
+pub has_read_none : (was : WasRead) (text : List ℕ) → was.count ≤ MOST_RECORDS → HasRead was text was text
+has_read_none was text room = record {
+  said = [];
+  says = λ workers bytes more count begun asked fits can up_to. let none : count + 0 ≡ count = omega arith in rw none up_to;
+  follows = tt;
+  asked = refl;
+  workers = refl;
+  count = omega arith;
+  begun = refl;
+  room = room;
+}
+
+-- what is read in two steps
+pub has_read_then : (a b c : WasRead) (x y z : List ℕ) → HasRead a x b y → HasRead b y c z → HasRead a x c z
+has_read_then a b c x y z first second = record {
+  said = first.said ++ second.said;
+  says = says_both x y z first.said second.said first.says second.says;
+  follows =
+      follow_both (length a.asked.scripts) a.begun first.said second.said first.follows
+      (subst (λ n. CanFollow n (begun_after first.said a.begun) second.said) first.workers (subst (λ started. CanFollow (length b.asked.scripts) started second.said) first.begun second.follows));
+  asked = second.asked ∙ ap (with_records second.said) first.asked ∙ sym (with_both first.said second.said a.asked);
+  workers = second.workers ∙ first.workers;
+  count = omega (arith, first.count, second.count, length-append first.said second.said);
+  begun = second.begun ∙ ap (begun_after second.said) first.begun ∙ sym (begun_both first.said second.said a.begun);
+  room = second.room;
+}
+
+-- one line more
+pub has_read_line : (old new : Progress) (text : List ℕ) (at : ℕ) (said : Record) (next : ℕ) → IsLine text at said next → HasAdded old said new → old.count < MOST_RECORDS
+    → said.worker < length old.input.scripts.items → (said.is_row && old.begun) ≡ false → HasRead (read_by old) (drop at text) (read_by new) (drop next text)
+has_read_line old new text at said next line added room below early =
+    let many : length new.input.scripts.items ≡ length old.input.scripts.items = omega (arith, added.workers, old.input.scripts.ok.0, new.input.scripts.ok.0) in
+    let fits : new.count ≤ MOST_RECORDS = omega (arith, added.count, room) in
+    record {
+      said = said ∷ [];
+      says = line_says text at said next line;
+      follows = (below, early, tt);
+      asked = added.asked;
+      workers = many;
+      count = added.count;
+      begun = added.begun;
+      room = fits;
+    }
+
+-- what is read on
+pub read_on : (old new : Progress) (text left : List ℕ) → HasRead (read_by old) text (read_by new) left → ReadsOn old text new left
+read_on old new text left read =
+    let many : length new.input.scripts.items ≡ length old.input.scripts.items = read.workers in
+    let counted : new.count ≡ old.count + length read.said = read.count in
+    let begun_is : new.begun ≡ begun_after read.said old.begun = read.begun in
+    let asks : asked_of new.input ≡ with_records read.said (asked_of old.input) = read.asked in
+    let fits : new.count ≤ MOST_RECORDS = read.room in
+    record {
+      workers = omega (arith, many, old.input.scripts.ok.0, new.input.scripts.ok.0);
+      room = fits;
+      reads = λ workers bytes more up_to.
+          let all : length old.input.scripts.items ≡ workers = up_to.asks.workers_are in
+          let end = read.says workers bytes more old.count old.begun (asked_of old.input) (omega (arith, counted, fits)) (subst (λ n. CanFollow n old.begun read.said) all read.follows) up_to in
+          rw (counted, begun_is, asks) end;
+    }

@@ -1,0 +1,85 @@
+//! What was read of a parcel, joined to what was read before it.
+ghost use Rattle.std.specs.Prelude.{◌≡◌, ◌≤◌, ◌+◌, [], length, replicate, true, vec_len, IfErr, IsTrue, OnOk};
+ghost use Rattle.record_reading.specs.Asking.{asked_of};
+ghost use Rattle.record_reading.specs.Reading.{IsInputFault};
+ghost use Rattle.record_reading.specs.declared.inputs.TheConstants.{MOST_RECORDS};
+ghost use Rattle.auction_reading.specs.Parcels.{CanJoin, joined, nothing_read, read_with, scripts_joined};
+ghost use Rattle.auction_reading.specs.Said.{read_by};
+
+use crate::plain_text::Progress;
+use record_reading::{CompactInput, MOST_RECORDS, ReadFault};
+use std::alloc::AllocError;
+use worker_journals::Script;
+
+// Lets the requests of all scripts go.
+fn clear_scripts(scripts: &mut [Script])
+    ensures { scripts.new ≡ replicate (length scripts.old) [] }
+{
+    for script in scripts.iter_mut() {
+        script.clear();
+    }
+}
+
+/// Lets all that was read go, and keeps the memory.
+pub fn clear(progress: &mut Progress)
+    ensures { read_by progress.new ≡ nothing_read (length progress.new.input.scripts.items) }
+{
+    progress.input.rows.clear();
+    clear_scripts(&mut progress.input.scripts);
+    progress.count = 0;
+    progress.begun = false;
+}
+
+/// Whether what a parcel asks for can follow what was read before it.
+pub fn can_join(progress: &Progress, parcel: &Progress) -> bool
+    requires { progress.now.count ≤ MOST_RECORDS }
+    ensures workers { IsTrue result →
+        vec_len progress.now.input.scripts ≡ vec_len parcel.now.input.scripts }
+    ensures room { IsTrue result → progress.now.count + parcel.now.count ≤ MOST_RECORDS }
+    ensures rows { IsTrue result → progress.now.begun ≡ true →
+        vec_len parcel.now.input.rows ≡ 0 }
+{
+    if progress.input.scripts.len() != parcel.input.scripts.len() {
+        return false;
+    }
+    if parcel.count > MOST_RECORDS - progress.count {
+        return false;
+    }
+    !progress.begun || parcel.input.rows.is_empty()
+}
+
+// Puts the requests of each worker's other script at the end of its script.
+fn join_scripts(scripts: &mut [Script], others: &[Script]) -> Result<(), AllocError>
+    requires { length scripts.old ≡ length others.now }
+    ensures { OnOk result (scripts.new ≡ scripts_joined scripts.old others.now) }
+{
+    for worker in 0..scripts.len() {
+        scripts[worker].append(&others[worker])?;
+    }
+    Ok(())
+}
+
+// Puts what another input asks for at the end.
+fn join_inputs(input: &mut CompactInput, other: &CompactInput) -> Result<(), AllocError>
+    requires { length input.old.scripts.items ≡ length other.now.scripts.items }
+    ensures { OnOk result (asked_of input.new ≡ joined (asked_of input.old) (asked_of other.now)) }
+{
+    input.rows.extend_from_slice(&other.rows)?;
+    join_scripts(&mut input.scripts, &other.scripts)?;
+    Ok(())
+}
+
+/// Adds what was read of a parcel to what was read before it.
+pub fn join(progress: &mut Progress, parcel: &Progress) -> Result<(), ReadFault>
+    requires { CanJoin (read_by progress.old) (read_by parcel.now) }
+    ensures joins { OnOk result
+        (read_by progress.new ≡ read_with (read_by progress.old) (read_by parcel.now)) }
+    ensures fails { IfErr result (λ fault. IsInputFault fault → ⊥) }
+{
+    let Ok(()) = join_inputs(&mut progress.input, &parcel.input) else {
+        return Err(ReadFault::Memory);
+    };
+    progress.count += parcel.count;
+    progress.begun |= parcel.begun;
+    Ok(())
+}

@@ -1,5 +1,0 @@
-use Rattle.std.proofs.Common.{rules}
-use Rattle.phase_permits.proofs.worker.Worker.home.Goals as goal
-
-pub returns-in-None-clause-at : goal.returns-in-None-clause-at
-returns-in-None-clause-at g c = search rules

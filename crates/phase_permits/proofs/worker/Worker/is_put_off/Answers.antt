@@ -1,5 +1,0 @@
-use Rattle.std.proofs.Common.{rules}
-use Rattle.phase_permits.proofs.worker.Worker.is_put_off.Goals as goal
-
-pub returns-in-BuyNow : goal.returns-in-BuyNow
-returns-in-BuyNow g c = search rules

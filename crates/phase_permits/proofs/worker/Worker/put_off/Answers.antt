@@ -1,5 +1,0 @@
-use Rattle.std.proofs.Common.{rules}
-use Rattle.phase_permits.proofs.worker.Worker.put_off.Goals as goal
-
-pub returns : goal.returns
-returns g c = search rules

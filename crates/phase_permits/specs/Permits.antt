@@ -1,0 +1,7 @@
+-- What a permit is.
+use Rattle.std.specs.Prelude.{ℕ, Bool}
+use Rattle.phase_transactions.specs.Workers.{WorkerState, IsEmptyIf, IsExplained}
+
+-- What is true of a permit, of a joined phase or a split one with so many shards.
+abbrev pub IsPermit : Bool → ℕ → WorkerState → Type 0
+IsPermit joined shards w = IsEmptyIf joined w.slices × IsExplained shards w

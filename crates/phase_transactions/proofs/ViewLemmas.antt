@@ -1,0 +1,208 @@
+-- A view: its one shard, and what it does there.
+use Rattle.std.proofs.Common.{◌≡◌, ℕ, true, false, cond, List, [], ◌∷◌, length, Option, Some, None, MatchOption, refl, sym, ap, subst, ◌∙◌}
+use Rattle.std.specs.List.{AllByRecursion}
+use Rattle.std.proofs.lemmas.Bool.{true≢false, false≢true}
+use Rattle.std.proofs.lemmas.Option.{same_Some}
+use Rattle.auction_rows.specs.declared.values.Stars.{Stars}
+use Rattle.auction_rows.specs.declared.requests.Facts.{Facts}
+use Rattle.auction_rows.specs.declared.requests.ItemId.{ItemId}
+use Rattle.auction_rows.specs.declared.requests.Object.{Object}
+use Rattle.auction_rows.specs.declared.requests.Object.TheVariants.{Item, User, Category}
+use Rattle.auction_rows.specs.declared.replies.Reply.{Reply}
+use Rattle.auction_rows.specs.declared.replies.Reply.TheVariants.{Refused}
+use Rattle.auction_rows.specs.declared.requests.Request.{Request}
+use Rattle.auction_rows.specs.declared.requests.Request.TheVariants.{StoreItem, StoreBid, StoreComment, BuyNow, ViewItem, ViewBids, ViewCategory, ViewUser}
+use Rattle.auction_rows.specs.Footprint.{is_hot}
+use Rattle.auction_rows.specs.Refusals.{number_refusal}
+use Rattle.auction_rows.specs.Requests.{is_view, shard_of}
+use Rattle.item_shards.specs.declared.shard.acts.Act.TheVariants.{Look}
+use Rattle.item_shards.specs.declared.shard.acts.Look.{Look as LookedAt}
+use Rattle.item_shards.specs.declared.shard.acts.Look.TheVariants as look
+use Rattle.item_shards.specs.Events as event
+use Rattle.item_shards.specs.Shown as shown
+use Rattle.item_shards.specs.Contents.{target}
+use Rattle.item_shards.specs.Looking.{IsTrueOf}
+use Rattle.item_shards.specs.ShardContents.{contents, LiesIn}
+use Rattle.item_shards.specs.Writing.{padded, done_on}
+use Rattle.shard_boxes.specs.Helds.{HeldState}
+use Rattle.shard_boxes.specs.Keys.{KeyState}
+use Rattle.shard_boxes.specs.States.{ShardState}
+use Rattle.worker_slices.specs.declared.counters.Counters.{Counters}
+use Rattle.phase_transactions.specs.declared.deeds.Deeds.{Deeds}
+use Rattle.worker_slices.specs.declared.homes.Home.{Home}
+use Rattle.worker_slices.specs.declared.homes.Home.TheVariants as home
+use Rattle.worker_slices.specs.declared.homes.Homes.{Homes}
+use Rattle.worker_slices.specs.declared.slices.Hot.{Hot}
+use Rattle.phase_transactions.specs.declared.homes.Begun.{Begun}
+use Rattle.phase_transactions.specs.declared.homes.Taken.{Taken}
+use Rattle.phase_transactions.specs.declared.homes.Taken.TheVariants as taken
+use Rattle.phase_transactions.specs.Begun.{Step, HasBegun, IsOnOne, look_for, viewed}
+use Rattle.phase_transactions.specs.Deeds.{AreDeedsOf, AreGoodOn, acts_for, found_on, event_with, first_dealt, second_dealt, shown_with}
+use Rattle.worker_slices.specs.Homes.{IsHomeOf, shard_at}
+use Rattle.phase_transactions.specs.Homes.{AreHomesOf}
+use Rattle.phase_transactions.specs.Performing.{HasCommittedSome, HaveOpening}
+use Rattle.worker_slices.specs.Slicing.{hot_objects}
+use Rattle.phase_transactions.specs.Putting.{HasPutAll, IsAsTaken}
+use Rattle.phase_transactions.specs.Takens.{each_once, footprint_of, held_in, numbers_of, is_one_of, dealt, line_among}
+use Rattle.phase_transactions.specs.Txns.{IsReplyTo, IsAnswered, is_put_off, reason_seen, refusal_seen, ReadSet}
+use Rattle.phase_transactions.specs.Viewing.{IsShownBy}
+use Rattle.phase_transactions.specs.Workers.{WorkerState, setting_of, txn_of, with_entry, after_commit}
+use Rattle.phase_transactions.proofs.BegunLemmas.{begun_commits}
+use Rattle.phase_transactions.proofs.DeedLemmas.{done_is, one_owed}
+use Rattle.phase_transactions.proofs.GoodLemmas.{home_number}
+use Rattle.phase_transactions.proofs.HomeLemmas.{same_objects_of, no_other}
+
+-- the home of the object that is viewed
+record IsOnlyHome (hots : List (Object × Hot)) (shards : ℕ) (homes : Homes) (object : Object) (h : Home) : Type 0 where
+  pub at : IsHomeOf hots shards object h
+  pub cold : is_hot (hot_objects hots) object ≡ false
+  pub only : (n : ℕ) → shard_at h ≡ Some n → footprint_of homes ≡ n ∷ []
+
+item_only : (hots : List (Object × Hot)) (shards : ℕ) (homes : Homes) (object : Object) → IsHomeOf hots shards object homes.item → homes.other ≡ home.Nowhere → is_hot (hot_objects hots) object ≡ false → IsOnlyHome hots shards homes object homes.item
+item_only hots shards homes object at none cold = record { at = at; cold = cold; only = λ n is. (λ i. each_once (is i) (shard_at (none i))) }
+
+other_only : (hots : List (Object × Hot)) (shards : ℕ) (homes : Homes) (object : Object) → homes.item ≡ home.Nowhere → IsHomeOf hots shards object homes.other → is_hot (hot_objects hots) object ≡ false → IsOnlyHome hots shards homes object homes.other
+other_only hots shards homes object none at cold = record { at = at; cold = cold; only = λ n is. (λ i. each_once (shard_at (none i)) (is i)) }
+
+only_home : (w : WorkerState) (shards : ℕ) (request : Request) (homes : Homes) (object : Object) → viewed request ≡ Some object → is_put_off (hot_objects w.slices) request ≡ false → AreHomesOf w shards request homes
+    → (h : Home) × IsOnlyHome w.slices shards homes object h
+only_home w shards (StoreItem facts time) homes object is goes are = absurd (cc)
+only_home w shards (StoreBid bidder item amount time) homes object is goes are = absurd (cc)
+only_home w shards (StoreComment author about item stars) homes object is goes are = absurd (cc)
+only_home w shards (BuyNow buyer item quantity time) homes object is goes are = absurd (cc)
+only_home w shards (ViewItem item) homes object is goes are = (homes.item, subst (λ o. IsOnlyHome w.slices shards homes o homes.item) (same_Some (Item item) object is) (item_only w.slices shards homes (Item item) are.0 are.1 (no_other _ goes)))
+only_home w shards (ViewBids item) homes object is goes are = (homes.item, subst (λ o. IsOnlyHome w.slices shards homes o homes.item) (same_Some (Item item) object is) (item_only w.slices shards homes (Item item) are.0 are.1 (no_other _ goes)))
+only_home w shards (ViewCategory category) homes object is goes are =
+    (homes.other, subst (λ o. IsOnlyHome w.slices shards homes o homes.other) (same_Some (Category category) object is) (other_only w.slices shards homes (Category category) are.0 are.1 (no_other _ goes)))
+only_home w shards (ViewUser user) homes object is goes are =
+    (homes.other, subst (λ o. IsOnlyHome w.slices shards homes o homes.other) (same_Some (User user) object is) (other_only w.slices shards homes (User user) are.0 are.1 (no_other _ goes)))
+
+shard_cold : (hots : List (Object × Hot)) (shards : ℕ) (object : Object) (h : Home) → IsHomeOf hots shards object h → is_hot (hot_objects hots) object ≡ false → (n : ℕ) × (shard_at h ≡ Some n)
+shard_cold hots shards object home.Nowhere at cold = absurd at
+shard_cold hots shards object (home.Slice place) at cold = absurd (true≢false (sym at.1 ∙ cold))
+shard_cold hots shards object (home.Shard shard) at cold = (shard, refl)
+
+-- what is no store is a view
+pub view_else : (request : Request) → ((facts : Facts) (time : ℕ) → request ≡ StoreItem facts time → ⊥) → ((bidder : ℕ) (item : ItemId) (amount time : ℕ) → request ≡ StoreBid bidder item amount time → ⊥)
+    → ((author about : ℕ) (item : ItemId) (stars : Stars) → request ≡ StoreComment author about item stars → ⊥) → ((buyer : ℕ) (item : ItemId) (quantity time : ℕ) → request ≡ BuyNow buyer item quantity time → ⊥)
+    → is_view request ≡ true
+view_else (StoreItem facts time) no_item no_bid no_comment no_buy = absurd (no_item facts time refl)
+view_else (StoreBid bidder item amount time) no_item no_bid no_comment no_buy = absurd (no_bid bidder item amount time refl)
+view_else (StoreComment author about item stars) no_item no_bid no_comment no_buy = absurd (no_comment author about item stars refl)
+view_else (BuyNow buyer item quantity time) no_item no_bid no_comment no_buy = absurd (no_buy buyer item quantity time refl)
+view_else request no_item no_bid no_comment no_buy = refl
+
+-- a view shows one object
+pub shows_one : (request : Request) → is_view request ≡ true → (object : Object) × (viewed request ≡ Some object)
+shows_one (ViewItem item) view = (Item item, refl)
+shows_one (ViewBids item) view = (Item item, refl)
+shows_one (ViewCategory category) view = (Category category, refl)
+shows_one (ViewUser user) view = (User user, refl)
+shows_one request view = absurd (false≢true view)
+
+-- the acts of a view are its look
+view_acts : (worker : ℕ) (request : Request) (reply : Reply) → is_view request ≡ true → acts_for worker None request reply ≡ event_with None reply (Look (look_for request)) ∷ []
+view_acts worker (ViewItem item) reply view = refl
+view_acts worker (ViewBids item) reply view = refl
+view_acts worker (ViewCategory category) reply view = refl
+view_acts worker (ViewUser user) reply view = refl
+view_acts worker request reply view = absurd (false≢true view)
+
+view_about : (request : Request) (reply : Reply) (object : Object) → viewed request ≡ Some object → target (event_with None reply (Look (look_for request))) ≡ Some object
+view_about (ViewItem item) reply object is = is
+view_about (ViewBids item) reply object is = is
+view_about (ViewCategory category) reply object is = is
+view_about (ViewUser user) reply object is = is
+view_about request reply object is = absurd (cc)
+
+-- a look that shows what is there is good, and so is one at nothing
+look_good : (a b : Option ℕ) (reply : Reply) (looks_at : LookedAt) (held : List HeldState) → AllByRecursion (λ (h : HeldState). IsTrueOf (contents h.shard) (shown_with None reply looks_at)) held
+    → AllByRecursion (AreGoodOn a b (event_with None reply (Look looks_at)) (event.Look shown.Nothing)) held
+look_good a b reply looks_at [] all = tt
+look_good a b reply looks_at (h ∷ held) all =
+    (record { first = λ is. (tt, all.0); second = λ is. (tt, tt); after = λ is also. (tt, tt) }, look_good a b reply looks_at held all.1)
+
+-- and no slice has its operation
+pub view_entered : (w : WorkerState) (number index : ℕ) (request : Request) (reply : Reply) → is_view request ≡ true → with_entry w number index request reply ≡ after_commit w number index request reply
+view_entered w number index (ViewItem item) reply view = refl
+view_entered w number index (ViewBids item) reply view = refl
+view_entered w number index (ViewCategory category) reply view = refl
+view_entered w number index (ViewUser user) reply view = refl
+view_entered w number index request reply view = absurd (false≢true view)
+
+module _ {N : Type 0} (step : Step) (w : WorkerState) (request : Request) (b : Begun N) (begun : HasBegun step w request b) (view : is_view request ≡ true) where
+  abbrev initial : List ShardState
+  initial = step.initial
+
+  abbrev key : KeyState
+  key = step.key
+
+  abbrev homes : Homes
+  homes = step.homes
+
+  abbrev took : Taken N
+  took = b.taken
+
+  abbrev number : ℕ
+  number = b.number
+
+  abbrev object : Object
+  object = (shows_one request view).0
+
+  abbrev its_home : (h : Home) × IsOnlyHome w.slices (length initial) homes object h
+  its_home = only_home w (length initial) request homes object (shows_one request view).1 begun.goes begun.homes_are
+
+  abbrev h : Home
+  h = its_home.0
+
+  abbrev its_shard : (n : ℕ) × (shard_at h ≡ Some n)
+  its_shard = shard_cold w.slices (length initial) object h its_home.1.at its_home.1.cold
+
+  abbrev n : ℕ
+  n = its_shard.0
+
+  -- it took one shard, which can show what it asks for
+  pub on_one : HaveOpening initial w.opening → IsOnOne request took
+  on_one openings = go took begun.taken.taken (begun.taken.numbers ∙ its_home.1.only n its_shard.1)
+    where
+      go : (its : Taken N) → AllByRecursion (IsAsTaken initial step.workers w.key) (held_in its) → numbers_of (held_in its) ≡ n ∷ [] → IsOnOne request its
+      go taken.Nothing all numbers = absurd (cc)
+      go (taken.One one) all numbers =
+          let number : one.number ≡ n = (cc) in
+          let lies : LiesIn one.shard object =
+          ap (shard_of object) all.0.shards_is ∙ sym (home_number w.slices (length initial) n object h its_home.1.at its_shard.1) ∙ sym number ∙ sym all.0.number_is in
+          record {
+            here = λ other is. subst (LiesIn one.shard) (same_Some object other (sym (shows_one request view).1 ∙ is)) lies;
+            allowed = subst (λ start. number_refusal start request ≡ None) (sym (all.0.opening_is ∙ openings one.number all.0.known)) begun.allowed;
+          }
+      go (taken.Two one other) all numbers = absurd (cc)
+
+  -- what it did is a commit
+  view_answered : (index : ℕ) (reply : Reply) (found : ReadSet) → ((counters : Counters) (worker : ℕ) → IsReplyTo counters worker request reply) → IsAnswered (setting_of w (length initial)) w.counters (txn_of w number request index reply found)
+  view_answered index reply found answers =
+      let z = setting_of w (length initial) in
+      let txn = txn_of w number request index reply found in
+      let none : reason_seen z txn ≡ None = ap (λ b. cond b (number_refusal w.opening request) (refusal_seen z txn)) view ∙ begun.allowed in
+      record {
+        answered = subst (λ refused. MatchOption refused (IsReplyTo w.counters w.journal.worker request reply) (λ reason. reply ≡ Refused reason)) (sym none) (answers w.counters w.journal.worker);
+        not_put_off = ap (λ objects. is_put_off objects request) (same_objects_of w.slices) ∙ begun.goes;
+      }
+
+  view_owed : (reply : Reply) → AreDeedsOf w.slices (length initial) (acts_for w.journal.worker None request reply) (event_with None reply (Look (look_for request))) (event.Look shown.Nothing) h home.Nowhere
+  view_owed reply t =
+      let owed = event_with None reply (Look (look_for request)) in
+      ap (λ acts. padded (done_on t (length initial) (hot_objects w.slices) acts)) (view_acts w.journal.worker request reply view)
+      ∙ one_owed w.slices (length initial) t owed h (done_is w.slices (length initial) t object h its_home.1.at owed (view_about request reply object (shows_one request view).1))
+
+  pub view_commits : (new : WorkerState) (index : ℕ) (reply : Reply) (looks_at : LookedAt) → IsShownBy took request looks_at reply
+      → HasPutAll initial w.key new.key (is_one_of (numbers_of (held_in took))) (line_among number index (held_in took) (dealt took (Look looks_at ∷ Look look.Nothing ∷ [])))
+      → new ≡ record (after_commit w number index request reply) { key = new.key } → HasCommittedSome initial (record w { key = key }) new request index
+  view_commits new index reply looks_at saw put committed =
+      let deeds : Deeds = record { first = Look looks_at; second = Look look.Nothing; home = h; other = home.Nowhere } in
+      let lines = λ (a : Option ℕ). line_among number index (held_in took) (dealt took (first_dealt (Look looks_at) (Look look.Nothing) a None ∷ second_dealt (Look looks_at) (Look look.Nothing) a None ∷ [])) in
+      let owed = λ (l : LookedAt). AreDeedsOf w.slices (length initial) (acts_for w.journal.worker None request reply) (event_with None reply (Look l)) (event.Look shown.Nothing) h home.Nowhere in (
+        reply,
+        begun_commits step w request b begun new index reply None deeds (ap (λ a. each_once a None) its_shard.1 ∙ sym (its_home.1.only n its_shard.1)) (subst owed (sym saw.asked) (view_owed reply))
+            (look_good (shard_at h) None reply looks_at (held_in took) saw.holds) (view_answered index reply (found_on None took) saw.answers)
+            (subst (λ a. HasPutAll initial w.key new.key (is_one_of (numbers_of (held_in took))) (lines a)) (sym its_shard.1) put) committed,
+      )

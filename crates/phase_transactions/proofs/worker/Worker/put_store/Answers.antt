@@ -1,0 +1,63 @@
+use Rattle.std.proofs.Common.{◌≡◌, length, sym, ap, subst, ◌∙◌}
+use Rattle.auction_rows.specs.StoreReplies.{reply_of}
+use Rattle.shard_boxes.specs.Keys.{KeyState}
+use Rattle.phase_transactions.specs.declared.deeds.Written.{Written}
+use Rattle.phase_transactions.specs.Begun.{step_of}
+use Rattle.phase_transactions.specs.Deeds.{written_of}
+use Rattle.worker_slices.specs.Homes.{IsWrittenAt}
+use Rattle.phase_transactions.specs.Putting.{HasPutAll, written_acts}
+use Rattle.phase_transactions.specs.Takens.{held_in, numbers_of, is_one_of, dealt, line_among, CanBeDoneOnAll}
+use Rattle.worker_slices.specs.Counting.{IsOwn}
+use Rattle.phase_transactions.specs.Workers.{WorkerState, after_commit}
+use Rattle.phase_transactions.proofs.AnswerLemmas.{own_reply, written_at}
+use Rattle.phase_transactions.proofs.BegunLemmas.{begun_can, begun_commits, begun_good, next_reply, seen_answered}
+use Rattle.phase_transactions.proofs.worker.Worker.put_store.Goals as goal
+
+pub put_all-requires-clause-can : goal.put_all-requires-clause-can
+put_all-requires-clause-can g c =
+    let initial = g.N.PhaseName.initial in
+    let w = c.args.self.now in
+    let store = c.args.store.now in
+    let took = c.args.begun.taken in
+    let begun = c.requires.begun.1 in
+    let reply = reply_of store.reply in
+    let step = step_of initial g.N.PhaseName.workers c.args.boxes.now c.requires.begun.0 store.homes.now in
+    subst (λ (d : Written). CanBeDoneOnAll d.number (held_in took) (dealt took (written_acts d))) (sym c.written-written.ensures)
+    (begun_can step w store.call.request.now c.args.begun begun c.requires.answered.seen c.requires.store c.requires.answered.saw reply c.of-deeds.result c.requires.room c.requires.answered.answered c.requires.opened
+    (λ held on. c.of-deeds.ensures.good c.requires.answered.seen initial g.N.PhaseName.workers c.args.boxes.now c.requires.begun.0 w held on) (c.of-deeds.ensures.footprint w (length initial) begun.homes_are))
+
+pub add_store-requires-clause-home : goal.add_store-requires-clause-home
+add_store-requires-clause-home g c =
+    let store = c.args.store.now in
+    subst (λ (w : WorkerState). IsWrittenAt w.slices store.call.request.now store.homes.now) (sym c.self.view_is) (written_at c.args.self.now store.call.request.now store.homes.now (length g.N.PhaseName.initial, c.requires.begun.1.homes_are))
+
+pub add_store-requires-clause-own : goal.add_store-requires-clause-own
+add_store-requires-clause-own g c =
+    let store = c.args.store.now in
+    let reply = reply_of store.reply in
+    subst (λ (w : WorkerState). IsOwn w.journal.worker reply) (sym c.self.view_is) (own_reply c.args.self.now c.requires.answered.seen store.call.request.now reply c.requires.answered.answered c.requires.store)
+
+pub returns : goal.returns
+returns g c key begun =
+    let initial = g.N.PhaseName.initial in
+    let w = c.args.self.now in
+    let store = c.args.store.now in
+    let request = store.call.request.now in
+    let homes = store.homes.now in
+    let step = step_of initial g.N.PhaseName.workers c.args.boxes.now key homes in
+    let took = c.args.begun.taken in
+    let number = c.args.begun.number in
+    let reply = reply_of store.reply in
+    let new = c.add_store.new.self in
+    let key_is : new.key ≡ c.put_all.new.key = ap (λ (s : WorkerState). s.key) c.add_store.ensures in
+    let written = written_of c.of-deeds.result number store.call.index in
+    let lines = line_among number store.call.index (held_in took) (dealt took (written_acts written)) in
+    let put = subst (λ (d : Written). HasPutAll initial c.self.inside.key c.put_all.new.key (is_one_of (numbers_of (held_in took))) (line_among d.number d.index (held_in took) (dealt took (written_acts d)))) c.written-written.ensures c.put_all.ensures in
+    begun_commits step w request c.args.begun begun new store.call.index reply c.requires.answered.seen c.of-deeds.result (c.of-deeds.ensures.footprint w (length initial) begun.homes_are)
+    (c.of-deeds.ensures.owed c.requires.answered.seen w (length initial) begun.homes_are (own_reply w c.requires.answered.seen request reply c.requires.answered.answered c.requires.store) (next_reply w c.requires.answered.seen request reply c.requires.answered.answered c.requires.store))
+    (begun_good step w request c.args.begun begun c.requires.answered.seen c.requires.store c.requires.answered.saw reply c.of-deeds.result c.requires.room c.requires.answered.answered c.requires.opened
+    (λ held on. c.of-deeds.ensures.good c.requires.answered.seen initial g.N.PhaseName.workers c.args.boxes.now key w held on))
+    (seen_answered step w request c.args.begun begun c.requires.answered.seen c.requires.store c.requires.answered.saw store.call.index reply c.requires.answered.answered)
+    (subst (λ (k : KeyState). HasPutAll initial w.key k (is_one_of (numbers_of (held_in took))) lines) (sym key_is)
+    (subst (λ (s : WorkerState). HasPutAll initial s.key c.put_all.new.key (is_one_of (numbers_of (held_in took))) lines) c.self.view_is put))
+    (c.add_store.ensures ∙ (λ i. record (after_commit (c.self.view_is i) number store.call.index request reply) { key = sym key_is i }))

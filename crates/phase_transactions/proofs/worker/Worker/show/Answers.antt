@@ -1,0 +1,50 @@
+use Rattle.std.proofs.Common.{◌≡◌, Some, length, sym, ap, subst, ◌∙◌}
+use Rattle.auction_rows.specs.declared.requests.Request.{Request}
+use Rattle.auction_rows.specs.Refusals.{number_refusal}
+use Rattle.phase_transactions.specs.Begun.{IsOnOne, step_of}
+use Rattle.phase_transactions.specs.Performing.{HasCommittedSome, HaveOpening}
+use Rattle.phase_transactions.specs.Workers.{WorkerState}
+use Rattle.phase_transactions.proofs.EmptyLemmas.{stored_performed, refused_untaken}
+use Rattle.phase_transactions.proofs.ViewLemmas.{on_one}
+use Rattle.phase_transactions.proofs.worker.Worker.show.Goals as goal
+
+pub returns-in-Some : goal.returns-in-Some
+returns-in-Some g c =
+    let initial = g.N.PhaseName.initial in
+    let old = c.args.self.now in
+    let request = c.args.request.now in
+    let refused : number_refusal old.opening request ≡ Some c.in-Some.reason = sym (ap (λ (w : WorkerState). number_refusal w.opening request) c.self.view_is) ∙ sym c.number_refusal.ensures ∙ c.in-Some.is in
+    stored_performed initial old c.refuse.new.self request c.args.index c.requires.can.idle c.refuse.result c.refuse.ensures
+    (λ answer stored. refused_untaken old (length initial) c.args.index request c.in-Some.reason answer refused) c.requires.can.goes
+
+pub item_on-seen-requires : goal.item_on-seen-requires
+item_on-seen-requires g c =
+    let openings = subst (HaveOpening g.N.PhaseName.initial) (sym (ap (λ (s : WorkerState). s.opening) c.begin.ensures.worker)) c.requires.can.opened in
+    subst (λ (r : Request). IsOnOne r c.in_ok-begun.begun.taken) c.in-ViewItem.is
+    (on_one (step_of g.N.PhaseName.initial g.N.PhaseName.workers c.args.boxes.now c.args.self.now.key c.homes-homes.result) c.begin.new.self c.args.request.now c.in_ok-begun.begun c.in_ok-begun.ensures.begun c.requires.view openings)
+
+pub put_view-requires-clause-begun : goal.put_view-requires-clause-begun
+put_view-requires-clause-begun g c = (c.homes-homes.result, c.args.self.now.key, c.in_ok-begun.ensures.begun)
+
+pub returns-in-ViewItem : goal.returns-in-ViewItem
+returns-in-ViewItem g c =
+    let old = c.args.self.now in
+    subst (λ (s : WorkerState). HasCommittedSome g.N.PhaseName.initial s c.put_view.new.self c.args.request.now c.args.index) (λ i. record (c.begin.ensures.worker i) { key = old.key })
+    (c.put_view.ensures c.homes-homes.result old.key c.in_ok-begun.ensures.begun)
+
+pub view_on-look-requires : goal.view_on-look-requires
+view_on-look-requires g c =
+    let openings = subst (HaveOpening g.N.PhaseName.initial) (sym (ap (λ (s : WorkerState). s.opening) c.begin.ensures.worker)) c.requires.can.opened in
+    record {
+      view = c.requires.view;
+      one = on_one (step_of g.N.PhaseName.initial g.N.PhaseName.workers c.args.boxes.now c.args.self.now.key c.homes-homes.result) c.begin.new.self c.args.request.now c.in_ok-begun.begun c.in_ok-begun.ensures.begun c.requires.view openings;
+    }
+
+pub put_view-requires-2-clause-begun : goal.put_view-requires-2-clause-begun
+put_view-requires-2-clause-begun g c = (c.homes-homes.result, c.args.self.now.key, c.in_ok-begun.ensures.begun)
+
+pub returns : goal.returns
+returns g c =
+    let old = c.args.self.now in
+    subst (λ (s : WorkerState). HasCommittedSome g.N.PhaseName.initial s c.put_view-2.new.self c.args.request.now c.args.index) (λ i. record (c.begin.ensures.worker i) { key = old.key })
+    (c.put_view-2.ensures c.homes-homes.result old.key c.in_ok-begun.ensures.begun)

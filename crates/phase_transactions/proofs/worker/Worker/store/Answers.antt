@@ -1,0 +1,94 @@
+use Rattle.std.proofs.Common.{◌≡◌, true, Some, None, length, Result, Ok, Err, sym, ap, subst, ◌∙◌}
+use Rattle.std.specs.Prelude.{is_err, IfErr}
+use Rattle.auction_rows.specs.Refusals.{number_refusal}
+use Rattle.auction_rows.specs.StoreReplies.{reply_of}
+use Rattle.phase_transactions.specs.declared.transaction.PermitFault.TheVariants.{Memory}
+use Rattle.phase_transactions.specs.Begun.{step_of}
+use Rattle.phase_transactions.specs.Performing.{HasCommitted, HasFailed}
+use Rattle.phase_transactions.specs.Takens.{AreBack}
+use Rattle.phase_transactions.specs.WorkerFields.{state_in}
+use Rattle.phase_transactions.specs.Workers.{WorkerState, IsLawfulWorker}
+use Rattle.phase_transactions.proofs.AnswerLemmas.{reply_by}
+use Rattle.phase_transactions.proofs.BegunLemmas.{begun_fails, item_first, needed_first}
+use Rattle.phase_transactions.proofs.EmptyLemmas.{stored_performed, refused_untaken, hot_untaken}
+use Rattle.phase_transactions.proofs.FirstLemmas.{begun_before}
+use Rattle.phase_transactions.proofs.worker.Worker.store.Goals as goal
+
+of_err : {T E : Type 0} {P : Type 0} (result : Result T E) → is_err result ≡ true → IfErr result (λ _. P) → P
+of_err (Ok x) is p = absurd (cc)
+of_err (Err e) is p = p
+
+pub returns-in-Some : goal.returns-in-Some
+returns-in-Some g c =
+    let initial = g.N.PhaseName.initial in
+    let old = c.args.self.now in
+    let can = c.requires.can in
+    let request = c.args.request.now in
+    let refused : number_refusal old.opening request ≡ Some c.in-Some.reason = sym (ap (λ (w : WorkerState). number_refusal w.opening request) c.self.view_is) ∙ sym c.number_refusal.ensures ∙ c.in-Some.is in
+    stored_performed initial old c.refuse.new.self request c.args.index can.idle c.refuse.result c.refuse.ensures
+    (λ answer stored. refused_untaken old (length initial) c.args.index request c.in-Some.reason answer refused) can.goes
+
+pub returns-in-None-None : goal.returns-in-None-None
+returns-in-None-None g c =
+    let initial = g.N.PhaseName.initial in
+    let old = c.args.self.now in
+    let can = c.requires.can in
+    let request = c.args.request.now in
+    let homes = c.homes-homes.result in
+    let allowed : number_refusal old.opening request ≡ None = sym (ap (λ (w : WorkerState). number_refusal w.opening request) c.self.view_is) ∙ sym c.number_refusal.ensures ∙ c.in_default.is in
+    stored_performed initial old c.store_hot.new.self request c.args.index can.idle c.store_hot.result c.store_hot.ensures
+    (λ answer stored. hot_untaken old c.store_hot.new.self (length initial) c.args.index request homes answer allowed stored
+    c.homes-homes.ensures.footprint
+    (sym c.shard.ensures ∙ c.in-None-None.is-0) (sym c.shard-2.ensures ∙ c.in-None-None.is-1)) can.goes
+
+pub prepare-requires : goal.prepare-requires
+prepare-requires g c = record {
+  begun = item_first (step_of g.N.PhaseName.initial g.N.PhaseName.workers c.args.boxes.now c.args.self.now.key c.homes-homes.result) c.begin.new.self c.args.request.now c.in_ok-begun.begun
+      c.in_ok-begun.ensures.begun (subst IsLawfulWorker c.self-2.view_is c.self-2.invariant.lawful);
+}
+
+pub returns-then-is_err : goal.returns-then-is_err
+returns-then-is_err g c =
+    let initial = g.N.PhaseName.initial in
+    let old = c.args.self.now in
+    let w = c.begin.new.self in
+    let request = c.args.request.now in
+    let begun = begun_before c.in_ok-begun.begun c.prepare.new.begun c.prepare.ensures.same c.prepare.ensures.number c.in_ok-begun.ensures.begun in
+    let back : WorkerState = record (state_in c.self-2.inside) { key = c.put_back.new.key } in
+    subst (λ (s : WorkerState). HasFailed initial s back request Memory) (λ i. record (c.begin.ensures.worker i) { key = old.key })
+    (begun_fails (step_of initial g.N.PhaseName.workers c.args.boxes.now old.key c.homes-homes.result) w request c.prepare.new.begun begun back
+    (subst (λ (s : WorkerState). AreBack s.key c.put_back.new.key) c.self-2.view_is c.put_back.ensures)
+    (of_err c.prepare.result (sym c.is_err.ensures.value ∙ c.if-is_err.true) c.prepare.ensures.refused)
+    (λ i. record (c.self-2.view_is i) { key = c.put_back.new.key }))
+
+pub put_store-requires-clause-begun : goal.put_store-requires-clause-begun
+put_store-requires-clause-begun g c = (
+  c.args.self.now.key,
+  begun_before c.in_ok-begun.begun c.prepare.new.begun c.prepare.ensures.same c.prepare.ensures.number c.in_ok-begun.ensures.begun,
+)
+
+pub refusal-refused-requires : goal.refusal-refused-requires
+refusal-refused-requires g c =
+    let begun = begun_before c.in_ok-begun.begun c.prepare.new.begun c.prepare.ensures.same c.prepare.ensures.number c.in_ok-begun.ensures.begun in
+    record {
+      homes = (length g.N.PhaseName.initial, begun.homes_are);
+      there = λ item t needs at. needed_first (step_of g.N.PhaseName.initial g.N.PhaseName.workers c.args.boxes.now c.args.self.now.key c.homes-homes.result) c.begin.new.self c.args.request.now c.prepare.new.begun begun item t needs at;
+    }
+
+pub put_store-requires-clause-answered : goal.put_store-requires-clause-answered
+put_store-requires-clause-answered g c =
+    let refused = c.refusal-refused.ensures in
+    record {
+      seen = refused.seen;
+      saw = refused.saw;
+      answered = reply_by c.begin.new.self refused.seen c.args.request.now c.refusal-refused.result (reply_of c.reply-reply.result) c.in_ok-begun.ensures.begun.allowed refused.by c.reply-reply.ensures;
+    }
+
+pub returns : goal.returns
+returns g c =
+    let initial = g.N.PhaseName.initial in
+    let old = c.args.self.now in
+    let request = c.args.request.now in
+    let reply = reply_of c.reply-reply.result in
+    let begun = begun_before c.in_ok-begun.begun c.prepare.new.begun c.prepare.ensures.same c.prepare.ensures.number c.in_ok-begun.ensures.begun in
+    (reply, subst (λ (s : WorkerState). HasCommitted initial s c.put_store.new.self request c.args.index reply) (λ i. record (c.begin.ensures.worker i) { key = old.key }) (c.put_store.ensures old.key begun))

@@ -1,0 +1,11 @@
+pub mod Txns
+pub mod Works
+pub mod Workers
+pub mod WorkerFields
+pub mod Putting
+pub mod Takens
+pub mod Performing
+pub mod Homes
+pub mod Deeds
+pub mod Begun
+pub mod Viewing

@@ -1,0 +1,132 @@
+//! What a store is answered, by what it sees of the item that it needs, and what a view shows.
+ghost use Rattle.std.specs.Prelude.{◌≡◌, ℕ, None, Some, false, true};
+ghost use Rattle.auction_rows.specs.declared.requests.Object.{Object as ObjectValue};
+ghost use Rattle.auction_rows.specs.declared.requests.ItemId.{ItemId as ItemIdValue};
+ghost use Rattle.auction_rows.specs.Requests.{is_view, item_of};
+ghost use Rattle.auction_rows.specs.StoreReplies.{reply_of};
+ghost use Rattle.auction_rows.specs.declared.requests.Request.TheVariants.{ViewItem};
+ghost use Rattle.auction_rows.specs.ItemViews.{item_told};
+ghost use Rattle.item_shards.specs.declared.shard.acts.Look.TheVariants as look;
+ghost use Rattle.item_shards.specs.Looking.{IsTrueOf};
+ghost use Rattle.item_shards.specs.ShardContents.{contents};
+ghost use Rattle.worker_slices.specs.declared.counters.Counters.{Counters as CountersValue};
+ghost use Rattle.phase_transactions.specs.Begun.{CanView, FirstHas, IsOnOne, IsRefusedBy, look_for};
+ghost use Rattle.phase_transactions.specs.Deeds.{IsReplyUnless, shown_with};
+ghost use Rattle.phase_transactions.specs.Homes.{HasHomes};
+ghost use Rattle.worker_slices.specs.Homes.{IsHomeOf, shard_at};
+ghost use Rattle.worker_slices.specs.Slicing.{stocks_of, stock_of};
+ghost use Rattle.phase_transactions.specs.Txns.{IsReplyTo};
+ghost use Rattle.phase_transactions.specs.Viewing.{IsShownBy};
+
+use crate::homes::{Taken, refusal_in};
+use crate::worker::Worker;
+use auction_rows::{
+    BuyId, CommentId, Facts, ItemId, ItemView, Refusal, Reply, Request, StoreReply,
+};
+use item_shards::{Look, Shard, refusal_with};
+use shard_boxes::PhaseName;
+use worker_slices::{Home, Homes};
+
+impl<N: PhaseName> Worker<N> {
+    /// The first reason for which its item refuses a store: by what is fixed of it if it is hot,
+    /// else by what its shard has.
+    #[inline(always)]
+    pub(crate) fn refusal(
+        &self,
+        taken: &Taken<N>,
+        request: &Request,
+        homes: &Homes,
+    ) -> Option<Refusal>
+        requires homes { HasHomes self.now request.now homes.now }
+        requires there { (item : ItemIdValue) → (t : ℕ) → item_of request.now ≡ Some item →
+            shard_at homes.now.item ≡ Some t → FirstHas taken.now item }
+        ensures { IsRefusedBy self.now request.now homes.now taken.now result }
+    {
+        match homes.item {
+            Home::Shard(_) => refusal_in(taken, request),
+            _ => refusal_with(&self.fixed(homes.item), request),
+        }
+    }
+
+    /// What is fixed of an item with this home, where that is hot.
+    #[inline(always)]
+    pub(crate) fn fixed(&self, home: Home) -> Option<(Facts, u32)>
+        ensures { (object : ObjectValue) → (shards : ℕ) →
+            IsHomeOf self.now.slices shards object home → shard_at home ≡ None →
+            result ≡ stock_of (stocks_of self.now.slices) object }
+    {
+        match home {
+            Home::Slice(place) => self.slices.stock_at(place),
+            Home::Nowhere | Home::Shard(_) => None,
+        }
+    }
+
+    /// The reply to a store: the reason to refuse it, or else the worker's next id of the kind.
+    #[inline(always)]
+    pub(crate) fn reply(&self, refused: Option<Refusal>, request: &Request) -> StoreReply
+        requires store { is_view request.now ≡ false }
+        ensures { IsReplyUnless self.now refused request.now (reply_of result) }
+    {
+        if let Some(reason) = refused {
+            return StoreReply::Refused(reason);
+        }
+        let worker = self.worker;
+        match *request {
+            Request::StoreItem { .. } => StoreReply::ItemStored(self.next_item()),
+            Request::StoreBid { .. } => StoreReply::BidStored(self.next_bid()),
+            Request::StoreComment { .. } => StoreReply::CommentStored(CommentId {
+                worker,
+                serial: self.counters.comments,
+            }),
+            Request::BuyNow { .. } => StoreReply::Bought(BuyId {
+                worker,
+                serial: self.counters.buys,
+            }),
+            _ => unreachable!(),
+        }
+    }
+}
+
+/// What a view looks at on the one shard that it takes, and the reply.
+pub(crate) fn view_on<N: PhaseName>(taken: &Taken<N>, request: &Request) -> (Look, Reply)
+    requires view { is_view request.now ≡ true }
+    requires one { IsOnOne request.now taken.now }
+    ensures { IsShownBy taken.now request.now result.0 result.1 }
+{
+    match taken {
+        Taken::One(one) => view(one.shard(), request),
+        Taken::Nothing | Taken::Two(_, _) => unreachable!(),
+    }
+}
+
+/// What the one shard that the view of an item takes shows of it: None if it is not stored.
+#[inline(always)]
+pub(crate) fn item_on<N: PhaseName>(taken: &Taken<N>, item: ItemId) -> Option<ItemView>
+    requires { IsOnOne (ViewItem item) taken.now }
+    ensures { IsShownBy taken.now (ViewItem item) (look.Item item) (item_told result) }
+{
+    match taken {
+        Taken::One(one) => one.item_seen(item),
+        Taken::Nothing | Taken::Two(_, _) => unreachable!(),
+    }
+}
+
+// What a view looks at on a shard in which its object lies, and the reply.
+fn view(shard: &Shard, request: &Request) -> (Look, Reply)
+    requires view { is_view request.now ≡ true }
+    requires can { CanView shard.now request.now }
+    ensures looks { result.0 ≡ look_for request.now }
+    ensures answers { (counters : CountersValue) → (worker : ℕ) →
+        IsReplyTo counters worker request.now result.1 }
+    ensures shown { IsTrueOf (contents shard.now) (shown_with None result.1 result.0) }
+{
+    match *request {
+        Request::ViewItem { item } => (Look::Item(item), shard.view_item(item)),
+        Request::ViewBids { item } => (Look::Bids(item), shard.view_bids(item)),
+        Request::ViewCategory { category } => {
+            (Look::Category(category), shard.view_category(category))
+        }
+        Request::ViewUser { user } => (Look::User(user), shard.view_user(user)),
+        _ => unreachable!(),
+    }
+}

@@ -1,0 +1,162 @@
+//! What a store does on the shards that it takes, and shards that go back with their lines.
+ghost use Rattle.std.specs.Prelude.{◌≡◌, ℕ, false, Option};
+ghost use Rattle.auction_rows.specs.declared.requests.Facts.{Facts as FactsValue};
+ghost use Rattle.auction_rows.specs.Requests.{is_view};
+ghost use Rattle.auction_rows.specs.StoreReplies.{reply_of};
+ghost use Rattle.phase_transactions.specs.Begun.{AreGoodFor, AreOwedBy, HaveFootprint};
+ghost use Rattle.phase_transactions.specs.Deeds.{written_of};
+ghost use Rattle.phase_transactions.specs.Putting.{CanDo, written_acts, line_of, IsHeldFor, IsPutWith};
+ghost use Rattle.phase_transactions.specs.Txns.{IsBid};
+
+use auction_rows::{BidEntry, ItemEntry, ItemId, Request, StoreReply};
+use item_shards::{Act, Look};
+use shard_boxes::{Boxes, Held, Key, PhaseName};
+use std::sync::Wait;
+use worker_journals::Answer;
+use worker_slices::{Home, Homes};
+
+/// A request of the quota, with its index in the script.
+#[derive(Clone, Copy)]
+pub(crate) struct Call<'a> {
+    pub(crate) request: &'a Request,
+    pub(crate) index: u32,
+}
+
+/// A bid of the quota: what it writes unless it is refused, and its index in the script.
+#[derive(Clone, Copy)]
+pub(crate) struct BidCall {
+    pub(crate) item: ItemId,
+    pub(crate) entry: BidEntry,
+    pub(crate) index: u32,
+}
+
+/// A store whose reply is known, with the homes of its objects.
+#[derive(Drop)]
+pub(crate) struct Store<'a> {
+    pub(crate) call: Call<'a>,
+    pub(crate) homes: &'a Homes,
+    pub(crate) reply: StoreReply,
+}
+
+/// A view of the quota whose reply is known, with what it looks at.
+#[derive(Drop)]
+pub(crate) struct View<'a> {
+    pub(crate) call: Call<'a>,
+    pub(crate) look: Look,
+    pub(crate) answer: Answer<'a>,
+}
+
+/// Two acts, each where its object has its home.
+#[derive(Drop)]
+pub(crate) struct Deeds {
+    pub(crate) first: Act,
+    pub(crate) second: Act,
+    pub(crate) home: Home,
+    pub(crate) other: Home,
+}
+
+impl Deeds {
+    /// The acts of a store with this reply that is no bid, whatever it saw of its item.
+    #[inline]
+    pub(crate) fn of(request: &Request, reply: StoreReply, homes: &Homes) -> Deeds
+        requires store { is_view request.now ≡ false }
+        requires no_bid { ¬ IsBid request.now }
+        ensures owed { (seen : Option (FactsValue × ℕ)) →
+            AreOwedBy request.now (reply_of reply) seen homes.now result }
+        ensures good { (seen : Option (FactsValue × ℕ)) →
+            AreGoodFor request.now (reply_of reply) seen homes.now result }
+        ensures footprint { HaveFootprint request.now homes.now result }
+    {
+        let mut deeds = Deeds {
+            first: Act::Look(Look::Nothing),
+            second: Act::Look(Look::Nothing),
+            home: homes.item,
+            other: homes.other,
+        };
+        match *request {
+            Request::StoreItem { facts, time } => {
+                if let StoreReply::ItemStored(id) = reply {
+                    let category = facts.category;
+                    deeds.first = Act::AddItem(id, facts);
+                    deeds.second = Act::ListItem(category, ItemEntry { time, id });
+                }
+            }
+            Request::StoreComment {
+                item,
+                about,
+                stars,
+                ..
+            } => {
+                deeds.first = Act::Look(Look::Facts(item));
+                if let StoreReply::CommentStored(_) = reply {
+                    deeds.second = Act::Comment(about, stars);
+                }
+            }
+            Request::BuyNow { item, quantity, .. } => {
+                deeds.first = Act::Look(Look::Left(item));
+                // Both acts are on the item.
+                deeds.other = homes.item;
+                if let StoreReply::Bought(_) = reply {
+                    deeds.second = Act::Buy(item, quantity);
+                }
+            }
+            _ => unreachable!(),
+        }
+        deeds
+    }
+
+    /// The two acts as they are dealt: both to one shard, or one to each of two.
+    #[inline(always)]
+    pub(crate) fn written(self, number: u64, index: u32) -> Written
+        ensures { result ≡ written_of self number index }
+    {
+        let Deeds {
+            mut first,
+            mut second,
+            home,
+            other,
+        } = self;
+        if other.shard().is_none() {
+            second = Act::Look(Look::Nothing);
+        }
+        if home.shard().is_none() {
+            first = second;
+            second = Act::Look(Look::Nothing);
+        }
+        Written {
+            number,
+            index,
+            first,
+            second,
+        }
+    }
+}
+
+/// What a transaction writes on its shards, at its number, of the request of this index: two acts.
+#[derive(Drop)]
+pub(crate) struct Written {
+    pub(crate) number: u64,
+    pub(crate) index: u32,
+    pub(crate) first: Act,
+    pub(crate) second: Act,
+}
+
+/// Does two acts on a shard that is as it was taken, and puts it back with their line.
+#[inline(always)]
+pub(crate) fn put_with_line<N: PhaseName, R: Wait>(
+    rt: &R,
+    boxes: &Boxes<N>,
+    key: &mut Key<N>,
+    mut held: Held<N>,
+    written: Written,
+)
+    requires of { key.old.boxes ≡ boxes.now }
+    requires held { IsHeldFor N.initial key.old held written.number }
+    requires can { CanDo held.shard (written_acts written) }
+    ensures { IsPutWith N.initial key.old key.new held
+        (line_of written.number written.index (written_acts written) held.shard) }
+{
+    let acts = [written.first, written.second];
+    let trace = held.act(written.number, written.index, &acts);
+    boxes.put_acted(rt, key, held, trace);
+}

@@ -1,0 +1,12 @@
+//! The transactions of one worker in one phase: the shards that a request needs, what it does on
+//! them, and its reply.
+#![tactic(auto)]
+
+mod answers;
+mod deeds;
+mod homes;
+mod transaction;
+mod worker;
+
+pub use transaction::{Done, PermitFault};
+pub use worker::{Worker, WorkerStart};

@@ -1,0 +1,380 @@
+//! What a worker does with a request that is not put off: what it finds, and how it answers.
+ghost use Rattle.std.specs.Prelude.{◌≡◌, ◌<◌, ◌≤◌, ◌↔◌, ℕ, suc, None, Some, IsNone, IfNone, IfSome, IfOk, IfErr, false, true, length};
+ghost use Rattle.std.specs.List.{AllByRecursion};
+ghost use Rattle.auction_rows.specs.Refusals.{number_refusal};
+ghost use Rattle.auction_rows.specs.Requests.{is_view};
+ghost use Rattle.auction_rows.specs.StoreReplies.{reply_of};
+ghost use Rattle.item_shards.specs.Answering.{bid_request};
+ghost use Rattle.item_shards.specs.CommitNumbers.{last_number};
+ghost use Rattle.shard_boxes.specs.Keys.{KeyState};
+ghost use Rattle.phase_transactions.specs.declared.transaction.PermitFault.TheVariants.{NumberFull};
+ghost use Rattle.phase_transactions.specs.Txns.{IsBid};
+
+use crate::answers::{item_on, view_on};
+use crate::deeds::{BidCall, Call, Deeds, Store, View, Written};
+use crate::homes::{Begun, make_room, number_on, put_all, put_back, take_all};
+use crate::worker::Worker;
+use auction_rows::{BidEntry, Refusal, Reply, Request, StoreReply, number_refusal};
+use item_shards::{Act, Look, next_number, refusal_with};
+use shard_boxes::{Boxes, PhaseName};
+use std::alloc::AllocError;
+use std::sync::Wait;
+use thiserror::Error;
+use worker_journals::{Answer, ReplyForm};
+use worker_slices::Homes;
+
+/// Why a permit did not perform a request. Only its tries and what its key has seen have changed.
+#[derive(Clone, Copy, Debug, PartialEq, Eq, Drop, Error)]
+pub enum PermitFault {
+    /// No memory was left for the place of a new item.
+    #[error("no memory")]
+    Memory,
+    /// The greatest clock found is at the end of numbers, 2^59.
+    #[error("commit numbers used up")]
+    NumberFull,
+}
+
+/// What a split permit did with a request.
+#[derive(Clone, Copy, Debug, PartialEq, Eq)]
+pub enum Done {
+    /// It was committed with this reply.
+    Committed(Reply),
+    /// It waits for the next joined phase.
+    Stashed,
+}
+
+impl<N: PhaseName> Worker<N> {
+    ghost use Rattle.worker_slices.specs.declared.homes.Homes.{Homes as HomesValue};
+    ghost use Rattle.phase_transactions.specs.Begun.{step_of, HasBegun, HasFirst, HasRoomFor, IsAnsweredBy, states_in};
+    ghost use Rattle.phase_transactions.specs.Homes.{AreHomesOf, HasHomes};
+    ghost use Rattle.worker_slices.specs.Homes.{IsHotStore, shard_at};
+    ghost use Rattle.phase_transactions.specs.Performing.{asks, CanTransact, HasCommitted, HasCommittedSome, HasFailed, HasPerformed, HasStoredOrIsFull, HasStoredSome, HaveOpening, StoresItem};
+    ghost use Rattle.worker_slices.specs.Slicing.{hot_objects};
+    ghost use Rattle.phase_transactions.specs.Takens.{footprint_of, is_one_of, IsReady};
+    ghost use Rattle.phase_transactions.specs.Txns.{is_put_off};
+    ghost use Rattle.phase_transactions.specs.Viewing.{IsShownBy};
+    ghost use Rattle.phase_transactions.specs.Workers.{next_bid};
+
+    /// Performs a request of the quota that is not put off. After a fault nothing has changed but
+    /// what the key has seen of the shards of its footprint.
+    pub fn transact<R: Wait>(
+        &mut self,
+        rt: &R,
+        boxes: &Boxes<N>,
+        request: &Request,
+        index: u32,
+    ) -> Result<(), PermitFault>
+        requires { CanTransact N.initial boxes.now self.old request.now }
+        ensures { HasPerformed N.initial self.old self.new request.now index result }
+    {
+        match *request {
+            Request::StoreBid {
+                bidder,
+                item,
+                amount,
+                time,
+            } => {
+                let entry = BidEntry {
+                    amount,
+                    time,
+                    id: self.next_bid(),
+                    bidder,
+                };
+                self.bid(rt, boxes, &BidCall { item, entry, index })
+            }
+            Request::StoreItem { .. } | Request::StoreComment { .. } | Request::BuyNow { .. } => {
+                self.store(rt, boxes, request, index)
+            }
+            _ => self.show(rt, boxes, request, index),
+        }
+    }
+
+    // Performs a bid. If its item lies in a shard, it is found there once.
+    fn bid<R: Wait>(&mut self, rt: &R, boxes: &Boxes<N>, bid: &BidCall) -> Result<(), PermitFault>
+        requires id { bid.now.entry.id ≡ next_bid self.old }
+        requires can { CanTransact N.initial boxes.now self.old
+            (bid_request bid.now.item bid.now.entry) }
+        ensures { HasPerformed N.initial self.old self.new
+            (bid_request bid.now.item bid.now.entry) bid.now.index result }
+    {
+        let BidCall { item, entry, index } = *bid;
+        // The request is made anew: then the compiler knows its kind.
+        let request = &Request::StoreBid {
+            bidder: entry.bidder,
+            item,
+            amount: entry.amount,
+            time: entry.time,
+        };
+        let call = Call { request, index };
+        if let Some(reason) = number_refusal(self.opening, *request) {
+            return self.refuse(call, reason);
+        }
+        let homes = self.homes(request);
+        if homes.item.shard().is_none() {
+            return self.store_hot(call, &homes);
+        }
+
+        let begun = self.begin(rt, boxes, request, &homes)?;
+        let Begun { taken, number } = begun;
+        let mut held = taken.one();
+        let (trace, refused) = held.bid(number, index, item, entry);
+        boxes.put_acted(rt, &mut self.key, held, trace);
+        let store = Store {
+            call,
+            homes: &homes,
+            reply: self.reply(refused, request),
+        };
+        self.add_store(number, &store);
+        Ok(())
+    }
+
+    // Performs a store that is no bid.
+    fn store<R: Wait>(
+        &mut self,
+        rt: &R,
+        boxes: &Boxes<N>,
+        request: &Request,
+        index: u32,
+    ) -> Result<(), PermitFault>
+        requires store { is_view request.now ≡ false }
+        requires no_bid { ¬ IsBid request.now }
+        requires can { CanTransact N.initial boxes.now self.old request.now }
+        ensures { HasPerformed N.initial self.old self.new request.now index result }
+    {
+        let call = Call { request, index };
+
+        // A store that the opening refuses takes no shard, nor does one on hot objects alone.
+        if let Some(reason) = number_refusal(self.opening, *request) {
+            return self.refuse(call, reason);
+        }
+        let homes = self.homes(request);
+        if let (None, None) = (homes.item.shard(), homes.other.shard()) {
+            return self.store_hot(call, &homes);
+        }
+
+        // The shards are taken in ascending order, each once, before anything is read.
+        let mut begun = self.begin(rt, boxes, request, &homes)?;
+        if self.prepare(&mut begun, request).is_err() {
+            let Begun { taken, number: _ } = begun;
+            put_back(rt, boxes, &mut self.key, taken);
+            return Err(PermitFault::Memory);
+        }
+
+        let refused = self.refusal(&begun.taken, request, &homes);
+        let reply = self.reply(refused, request);
+        let store = Store {
+            call,
+            homes: &homes,
+            reply,
+        };
+        self.put_store(rt, boxes, begun, &store);
+        Ok(())
+    }
+
+    // Takes the shards of a footprint, with the number after all clocks, or puts them back.
+    #[inline(always)]
+    fn begin<R: Wait>(
+        &mut self,
+        rt: &R,
+        boxes: &Boxes<N>,
+        request: &Request,
+        homes: &Homes,
+    ) -> Result<Begun<N>, PermitFault>
+        requires ready { IsReady boxes.now self.old.key }
+        requires allowed { number_refusal self.old.opening request.now ≡ None }
+        requires goes { is_put_off (hot_objects self.old.slices) request.now ≡ false }
+        requires homes { AreHomesOf self.old (length N.initial) request.now homes.now }
+        requires asked { (t : ℕ) →
+            asks (length N.initial) self.old request.now t ≡ is_one_of (footprint_of homes.now) t }
+        requires known { AllByRecursion (λ s. s < length N.initial) (footprint_of homes.now) }
+        ensures worker { self.new ≡ record self.old { key = self.new.key } }
+        ensures begun { IfOk result (HasBegun
+            (step_of N.initial N.workers boxes.now self.old.key homes.now) self.new request.now) }
+        ensures full { IfErr result (HasFailed N.initial self.old self.new request.now) }
+    {
+        let taken = take_all(rt, boxes, &mut self.key, homes);
+        match number_on(&taken, self.clock) {
+            Some(number) => Ok(Begun { taken, number }),
+            None => {
+                put_back(rt, boxes, &mut self.key, taken);
+                Err(PermitFault::NumberFull)
+            }
+        }
+    }
+
+    // Makes room for the item that a request stores, on the shard in which it will lie.
+    #[inline(always)]
+    fn prepare(&self, begun: &mut Begun<N>, request: &Request) -> Result<(), AllocError>
+        requires begun { HasFirst self.now request.now begun.old.taken }
+        ensures number { begun.new.number ≡ begun.old.number }
+        ensures same { states_in begun.new.taken ≡ states_in begun.old.taken }
+        ensures room { IfOk result (λ _. HasRoomFor self.now request.now begun.new.taken) }
+        ensures refused { IfErr result (λ _. StoresItem request.now) }
+    {
+        match request {
+            Request::StoreItem { .. } => make_room(&mut begun.taken, self.next_item()),
+            _ => Ok(()),
+        }
+    }
+
+    // Does a store's acts on the shards that were taken, puts these back, and commits it.
+    #[inline]
+    fn put_store<R: Wait>(&mut self, rt: &R, boxes: &Boxes<N>, begun: Begun<N>, store: &Store<'_>)
+        requires store { is_view store.now.call.request.now ≡ false }
+        requires no_bid { ¬ IsBid store.now.call.request.now }
+        requires opened { HaveOpening N.initial self.old.opening }
+        requires begun { (key : KeyState) × HasBegun
+            (step_of N.initial N.workers boxes.now key store.now.homes.now)
+            self.old store.now.call.request.now begun }
+        requires room { HasRoomFor self.old store.now.call.request.now begun.taken }
+        requires answered { IsAnsweredBy self.old store.now.call.request.now
+            store.now.homes.now begun.taken (reply_of store.now.reply) }
+        requires left { 0 < self.old.left }
+        ensures { (key : KeyState) → HasBegun
+            (step_of N.initial N.workers boxes.now key store.now.homes.now)
+            self.old store.now.call.request.now begun →
+            HasCommitted N.initial (record self.old { key = key }) self.new
+            store.now.call.request.now store.now.call.index (reply_of store.now.reply) }
+    {
+        let Begun { taken, number } = begun;
+        let deeds = Deeds::of(store.call.request, store.reply, store.homes);
+        let written = deeds.written(number, store.call.index);
+        put_all(rt, boxes, &mut self.key, taken, written);
+        self.add_store(number, store);
+    }
+
+    /// Commits a request that the opening refuses. It takes no shard and no memory.
+    #[inline(always)]
+    pub(crate) fn refuse(&mut self, call: Call<'_>, reason: Refusal) -> Result<(), PermitFault>
+        requires refused { number_refusal self.old.opening call.request.now ≡ Some reason }
+        requires goes { is_put_off (hot_objects self.old.slices) call.request.now ≡ false }
+        requires left { 0 < self.old.left }
+        ensures { HasStoredOrIsFull self.old self.new
+            call.entry.request.now call.entry.index result }
+    {
+        let number = number_after(self.clock)?;
+        let answer = Answer {
+            form: ReplyForm::Store(StoreReply::Refused(reason)),
+        };
+        self.add_entry(number, call, &answer);
+        Ok(())
+    }
+
+    /// Performs a store on objects with these homes, of which none is in a shard, that the opening
+    /// does not refuse. It takes no shard and no memory.
+    #[inline(always)]
+    pub(crate) fn store_hot(&mut self, call: Call<'_>, homes: &Homes) -> Result<(), PermitFault>
+        requires allowed { number_refusal self.old.opening call.request.now ≡ None }
+        requires store { is_view call.request.now ≡ false }
+        requires goes { is_put_off (hot_objects self.old.slices) call.request.now ≡ false }
+        requires homes { HasHomes self.old call.request.now homes.now }
+        requires hot { shard_at homes.now.item ≡ None }
+        requires left { 0 < self.old.left }
+        ensures { HasStoredOrIsFull self.old self.new
+            call.entry.request.now call.entry.index result }
+    {
+        let number = number_after(self.clock)?;
+        let refused = refusal_with(&self.fixed(homes.item), call.request);
+        let reply = self.reply(refused, call.request);
+        let store = Store { call, homes, reply };
+        self.add_store(number, &store);
+        Ok(())
+    }
+
+    /// Performs a store on hot objects alone: None exactly where the clock is at the end of
+    /// numbers, and then nothing has changed. It takes no shard and no memory.
+    pub fn perform_hot(&mut self, request: &Request, index: u32) -> Option<()>
+        requires hot { IsHotStore self.old.slices request.now }
+        requires left { 0 < self.old.left }
+        ensures none { IsNone result ↔ (last_number ≤ self.old.clock) }
+        ensures unchanged { IfNone result (self.new ≡ self.old) }
+        ensures stored { IfSome result (λ done. HasStoredSome self.old self.new request.now index) }
+    {
+        let call = Call { request, index };
+        match number_refusal(self.opening, *request) {
+            Some(reason) => self.refuse(call, reason).ok(),
+            None => {
+                let homes = self.homes(request);
+                self.store_hot(call, &homes).ok()
+            }
+        }
+    }
+
+    // Performs a view. Not inlined: only a view needs room for a whole reply on the stack.
+    #[inline(never)]
+    fn show<R: Wait>(
+        &mut self,
+        rt: &R,
+        boxes: &Boxes<N>,
+        request: &Request,
+        index: u32,
+    ) -> Result<(), PermitFault>
+        requires view { is_view request.now ≡ true }
+        requires can { CanTransact N.initial boxes.now self.old request.now }
+        ensures { HasPerformed N.initial self.old self.new request.now index result }
+    {
+        let call = Call { request, index };
+        if let Some(reason) = number_refusal(self.opening, *request) {
+            return self.refuse(call, reason);
+        }
+        let homes = self.homes(request);
+        let begun = self.begin(rt, boxes, request, &homes)?;
+        if let Request::ViewItem { item } = *request {
+            let seen = item_on(&begun.taken, item);
+            let view = View {
+                call,
+                look: Look::Item(item),
+                answer: Answer::of_item(&seen),
+            };
+            self.put_view(rt, boxes, begun, &view);
+            return Ok(());
+        }
+        let (look, reply) = view_on(&begun.taken, request);
+        let view = View {
+            call,
+            look,
+            answer: Answer::of(&reply),
+        };
+        self.put_view(rt, boxes, begun, &view);
+        Ok(())
+    }
+
+    // Puts the shard of a view back with its line, and commits it.
+    #[inline(always)]
+    fn put_view<R: Wait>(&mut self, rt: &R, boxes: &Boxes<N>, begun: Begun<N>, view: &View<'_>)
+        requires view { is_view view.now.call.request.now ≡ true }
+        requires opened { HaveOpening N.initial self.old.opening }
+        requires begun { (homes : HomesValue) × (key : KeyState) × HasBegun
+            (step_of N.initial N.workers boxes.now key homes)
+            self.old view.now.call.request.now begun }
+        requires shown { IsShownBy begun.taken
+            view.now.call.request.now view.now.look view.now.answer }
+        requires left { 0 < self.old.left }
+        ensures { (homes : HomesValue) → (key : KeyState) → HasBegun
+            (step_of N.initial N.workers boxes.now key homes)
+            self.old view.now.call.request.now begun →
+            HasCommittedSome N.initial (record self.old { key = key }) self.new
+            view.now.call.request.now view.now.call.index }
+    {
+        let Begun { taken, number } = begun;
+        let written = Written {
+            number,
+            index: view.call.index,
+            first: Act::Look(view.look),
+            second: Act::Look(Look::Nothing),
+        };
+        put_all(rt, boxes, &mut self.key, taken, written);
+        self.add_entry(number, view.call, &view.answer);
+    }
+}
+
+// The number after a worker's clock, if there is one.
+#[inline(always)]
+fn number_after(own: u64) -> Result<u64, PermitFault>
+    ensures number { IfOk result (λ number. number ≡ suc own) }
+    ensures within { IfOk result (λ number. number ≤ last_number) }
+    ensures fault { IfErr result (λ fault. fault ≡ NumberFull) }
+    ensures full { IfErr result (λ _. last_number ≤ own) }
+{
+    next_number(own, 0).ok_or(PermitFault::NumberFull)
+}

@@ -1,0 +1,144 @@
+use Rattle.std.proofs.Common.{◌≡◌, List, [], Some, subst}
+use Rattle.auction_rows.specs.Book.{Book}
+use Rattle.auction_text.specs.Scripts.{asked_of}
+use Rattle.auction_text.specs.Said.{Said}
+use Rattle.part_log.specs.declared.log.Teller.{Teller}
+use Rattle.program_opening.specs.declared.faults.Fault.{Fault}
+use Rattle.program_opening.specs.declared.faults.Fault.TheVariants.{Read}
+use Rattle.program_serving.specs.PartRuns.{GoesOnTo, IsSession, MayHaveToSay}
+use Rattle.program_serving.specs.ServeFaults.{IsServeFault}
+use Rattle.program_serving.specs.Serving.{AreTold, book_left}
+use Rattle.program_opening.proofs.ErrorLemmas.{error_is}
+use Rattle.program_serving.proofs.PartSteps.{part_fails, part_goes_on, part_served}
+use Rattle.program_serving.proofs.RowsBefore.{no_late_row}
+use Rattle.program_serving.proofs.Sessions.{answer_stops_all, is_none, part_read, session_answered, session_ends, session_passed, session_stops}
+use Rattle.program_serving.proofs.ToldLemmas.{nothing_told}
+use Rattle.program_serving.proofs.session.serve_next.Goals as goal
+
+pub returns-in_default-clause-goes_on : goal.returns-in_default-clause-goes_on
+returns-in_default-clause-goes_on g c = λ book all start session.
+    let remaining = g.I.Read.remaining in
+    let accepted = g.L.Log.accepted in
+    let contents = g.W.Write.contents in
+    let options = c.args.options.now in
+    let new = c.pass_fault.new.teller.teller in
+    let left = c.in_ok-left.field-0 in
+    let passed = session_passed accepted contents options book all start c.args.teller.now.teller new c.args.session.served (GoesOnTo remaining options.workers c.args.session.end) session remaining left
+    (c.in_ok-left.ensures.passes remaining options.workers session.rest session.left) in
+    let none : passed.rest ≡ [] = subst (λ o. MayHaveToSay remaining options.workers o passed.rest) (is_none left c.in_default.not-Some) passed.left in
+    session_ends accepted contents options book all start new new c.args.session.served (MayHaveToSay remaining options.workers left) passed none
+
+pub returns-clause-goes_on : goal.returns-clause-goes_on
+returns-clause-goes_on g c = λ book all start session.
+    let remaining = g.I.Read.remaining in
+    let accepted = g.L.Log.accepted in
+    let contents = g.W.Write.contents in
+    let options = c.args.options.now in
+    let mid = c.pass_fault.new.teller.teller in
+    let next = c.serve_part.new.teller.teller in
+    let passed = subst (λ left. IsSession options book all c.args.session.served (MayHaveToSay remaining options.workers left) (AreTold accepted contents start mid)) c.in-Some.is
+    (session_passed accepted contents options book all start c.args.teller.now.teller mid c.args.session.served (GoesOnTo remaining options.workers c.args.session.end) session remaining c.in_ok-left.field-0
+    (c.in_ok-left.ensures.passes remaining options.workers session.rest session.left)) in
+    let part = c.in_ok-input.field-0 in
+    let Next : List Said → Type 0 = GoesOnTo remaining options.workers part.end in
+    let reads = part_read remaining options _ c.most_of_a_part.result c.most_of_a_part.ensures.asked passed.left.0 passed.rest part (c.in_ok-input.ensures.part passed.rest passed.left.1) c.in_ok-input.ensures.workers in
+    let free = no_late_row remaining c.in-Some.left passed.rest passed.left.1 in
+    let done = c.in_ok-done.done in
+    session_answered accepted contents options book all start next c.tell_past.new.teller.teller done.served Next done.past
+    (part_served accepted contents options book all start mid next c.args.session.served (MayHaveToSay remaining options.workers (Some c.in-Some.left)) passed c.most_of_a_part.result (asked_of part.input) Next reads free
+    c.most_of_a_part.ensures.few c.most_of_a_part.ensures.room done.past done.served c.in_ok-done.ensures.past c.in_ok-done.ensures.rows c.in_ok-done.ensures.serves)
+    (part_goes_on accepted contents options book all start mid next c.args.session.served (MayHaveToSay remaining options.workers (Some c.in-Some.left)) passed c.most_of_a_part.result (asked_of part.input) Next reads free
+    c.most_of_a_part.ensures.few c.most_of_a_part.ensures.room done.past c.in_ok-done.ensures.past)
+    c.in_ok-tell_past.ensures.told
+
+pub returns-clause-has : goal.returns-clause-has
+returns-clause-has g c = c.in_ok-done.ensures.has
+
+pub returns-in_err-left-clause-cause : goal.returns-in_err-left-clause-cause
+returns-in_err-left-clause-cause g c =
+    let remaining = g.I.Read.remaining in
+    let accepted = g.L.Log.accepted in
+    let contents = g.W.Write.contents in
+    let options = c.args.options.now in
+    let old = c.args.teller.now.teller in
+    let mid = c.pass_fault.new.teller.teller in
+    let fault = c.in_err-left.field-0.0 in
+    error_is c.from_residual.result fault (λ (f : Fault). (book : Book) (all : List Said) (start : Teller _ _)
+    → IsSession options book all c.args.session.served (GoesOnTo remaining options.workers c.args.session.end) (AreTold accepted contents start c.args.teller.now.teller)
+    → IsServeFault accepted contents start mid options book all f) c.from_residual.ensures
+    (λ book all start session.
+    session_stops accepted contents options book all start old mid c.args.session.served (GoesOnTo remaining options.workers c.args.session.end) session fault
+    (c.in_err-left.ensures.stops remaining options.workers session.rest session.left (book_left options book session.steps) c.args.session.served.rows))
+
+pub returns-in_err-input-clause-cause : goal.returns-in_err-input-clause-cause
+returns-in_err-input-clause-cause g c =
+    let remaining = g.I.Read.remaining in
+    let accepted = g.L.Log.accepted in
+    let contents = g.W.Write.contents in
+    let options = c.args.options.now in
+    let old = c.args.teller.now.teller in
+    let mid = c.pass_fault.new.teller.teller in
+    let fault = c.in_err-input.field-0.0 in
+    error_is c.from_residual-in_err-input.result (Read fault) (λ (f : Fault). (book : Book) (all : List Said) (start : Teller _ _)
+    → IsSession options book all c.args.session.served (GoesOnTo remaining options.workers c.args.session.end) (AreTold accepted contents start c.args.teller.now.teller)
+    → IsServeFault accepted contents start mid options book all f) c.from_residual-in_err-input.ensures
+    (λ book all start session.
+    let passed = subst (λ left. IsSession options book all c.args.session.served (MayHaveToSay remaining options.workers left) (AreTold accepted contents start mid)) c.in-Some.is
+    (session_passed accepted contents options book all start old mid c.args.session.served (GoesOnTo remaining options.workers c.args.session.end) session remaining c.in_ok-left.field-0
+    (c.in_ok-left.ensures.passes remaining options.workers session.rest session.left)) in
+    session_stops accepted contents options book all start mid mid c.args.session.served (MayHaveToSay remaining options.workers (Some c.in-Some.left)) passed (Read fault)
+    (nothing_told accepted contents mid, λ input. absurd (c.in_err-input.ensures.fails input)))
+
+pub returns-in_err-done-clause-cause : goal.returns-in_err-done-clause-cause
+returns-in_err-done-clause-cause g c =
+    let remaining = g.I.Read.remaining in
+    let accepted = g.L.Log.accepted in
+    let contents = g.W.Write.contents in
+    let options = c.args.options.now in
+    let old = c.args.teller.now.teller in
+    let mid = c.pass_fault.new.teller.teller in
+    let new = c.serve_part.new.teller.teller in
+    let fault = c.in_err-done.field-0.0 in
+    error_is c.from_residual-in_err-done.result fault (λ (f : Fault). (book : Book) (all : List Said) (start : Teller _ _)
+    → IsSession options book all c.args.session.served (GoesOnTo remaining options.workers c.args.session.end) (AreTold accepted contents start c.args.teller.now.teller)
+    → IsServeFault accepted contents start new options book all f) c.from_residual-in_err-done.ensures
+    (λ book all start session.
+    let passed = subst (λ left. IsSession options book all c.args.session.served (MayHaveToSay remaining options.workers left) (AreTold accepted contents start mid)) c.in-Some.is
+    (session_passed accepted contents options book all start old mid c.args.session.served (GoesOnTo remaining options.workers c.args.session.end) session remaining c.in_ok-left.field-0
+    (c.in_ok-left.ensures.passes remaining options.workers session.rest session.left)) in
+    let part = c.in_ok-input.field-0 in
+    let Next : List Said → Type 0 = GoesOnTo remaining options.workers part.end in
+    let reads = part_read remaining options _ c.most_of_a_part.result c.most_of_a_part.ensures.asked passed.left.0 passed.rest part (c.in_ok-input.ensures.part passed.rest passed.left.1) c.in_ok-input.ensures.workers in
+    part_fails accepted contents options book all start mid new c.args.session.served (MayHaveToSay remaining options.workers (Some c.in-Some.left)) passed c.most_of_a_part.result (asked_of part.input) Next reads
+    (no_late_row remaining c.in-Some.left passed.rest passed.left.1) c.most_of_a_part.ensures.few c.most_of_a_part.ensures.room fault c.in_err-done.ensures.cause)
+
+pub returns-in_err-tell_past-clause-cause : goal.returns-in_err-tell_past-clause-cause
+returns-in_err-tell_past-clause-cause g c =
+    let remaining = g.I.Read.remaining in
+    let accepted = g.L.Log.accepted in
+    let contents = g.W.Write.contents in
+    let options = c.args.options.now in
+    let old = c.args.teller.now.teller in
+    let mid = c.pass_fault.new.teller.teller in
+    let next = c.serve_part.new.teller.teller in
+    let new = c.tell_past.new.teller.teller in
+    let fault = c.in_err-tell_past.field-0.0 in
+    error_is c.from_residual-in_err-tell_past.result fault (λ (f : Fault). (book : Book) (all : List Said) (start : Teller _ _)
+    → IsSession options book all c.args.session.served (GoesOnTo remaining options.workers c.args.session.end) (AreTold accepted contents start c.args.teller.now.teller)
+    → IsServeFault accepted contents start new options book all f) c.from_residual-in_err-tell_past.ensures
+    (λ book all start session.
+    let Left : List Said → Type 0 = MayHaveToSay remaining options.workers (Some c.in-Some.left) in
+    let passed = subst (λ left. IsSession options book all c.args.session.served (MayHaveToSay remaining options.workers left) (AreTold accepted contents start mid)) c.in-Some.is
+    (session_passed accepted contents options book all start old mid c.args.session.served (GoesOnTo remaining options.workers c.args.session.end) session remaining c.in_ok-left.field-0
+    (c.in_ok-left.ensures.passes remaining options.workers session.rest session.left)) in
+    let part = c.in_ok-input.field-0 in
+    let Next : List Said → Type 0 = GoesOnTo remaining options.workers part.end in
+    let reads = part_read remaining options _ c.most_of_a_part.result c.most_of_a_part.ensures.asked passed.left.0 passed.rest part (c.in_ok-input.ensures.part passed.rest passed.left.1) c.in_ok-input.ensures.workers in
+    let free = no_late_row remaining c.in-Some.left passed.rest passed.left.1 in
+    let done = c.in_ok-done.done in
+    answer_stops_all accepted contents options book all start next new done.served Next done.past
+    (part_served accepted contents options book all start mid next c.args.session.served Left passed c.most_of_a_part.result (asked_of part.input) Next reads free
+    c.most_of_a_part.ensures.few c.most_of_a_part.ensures.room done.past done.served c.in_ok-done.ensures.past c.in_ok-done.ensures.rows c.in_ok-done.ensures.serves)
+    (part_goes_on accepted contents options book all start mid next c.args.session.served Left passed c.most_of_a_part.result (asked_of part.input) Next reads free
+    c.most_of_a_part.ensures.few c.most_of_a_part.ensures.room done.past c.in_ok-done.ensures.past)
+    fault c.in_err-tell_past.ensures.so_far)

@@ -1,0 +1,20 @@
+use Rattle.std.proofs.Common.{position, sym, ap, ◌∙◌}
+use Rattle.auction_rows.specs.contracts.requests.ObjectPartialEq.TheImpl.{eq-value as object_eq}
+use Rattle.auction_rows.specs.Footprint.{is_hot}
+use Rattle.worker_slices.specs.Slicing.{hot_objects}
+use Rattle.worker_slices.proofs.Places.{hot_where_at, hot_where_found, at_where_found}
+use Rattle.worker_slices.proofs.slices.Slices.place_of.Goals as goal
+
+pub returns-clause-hot : goal.returns-clause-hot
+returns-clause-hot c =
+    c.get_index_of.ensures.found ∙ hot_where_found c.args.object c.self.inside.hot.entries ∙ ap (λ hots. is_hot (hot_objects hots) c.args.object) c.self.view_is
+
+pub returns-clause-at : goal.returns-clause-at
+returns-clause-at c =
+    at_where_found c.args.object c.args.self.now c.get_index_of.result (c.get_index_of.ensures.index ∙ ap (λ hots. position (object_eq.it c.args.object) (hot_objects hots)) c.self.view_is)
+
+pub returns-in-Some-clause-hot : goal.returns-in-Some-clause-hot
+returns-in-Some-clause-hot c = sym (hot_where_at c.args.object c.args.self.now c.in-Some.place c.in-Some.ensures)
+
+pub returns-in-Some-clause-at : goal.returns-in-Some-clause-at
+returns-in-Some-clause-at c = c.in-Some.ensures

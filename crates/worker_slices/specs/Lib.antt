@@ -1,0 +1,4 @@
+pub mod Stashes
+pub mod Slicing
+pub mod Counting
+pub mod Homes
