@@ -9,6 +9,7 @@ What is to be found of a changed one follows from the change: the history writte
 
 import argparse
 import itertools
+import os
 import random
 import sys
 import tempfile
@@ -22,7 +23,7 @@ from checks import tell_of
 from inputs import Text, random_options
 from load_model import Plan, load_of
 from model import Options, Outcome, open_auction
-from program import BUILT, DOCUMENTS, EXAMPLES, TESTS, Tally, build_shim, built, run
+from program import BUILT, DOCUMENTS, EXAMPLES, TESTS, Tally, build_shim, built, run, run_typed
 from records import Fault
 from refusing import Refusing
 from worked import examples_of
@@ -288,13 +289,13 @@ def opening_rows(tester: Tester) -> None:
 
 def faults(tester: Tester) -> None:
     """faults, by their status and text"""
-    asked = tester.command(lines(RIGHT), FEW)
+    asked, missing = tester.command(lines(RIGHT), FEW), tester.folder / "none"
     cases = (
         ("a record with a fault", asked, b"0,bid\n", 2, "record 1: wrong number of fields"),
         ("a worker too many", asked, b"2,viewuser,0\n", 2, "record 1: no such worker"),
         ("a row that is none", asked, b"0,+bid,1,0.0,20,5\n", 3, "row 1: refused"),
-        ("no such file", [tester.checker, "--history", tester.folder / "none"], b"", 2, "history cannot be read"),
-        ("a folder", [tester.checker, "--history", tester.folder], b"", 2, "history cannot be read"),
+        ("no such file", [tester.checker, "--history", missing], b"", 2, f"{missing}: cannot be read: No such file or directory (os error 2)"),
+        ("a folder", [tester.checker, "--history", tester.folder], b"", 2, f"{tester.folder}: cannot be read: Is a directory (os error 21)"),
     )
     for what, command, scripts, status, text in cases:
         tester.tally.same(what, run(command, scripts), Outcome(status, b"", f"rubis_check: {text}\n".encode()))
@@ -304,6 +305,33 @@ def faults(tester: Tester) -> None:
     if Path("/dev/full").exists():
         with open("/dev/full", "wb") as full:
             tester.tally.same("a full disk", run(asked, SCRIPTS, stdout=full), Outcome(4, b"", b"rubis_check: output cannot be written\n"))
+
+
+def terminals(tester: Tester) -> None:
+    """scripts from a terminal: one Ctrl-D at the start of a line ends them, and two behind half a line"""
+    asked = tester.command(lines(["0 0 0 0 latest"]), FEW)
+    for typed in (b"0,viewcategory,0\n\x04", b"0,viewcategory,0\x04\x04"):
+        tester.tally.same(f"{typed!r} on a terminal", run_typed(asked, typed), finding(REPLAYS))
+    tester.tally.same("one Ctrl-D alone on a terminal", run_typed(asked, b"\x04"), finding("line 1: 0,0 stands in no script"))
+
+
+def interrupted_calls(tester: Tester) -> None:
+    """reads and writes that a signal interrupts, each second, third or fifth, also in a history of several reads: what is found is the same"""
+    shim = build_shim("refused_calls", tester.folder)
+    if shim is None:
+        return tester.tally.skip(interrupted_calls.__doc__, "there is no C compiler")
+    views = 3 * READ_AT_ONCE // len("0 0 0 1000 latest")
+    long = [f"0 0 0 {index} latest" for index in range(views)]
+    cases = (
+        (SCRIPTS, RIGHT, REPLAYS),
+        (SCRIPTS, [*RIGHT[:-1], "0 20 1 10 latest"], "line 20: 1,10 latest but refused 2 NoSuchCategory was due"),
+        (b"0,viewcategory,0\n" * views, long, REPLAYS),
+        (b"0,viewcategory,0\n" * (views - 1), long, f"line {views}: 0,{views - 1} stands in no script"),
+    )
+    for (scripts, history, found), every, most in itertools.product(cases, (2, 3, 5), (7, READ_AT_ONCE)):
+        limits = {"LD_PRELOAD": str(shim), "INTERRUPTED": str(every), "READ_AT_MOST": str(most), "WRITE_AT_MOST": str(most)}
+        got = run(tester.command(lines(history), FEW), scripts, env=os.environ | limits)
+        tester.tally.same(f"each {every}th call is interrupted, {most} bytes a call, {len(history)} lines", got, finding(found))
 
 
 def refused_memory(tester: Tester) -> None:
@@ -437,6 +465,8 @@ CHECKS = (
     orders,
     opening_rows,
     faults,
+    terminals,
+    interrupted_calls,
     refused_memory,
     changed_at_random,
     small_engine,

@@ -235,10 +235,18 @@ def require_no_fork() -> None:
 
 
 def small_stacks(tester: Tester) -> None:
-    """a stack of 128 KB"""
-    options = Options(workers=2, split=2)
-    got = tester.run(tester.example, options, preexec_fn=lambda: resource.setrlimit(resource.RLIMIT_STACK, (128 << 10, 128 << 10)))
-    tester.same("a stack of 128 KB", got, expected(tester.example, options))
+    """a stack of 128 KB, also live with a log, and with that log again"""
+    options, log = Options(workers=2, split=2), tester.folder / "small"
+    answered, rows = expected(tester.example, options), expected(tester.example, replace(options, rows=True)).stdout
+    logged = ("--live", "1", "--log", log)
+    for words, data, wanted in (((), tester.example, answered), (logged, tester.example, answered), (logged, VIEW, Outcome(0, b"0,0," + SEEN, b""))):
+        got = run([tester.program, *options.words(), *words], data, preexec_fn=limit_stack)
+        tester.same(f"a stack of 128 KB, {words}", got, wanted)
+    tester.tally.check(log.read_bytes() == rows, "the log of a small stack")
+
+
+def limit_stack() -> None:
+    resource.setrlimit(resource.RLIMIT_STACK, (128 << 10, 128 << 10))
 
 
 CHECKS = (

@@ -25,7 +25,8 @@ from pathlib import Path
 from typing import Callable, Iterator
 
 from checks import Tester, tell_of
-from program import BUILT, EXAMPLES, Tally, built, described, in_little_memory, run
+from model import Outcome
+from program import BUILT, EXAMPLES, Tally, built, described, in_little_memory, run, run_typed
 from sessions import FIRST, ITEMS, PLAIN, SECONDS, Auction, Era, Refused, fault_of, in_use, requests, rows_of, wait_until
 
 SEEN = "user rating=0 comments=0"
@@ -68,17 +69,8 @@ def terminals(tester: Tester) -> None:
     """an input from a terminal: one Ctrl-D at the start of a line ends it, and two behind half a line"""
     for words in ((), ("--live", "1"), ("--live", "1", *ENDS)):
         for typed in (b"0,viewuser,0\n\x04", b"0,viewuser,0\x04\x04"):
-            keyboard, terminal = os.openpty()
-            with subprocess.Popen([tester.program, *words], stdin=terminal, stdout=subprocess.PIPE) as process:
-                os.write(keyboard, typed)
-                try:
-                    got, _ = process.communicate(timeout=SECONDS)
-                except subprocess.TimeoutExpired:
-                    process.kill()
-                    got = b"nothing"
-            os.close(terminal)
-            os.close(keyboard)
-            tester.tally.check((process.returncode, got.decode()) == (0, f"0,0,{SEEN}\n"), f"{typed!r} on a terminal, {words}: {got!r}")
+            got = run_typed([tester.program, *words], typed)
+            tester.tally.same(f"{typed!r} on a terminal, {words}", got, Outcome(0, f"0,0,{SEEN}\n".encode(), b""))
 
 
 def clients(tester: Tester) -> None:

@@ -56,6 +56,17 @@ def run(command: list, stdin=b"", **how) -> Outcome:
     return Outcome(process.returncode, stdout or b"", stderr or b"")
 
 
+def run_typed(command: list, typed: bytes, **how) -> Outcome:
+    """Runs a command whose standard input is a terminal, on which this is typed."""
+    keyboard, terminal = os.openpty()
+    try:
+        os.write(keyboard, typed)
+        return run(command, terminal, **how)
+    finally:
+        os.close(terminal)
+        os.close(keyboard)
+
+
 def was_running(session: int) -> bool:
     """Whether something of a session was running. It is no more."""
     try:

@@ -8,11 +8,11 @@ use Rattle.history_check.specs.declared.lines.Wrong.{Wrong}
 use Rattle.history_check.specs.declared.lines.Wrong.TheVariants.{Unreadable, NoRequest, Again, Late, Due}
 use Rattle.program_options.specs.Words.{usage_words}
 use Rattle.check_program.specs.declared.faults.Fault.{Fault}
-use Rattle.check_program.specs.declared.faults.Fault.TheVariants.{Usage, Read, Resume, Check, Write}
+use Rattle.check_program.specs.declared.faults.Fault.TheVariants.{Usage, Read, Resume, Check, History, Write}
 
 abbrev pub check_status : CheckFault → ℕ
 check_status checking.TooLong = 3
-check_status checking.Read = 2
+check_status (checking.Read why) = 2
 check_status checking.Memory = 3
 
 abbrev pub status : Fault → ℕ
@@ -20,6 +20,7 @@ status (Usage fault) = 1
 status (Read fault) = 2
 status (Resume fault) = 3
 status (Check fault) = check_status fault
+status (History name why) = 2
 status (Write fault) = 4
 
 abbrev pub wrong_status : Wrong → ℕ
@@ -40,4 +41,5 @@ parser_words (Usage fault) = usage_words fault
 parser_words (Read fault) = None
 parser_words (Resume fault) = None
 parser_words (Check fault) = None
+parser_words (History name why) = None
 parser_words (Write fault) = None

@@ -8,6 +8,7 @@ use auction_text::{ReadFault, WriteFault};
 use history_check::CheckFault;
 use item_shards::ResumeFault;
 use program_options::UsageFault;
+use std::io;
 use std::io::Write;
 use thiserror::Error;
 
@@ -26,6 +27,9 @@ pub enum Fault {
     /// The history could not be checked.
     #[error("{0}")]
     Check(CheckFault),
+    /// The history in the file of this name could not be read.
+    #[error("{0}: cannot be read: {1}")]
+    History(String, io::Error),
     /// What was found could not be written.
     #[error("{0}")]
     Write(WriteFault),
@@ -88,7 +92,7 @@ pub fn status(fault: &Fault) -> u8
 {
     match fault {
         Fault::Usage(_) => 1,
-        Fault::Read(_) | Fault::Check(CheckFault::Read) => 2,
+        Fault::Read(_) | Fault::Check(CheckFault::Read(_)) | Fault::History(_, _) => 2,
         Fault::Resume(_) | Fault::Check(_) => 3,
         Fault::Write(_) => 4,
     }

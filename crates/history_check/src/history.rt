@@ -23,13 +23,13 @@ use std::io::{BufRead, Error, ErrorKind};
 use worker_journals::Script;
 
 // Why a read failed.
-fn fault_of(error: &Error) -> CheckFault
+fn fault_of(error: Error) -> CheckFault
     ensures { result ≡ TooLong → ⊥ }
 {
     if error.kind() == ErrorKind::OutOfMemory {
         CheckFault::Memory
     } else {
-        CheckFault::Read
+        CheckFault::Read(error)
     }
 }
 
@@ -48,7 +48,7 @@ fn take_held<R: BufRead>(reader: &mut R, line: &mut Vec<u8>) -> Result<bool, Che
             return if error.kind() == ErrorKind::Interrupted {
                 Ok(false)
             } else {
-                Err(fault_of(&error))
+                Err(fault_of(error))
             };
         }
     };
@@ -73,7 +73,7 @@ fn read_next<R: BufRead>(reader: &mut R, line: &mut Vec<u8>) -> Result<bool, Che
     match reader.read_until(b'\n', line) {
         Ok(0) => Ok(false),
         Ok(_) => Ok(true),
-        Err(error) => Err(fault_of(&error)),
+        Err(error) => Err(fault_of(error)),
     }
 }
 

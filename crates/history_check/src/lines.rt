@@ -8,6 +8,7 @@ ghost use Rattle.history_check.specs.CommitIds.{is_space, with_commit_id, Fits, 
 use auction_rows::Reply;
 use auction_text::read_u64;
 use std::alloc::{AllocError, AllocFailed};
+use std::io;
 use thiserror::Error;
 
 /// What names a commit: its phase and number, its worker and the index of its request.
@@ -142,8 +143,8 @@ pub enum CheckFault {
     #[error("more than 16000000 rows and lines")]
     TooLong,
     /// A read of the history failed.
-    #[error("history cannot be read")]
-    Read,
+    #[error("history cannot be read: {0}")]
+    Read(io::Error),
     /// No memory was left.
     #[error("no memory")]
     Memory,

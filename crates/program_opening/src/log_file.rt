@@ -47,7 +47,8 @@ pub enum LogCause {
     Memory,
 }
 
-/// Why a log is not opened, or takes no more rows. One that is not opened is as it was.
+/// Why a log is not opened, or takes no more rows. One that is not opened is as it was, but for a
+/// cut row, which may have been taken off: then it is kept in the file of that name with `.cut`.
 #[derive(Debug, Drop, Error)]
 pub enum LogFileFault {
     /// This is wrong with the file of this name.
@@ -150,6 +151,7 @@ fn keep_tail<R: Files<File = File>>(
     }
     match add_line(rt, alloc, name.as_str(), tail) {
         Ok(()) => Ok(()),
+        Err(why) if why.kind() == ErrorKind::OutOfMemory => Err(LogCause::Memory),
         Err(why) => Err(LogCause::Tail(why)),
     }
 }
@@ -164,6 +166,7 @@ fn add_line<R: Files<File = File>>(
     let mut file = match open_regular(rt, path) {
         Ok(file) => file,
         Err(LogCause::Read(why)) => return Err(why),
+        Err(LogCause::Memory) => return Err(io::Error::from(ErrorKind::OutOfMemory)),
         Err(_) => return Err(io::Error::other("not a regular file")),
     };
     file.write_all(line)?;
@@ -217,7 +220,8 @@ pub fn open_file<R: Files<File = File>, F: AppendFile + Drop, W: Write>(
 
 /// Opens the log at a path, which no other program may have open, adds its rows to an auction, and
 /// writes their text to `told`. The beginning of a row that was being written is cut off its end,
-/// and kept in the file of that name with `.cut`. After a fault the log is as it was.
+/// and kept in the file of that name with `.cut`. After a fault the log is as it was, but for that
+/// beginning: if it was cut off, it is kept.
 pub fn open_log<R: Files<File = File>, W: Write>(
     rt: &R,
     alloc: Global,

@@ -33,17 +33,17 @@ where
     let alloc = rt.alloc();
     let words = program_words(rt)?;
     let options = read_options(alloc, words.as_slice())?;
-    let Ok(file) = File::open(rt, options.history.as_str()) else {
-        return Err(Fault::Check(CheckFault::Read));
+    let file = match File::open(rt, options.history.as_str()) {
+        Ok(file) => file,
+        Err(why) => return Err(Fault::History(options.history, why)),
     };
     let Ok(mut history) = BufReader::with_capacity(alloc, HISTORY_ROOM, file) else {
         return Err(Fault::Check(CheckFault::Memory));
     };
-    execute(
-        alloc,
-        UntilEnd::of(rt.reader()),
-        &mut history,
-        &mut io::writer(rt),
-        &options,
-    )
+    let mut writer = io::writer(rt);
+    let input = UntilEnd::of(rt.reader());
+    match execute(alloc, input, &mut history, &mut writer, &options) {
+        Err(Fault::Check(CheckFault::Read(why))) => Err(Fault::History(options.history, why)),
+        checked => checked,
+    }
 }
