@@ -1,5 +1,5 @@
 #!/usr/bin/env python3
-"""Shows what the log of `--log` keeps, as docs/FORMATS.md and docs/SERVING.md say: a log that is locked, forbidden, cut, or none; writes, syncs and cuts of it that
+"""Shows what the log of `--log` keeps, as docs/FORMATS.md and docs/SERVING.md say: a log that is locked, forbidden, cut, moved, or none; writes, syncs and cuts of it that
 fail, full disks and no memory, after which nothing answered is lost; and a start right after a kill.
 
     tests/logs.py [PROGRAM] [--only CHECK]
@@ -9,6 +9,7 @@ import errno
 import itertools
 import os
 import random
+import re
 import resource
 import shutil
 import signal
@@ -266,6 +267,42 @@ def interrupted_logs(tester: Tester) -> None:
         tester.tally.check(log.read_bytes() == rows_of([*FIRST, *(f"comment,{at},{at},0.0,1" for at in range(40))]), f"the log, each {every}th call interrupted")
 
 
+def moved_logs(tester: Tester) -> None:
+    """a log that another program cuts or adds to while it is in use: the next row is a fault, and the file is left as it is; one that is moved or removed: rows go on in that file"""
+    rows = rows_of(FIRST)
+    foreign = b"0,+comment,5,6,0.0,1\n"
+    for what, text, next_reply in (
+        ("emptied", b"", "comment 0.0"),
+        ("cut between rows", rows_of(FIRST[:3]), "comment 0.0"),
+        ("cut in a row", rows[:-4], "comment 0.0"),
+        ("without its last byte", rows[:-1], "comment 0.0"),
+        ("added to", rows + foreign, "comment 0.1"),
+        ("with one byte more", rows + b"0", "comment 0.0"),
+    ):
+        log = tester.folder / what.replace(" ", "-")
+        auction = Auction(tester.program, "--log", str(log))
+        auction.many([(0, request) for request in FIRST])
+        log.write_bytes(text)
+        tester.tally.check(auction.one("viewuser,9") == SEEN, f"a log {what}: a view")
+        answered, fault = until_refused(auction, ["comment,1,2,0.0,1"])
+        tester.tally.check((answered, fault) == ([], told_of(log, UNWRITTEN)) and log.read_bytes() == text, f"a log {what}: {answered}, {fault}")
+        later = Auction(tester.program, "--log", str(log))
+        answered, wanted = later.one("comment,1,2,0.0,1"), next_reply if text else "refused 3 NoSuchItem"
+        later.close()
+        tester.tally.check(answered == wanted, f"a log {what}: the next start answers {answered}")
+    for what, is_kept in (("moved", True), ("removed", False)):
+        log, elsewhere = tester.folder / what, tester.folder / f"{what}-elsewhere"
+        auction = Auction(tester.program, "--log", str(log))
+        auction.many([(0, request) for request in FIRST])
+        log.rename(elsewhere)
+        if not is_kept:
+            elsewhere.unlink()
+        answered, fault = until_refused(auction, ["comment,1,2,0.0,1"])
+        tester.tally.check((answered, fault, log.exists()) == (["comment 0.0"], None, False), f"a log that is {what}: {answered}, {fault}")
+        tester.tally.check(not is_kept or elsewhere.read_bytes() == rows + rows_of([*FIRST, "comment,1,2,0.0,1"])[len(rows):], f"a log that is {what}: its rows")
+        tester.tally.check(fault_of(tester.program, log) is None and log.read_bytes() == b"", f"a log that is {what}: the next start makes a new one")
+
+
 def until_refused(auction: Auction, asked: Iterable[str]) -> tuple[list[str], tuple | None]:
     """The replies until the program ends, one by one, and its fault."""
     answered = []
@@ -347,7 +384,30 @@ def is_front(got: Outcome, whole: Outcome, log: bytes, rows: bytes) -> bool:
     return ended and told and rows.startswith(log) and logged <= log.count(b"\n") <= logged + 2
 
 
-CHECKS = (locked_log, without_locks, forbidden_logs, append_only_logs, cut_logs, foreign_files, repaired_logs, special_files, closed_places, bad_logs, read_back, quick_starts, failing_logs, interrupted_logs, full_disks, refused_memory)
+def refused_memory_of_a_cut_row(tester: Tester) -> None:
+    """no memory at each place, once and from then on, while a cut row is taken off a log: a fault that says so, and the row is in the log or beside it"""
+    shim = build_shim("refused_memory", tester.folder)
+    if shim is None:
+        return tester.tally.skip(refused_memory_of_a_cut_row.__doc__, "there is no C compiler")
+    log, rows, tail = tester.folder / "refused-cut", rows_of(FIRST[:2]), b"0,+bi"
+    kept_off, data = log.with_name("refused-cut.cut"), b"0,viewuser,0\n"
+    told = f"rubis_auction: {len(tail)} bytes of a cut line taken off the log, kept in {kept_off}\n".encode()
+    answer = Outcome(0, f"0,0,{SEEN}\n".encode(), told)
+    log.write_bytes(rows + tail)
+    refusing = Refusing(shim, [tester.program, "--log", log], data)
+    for and_all_after in (False, True):
+        for refusal in refusing.each(and_all_after):
+            got, text = refusal.outcome, log.read_bytes()
+            is_cut = text == rows and whole_lines(kept_off) == tail + b"\n"
+            named = rb"(%b|log): " % re.escape(bytes(log)) if got.status == 5 else b""
+            words = re.fullmatch(rb"rubis_auction: %b(row \d+: )?no memory\n" % named, got.stderr.removeprefix(told))
+            is_told = got.status in range(1, 6) and got.stdout in (b"", answer.stdout) and words is not None
+            tester.tally.check(got == answer and is_cut or is_told and (is_cut or text == rows + tail), f"{refusal}: {described(got)}")
+            log.write_bytes(rows + tail)
+            kept_off.unlink(missing_ok=True)
+
+
+CHECKS = (locked_log, without_locks, forbidden_logs, append_only_logs, cut_logs, foreign_files, repaired_logs, special_files, closed_places, bad_logs, read_back, quick_starts, failing_logs, interrupted_logs, moved_logs, full_disks, refused_memory, refused_memory_of_a_cut_row)
 
 if __name__ == "__main__":
     main(__doc__, CHECKS)

@@ -1,9 +1,10 @@
 -- What a log has accepted of its file, as the file is cut or added to.
-use Rattle.std.proofs.Common.{◌≡◌, ◌∙◌, ◌+◌, ◌++◌, ℕ, Bool, false, List, Option, None, Some, ap, arith, le_of_eq, length, length-append, refl, subst, sym, take}
+use Rattle.std.proofs.Common.{◌≡◌, ◌∙◌, ◌+◌, ◌++◌, ◌==◌, ◌≤◌, ◌<◌, ◌∷◌, ℕ, zero, suc, Bool, false, List, [], Option, None, Some, IfSome, ap, arith, drop, le_of_eq, length, length-append, length-drop, refl, subst, sym, take}
+use Rattle.std.proofs.lemmas.Bool.{eq-eqb, ne_eqb}
 use Rattle.std.proofs.lemmas.List.{length-take-le, take-append-le, take-take, take_all}
 use Rattle.std.specs.Io.KnownBytes.{append_known, Appends}
 use Rattle.std.specs.Option.{option_map}
-use Rattle.part_log.specs.Files.{HoldsSoMany, IsKeptIn}
+use Rattle.part_log.specs.Files.{HoldsSoMany, IsKeptIn, IsReadAt}
 
 pub cut_twice : (kept : ℕ) (known : Option (List ℕ)) → option_map (take kept) (option_map (take kept) known) ≡ option_map (take kept) known
 cut_twice kept None = refl
@@ -59,3 +60,36 @@ pub accepted_more : (held synced new_held new_synced : Option (List ℕ)) (kept 
 accepted_more held synced new_held new_synced kept bytes is same more kept_too =
     subst (λ known. Appends (option_map (take kept) synced) (option_map (take (kept + length bytes)) known) bytes) (sym (kept_too ∙ more))
     (subst (λ known. Appends known (option_map (take (kept + length bytes)) (append_known held bytes)) bytes) same (grown_whole held kept bytes is))
+
+some_rest : (rest read : List ℕ) → 0 < length read → take (length read) rest ≡ read → 0 < length rest
+some_rest [] [] some is = absurd (omega (arith, some))
+some_rest [] (byte ∷ read) some is = absurd (cc is)
+some_rest (byte ∷ rest) read some is = omega arith
+
+-- what a read gave is there
+pub given_there : (held : Option (List ℕ)) (at given : ℕ) (buffer : List ℕ) → given ≤ length buffer → 0 < given
+    → IfSome held (λ bytes. IsReadAt bytes at (take given buffer)) → IfSome held (λ bytes. at < length bytes)
+given_there None at given buffer fits some is = tt
+given_there (Some bytes) at given buffer fits some is =
+    let there = some_rest (drop at bytes) (take given buffer) (omega (arith, length-take-le given buffer fits, some)) is in
+    omega (arith, length-drop at bytes, there)
+
+pub all_there : (held : Option (List ℕ)) (count at : ℕ) → count ≤ at + 1 → IfSome held (λ bytes. at < length bytes) → IfSome held (λ bytes. count ≤ length bytes)
+all_there None count at next there = tt
+all_there (Some bytes) count at next there = omega (arith, next, there)
+
+pub no_bytes_there : (held : Option (List ℕ)) (count : ℕ) → count ≤ 0 → IfSome held (λ bytes. count ≤ length bytes)
+no_bytes_there None count few = tt
+no_bytes_there (Some bytes) count few = omega (arith, few)
+
+-- with nothing at a place before the last that it should hold, it holds less
+pub holds_less : (held : Option (List ℕ)) (count at : ℕ) → at < count → IfSome held (λ bytes. length bytes ≤ at) → IfSome held (λ bytes. false ≡ (length bytes == count))
+holds_less None count at before short = tt
+holds_less (Some bytes) count at before short = sym (ne_eqb (length bytes) count (λ same. omega (arith, same, before, short)))
+
+-- with all that it should hold, a read behind that tells whether there is more
+pub holds_all : (held : Option (List ℕ)) (count given : ℕ) → IfSome held (λ bytes. count ≤ length bytes) → (given ≡ 0 → IfSome held (λ bytes. length bytes ≤ count))
+    → (0 < given → IfSome held (λ bytes. count < length bytes)) → IfSome held (λ bytes. (given == 0) ≡ (length bytes == count))
+holds_all None count given there end behind = tt
+holds_all (Some bytes) count zero there end behind = sym (eq-eqb (length bytes) count (omega (arith, there, end refl)))
+holds_all (Some bytes) count (suc given) there end behind = let more = behind (omega arith) in ne_eqb (suc given) 0 (λ is. omega (arith, is)) ∙ sym (ne_eqb (length bytes) count (λ same. omega (arith, same, more)))

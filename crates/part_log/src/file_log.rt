@@ -1,10 +1,11 @@
 //! Files that can be read at any place, added to at the end, and cut; and a log in such a file.
-ghost use Rattle.std.specs.Prelude.{◌≡◌, ◌≤◌, ◌<◌, ℕ, false, List, Option, None, IsErr, OnOk, length, take, IfErr, IfOk, IfSome};
+ghost use Rattle.std.specs.Prelude.{◌≡◌, ◌==◌, ◌≤◌, ◌<◌, ℕ, false, List, Option, None, IsErr, OnOk, length, take, IfErr, IfOk, IfSome};
 ghost use Rattle.std.specs.Option.{option_map};
 ghost use Rattle.std.specs.Io.KnownBytes.{append_known};
 ghost use Rattle.part_log.specs.Files.{HoldsSoMany, IsReadAt};
 
 use crate::log::{Log, LogFault};
+use auction_text::UntilEnd;
 use std::fs::File;
 use std::io;
 use std::io::{Read, Seek, SeekFrom, Write};
@@ -56,7 +57,8 @@ impl AppendFile for File {
     fn read_at(&self, at: u64, buffer: &mut [u8]) -> io::Result<usize> {
         let mut file = self;
         file.seek(SeekFrom::Start(at))?;
-        file.read(buffer)
+        // It reads again where a signal interrupts it.
+        UntilEnd::of(file).read(buffer)
     }
 
     fn append(&mut self, bytes: &[u8]) -> io::Result<()> {
@@ -134,6 +136,18 @@ impl<F: AppendFile + Drop> FileLog<F> {
     }
 }
 
+// Whether a file holds so many bytes and no more.
+fn holds_just<F: AppendFile>(file: &F, count: u64) -> io::Result<bool>
+    ensures just { IfOk result (λ holds. IfSome (F.held file.now) (λ bytes.
+        holds ≡ (length bytes == count))) }
+{
+    let mut byte = [0];
+    if count > 0 && file.read_at(count - 1, &mut byte)? == 0 {
+        return Ok(false);
+    }
+    Ok(file.read_at(count, &mut byte)? == 0)
+}
+
 impl<F: AppendFile + Drop> Log for FileLog<F> {
     ghost accepted = { λ log. log.accepted };
 
@@ -149,6 +163,10 @@ impl<F: AppendFile + Drop> Log for FileLog<F> {
             return Err(LogFault::Write);
         };
         self.has_ended = true;
+        // Another program may have cut it or added to it: rows behind that could be lost.
+        if !holds_just(&self.file, self.kept).is_ok_and(|holds| holds) {
+            return Err(LogFault::Broken);
+        }
         if self.file.append(bytes).is_err() {
             self.take_back()?;
             self.has_ended = false;

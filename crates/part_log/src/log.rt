@@ -17,7 +17,8 @@ pub enum LogFault {
     /// They were written but not synced, and were taken back: no later call puts anything by.
     #[error("log cannot be written")]
     Sync,
-    /// They could not be taken back, or the log had ended before: no later call puts anything by.
+    /// They could not be taken back, the log had ended before, or its file does not hold just what
+    /// was accepted: no later call puts anything by.
     #[error("log cannot be written")]
     Broken,
 }
