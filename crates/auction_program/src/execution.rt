@@ -27,11 +27,11 @@ use std::sync::Wait;
 use std::thread::Threads;
 use worker_journals::{History, Script};
 
-/// Opens an auction with the rows that the reader gives, performs its scripts, one thread per
-/// worker, and writes the replies, the history or the rows, and then the report, as the options
-/// say. The first byte is written once all scripts are performed. If the writer then fails, a
-/// prefix of the text was written; if memory is refused for a text, the texts before it; and after
-/// any other fault nothing.
+/// Opens an auction with the rows that the reader gives, performs its scripts, with one thread per
+/// worker in the phases that gain by it, and writes the replies, the history or the rows, and then
+/// the report, as the options say. The first byte is written once all scripts are performed. If the
+/// writer then fails, a prefix of the text was written; if memory is refused for a text, the texts
+/// before it; and after any other fault nothing.
 pub fn execute<R: Threads + Wait + Sync, I: Read + Drop, W: Write>(
     rt: &R,
     alloc: Global,

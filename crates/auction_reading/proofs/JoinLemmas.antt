@@ -134,6 +134,14 @@ can_join old parcel same room rows =
       rows = λ begun. nil_from_length parcel.input.rows.items (sym parcel.input.rows.ok.0 ∙ rows begun);
     }
 
+-- what can be joined passes them: it has as many workers
+pub same_workers : (old parcel : Progress) → CanJoin (read_by old) (read_by parcel) → vec_len old.input.scripts ≡ vec_len parcel.input.scripts
+same_workers old parcel can = old.input.scripts.ok.0 ∙ can.workers ∙ sym parcel.input.scripts.ok.0
+
+-- and no rows after a request
+pub no_late_rows : (old parcel : Progress) → CanJoin (read_by old) (read_by parcel) → old.begun ≡ true → vec_len parcel.input.rows ≡ 0
+no_late_rows old parcel can begun = parcel.input.rows.ok.0 ∙ ap length (can.rows begun)
+
 -- one more worker's script is joined
 pub one_joined : (xs ys : List (List Request)) (i : ℕ) (a b : List Request) → length xs ≡ length ys → i < length xs
     → set (take i (scripts_joined xs ys) ++ drop i xs) i (get_or (take i (scripts_joined xs ys) ++ drop i xs) i a ++ get_or ys i b) ≡ take (suc i) (scripts_joined xs ys) ++ drop (suc i) xs

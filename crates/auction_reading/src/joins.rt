@@ -1,5 +1,5 @@
 //! What was read of a parcel, joined to what was read before it.
-ghost use Rattle.std.specs.Prelude.{◌≡◌, ◌≤◌, ◌+◌, [], length, replicate, true, vec_len, IfErr, IsTrue, OnOk};
+ghost use Rattle.std.specs.Prelude.{◌≡◌, ◌≤◌, ◌↔◌, [], length, replicate, IfErr, IsTrue, OnOk};
 ghost use Rattle.record_reading.specs.Asking.{asked_of};
 ghost use Rattle.record_reading.specs.Reading.{IsInputFault};
 ghost use Rattle.record_reading.specs.declared.inputs.TheConstants.{MOST_RECORDS};
@@ -33,11 +33,7 @@ pub fn clear(progress: &mut Progress)
 /// Whether what a parcel asks for can follow what was read before it.
 pub fn can_join(progress: &Progress, parcel: &Progress) -> bool
     requires { progress.now.count ≤ MOST_RECORDS }
-    ensures workers { IsTrue result →
-        vec_len progress.now.input.scripts ≡ vec_len parcel.now.input.scripts }
-    ensures room { IsTrue result → progress.now.count + parcel.now.count ≤ MOST_RECORDS }
-    ensures rows { IsTrue result → progress.now.begun ≡ true →
-        vec_len parcel.now.input.rows ≡ 0 }
+    ensures { IsTrue result ↔ CanJoin (read_by progress.now) (read_by parcel.now) }
 {
     if progress.input.scripts.len() != parcel.input.scripts.len() {
         return false;
@@ -69,7 +65,8 @@ fn join_inputs(input: &mut CompactInput, other: &CompactInput) -> Result<(), All
     Ok(())
 }
 
-/// Adds what was read of a parcel to what was read before it.
+/// Adds what was read of a parcel to what was read before it. After a fault what was read is not
+/// known.
 pub fn join(progress: &mut Progress, parcel: &Progress) -> Result<(), ReadFault>
     requires { CanJoin (read_by progress.old) (read_by parcel.now) }
     ensures joins { OnOk result

@@ -1,9 +1,9 @@
 //! Whole inputs: the rows and scripts that are read to the end of what a reader gives.
 //!
-//! `scripts` reads plain lines where they lie, and by `csv` from the first line on that is not plain
-//! or has a fault. `by_threads` does the same with several threads: what is read at a time is cut at
-//! ends of lines into parcels, each is read as if nothing stood before it, and they are joined in
-//! their order.
+//! `scripts` reads plain lines where they lie, and by `csv` from the first line on that is not
+//! plain or has a fault. `by_threads` does the same with several threads: what is read at a time is
+//! cut at ends of lines into parcels, each is read as if nothing stood before it, and they are
+//! joined in their order.
 #![tactic(auto)]
 
 mod by_threads;

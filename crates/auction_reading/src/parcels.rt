@@ -1,5 +1,5 @@
 //! Parcels of a text, each read as if nothing stood before it, and joined in their order.
-ghost use Rattle.std.specs.Prelude.{ℕ, ◌<◌, ◌≤◌, drop, length, take, List, IfErr, IfOk, IfSome, OnOk};
+ghost use Rattle.std.specs.Prelude.{ℕ, ◌≡◌, ◌<◌, ◌≤◌, drop, length, take, vec_len, List, IfErr, IfOk, IfSome, OnOk};
 ghost use Rattle.record_reading.specs.Lines.{EndsLine};
 ghost use Rattle.record_reading.specs.Reading.{IsInputFault};
 ghost use Rattle.record_reading.specs.declared.inputs.TheConstants.{MOST_RECORDS};
@@ -29,7 +29,8 @@ pub struct Parcel {
 impl Parcel {
     /// A parcel of no lines, for so many workers.
     pub fn new(alloc: Global, workers: u32) -> Result<Parcel, ReadFault>
-        ensures { IfErr result (λ fault. IsInputFault fault → ⊥) }
+        ensures workers { IfOk result (λ parcel. vec_len parcel.progress.input.scripts ≡ workers) }
+        ensures fails { IfErr result (λ fault. IsInputFault fault → ⊥) }
     {
         let input = CompactInput::new(alloc, workers)?;
         let progress = Progress {
@@ -44,7 +45,8 @@ impl Parcel {
         })
     }
 
-    // Reads the plain lines of the parcel with this number of a text, of which each is about so long.
+    // Reads the plain lines of the parcel with this number of a text, of which each is about so
+    // long.
     fn read(&mut self, text: &[u8], number: usize, size: usize)
         ensures { IsParcel text.now self.new }
     {
@@ -111,7 +113,8 @@ fn cut(text: &[u8], about: usize) -> usize
     lines_end(&text[..part])
 }
 
-/// Cuts a text of whole lines into parcels of about one length, and reads each, by threads.
+/// Cuts a text of whole lines into parcels of about one length, and reads the plain lines at the
+/// front of each, by threads. How far that is, no clause says: what is left is read by `csv`.
 pub fn read_parcels<R: Threads + Sync>(rt: &R, parcels: &mut [Parcel], text: &[u8])
     ensures { AreParcels text.now parcels.new }
 {
@@ -123,7 +126,8 @@ pub fn read_parcels<R: Threads + Sync>(rt: &R, parcels: &mut [Parcel], text: &[u
 }
 
 /// Adds what was read of the parcels of a text, as far as each begins where the one before it was
-/// read to, and returns the place in the text up to which that is.
+/// read to, and returns the place in the text up to which that is. How far that is, no clause says:
+/// what is left is read by `csv`.
 pub fn join_parcels(progress: &mut Progress, parcels: &[Parcel]) -> Result<usize, ReadFault>
     requires { progress.old.count ≤ MOST_RECORDS }
     ensures within { IfOk result (λ at. (text : List ℕ) → AreParcels text parcels.now →

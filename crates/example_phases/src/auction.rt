@@ -63,11 +63,13 @@ impl Auction {
         })
     }
 
-    /// What a phase begins with: the objects, what each worker has deferred, all commits so far, and
-    /// both clients.
+    /// What a phase begins with: the objects, what each worker has deferred, all commits so far,
+    /// and both clients.
     pub fn parts(self) -> (Joined, Vec<Stash>, History, (Client, Client))
         ensures state { result.0 ≡ self.state }
         ensures stashes { result.1 ≡ self.stashes }
+        ensures history { result.2 ≡ self.history }
+        ensures clients { result.3 ≡ (self.first, self.second) }
     {
         let Self {
             state,

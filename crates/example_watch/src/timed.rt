@@ -17,6 +17,7 @@ pub struct Timed<'a, B, C> {
 impl<'a, B, C> Timed<'a, B, C> {
     ghost use Rattle.std.specs.Prelude.{◌≡◌};
 
+    /// A board that times what it publishes, by this clock.
     pub fn new(board: B, clock: &'a C) -> Timed<'a, B, C>
         ensures { result.board ≡ board }
     {

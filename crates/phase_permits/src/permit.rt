@@ -166,7 +166,7 @@ impl<N: PhaseName, K: Kind> Permit<N, K> {
         self.worker.stashed_at(0)
     }
 
-    /// The one at a place, with its index.
+    /// The request at a place among those put off, with its index.
     pub fn stashed_at(&self, place: usize) -> Option<(u32, Request)>
         ensures { result ≡ slice_get self.now.stash.requests place }
     {

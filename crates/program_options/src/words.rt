@@ -55,17 +55,22 @@ pub fn parse_words<'a>(
     words: &'a [String],
 ) -> Result<ArgMatches<'a>, UsageFault>
     ensures texts { is_simple_and_free (app_of command.entry) ≡ true
-        → IfOk result (λ matches. (id : List ℕ) → one_text (found_of matches) id ≡ text_in (app_of command.entry) (map string_bytes words.now) id) }
+        → IfOk result (λ matches. (id : List ℕ) → one_text (found_of matches) id
+        ≡ text_in (app_of command.entry) (map string_bytes words.now) id) }
     ensures values { is_simple_and_free (app_of command.entry) ≡ true
-        → IfOk result (λ matches. (id : List ℕ) → first_value (found_of matches) id ≡ value_in (app_of command.entry) (map string_bytes words.now) id) }
+        → IfOk result (λ matches. (id : List ℕ) → first_value (found_of matches) id
+        ≡ value_in (app_of command.entry) (map string_bytes words.now) id) }
     ensures given { is_simple_and_free (app_of command.entry) ≡ true
-        → IfOk result (λ matches. (id : List ℕ) → is_given (found_of matches) id ≡ given_in (app_of command.entry) (map string_bytes words.now) id) }
+        → IfOk result (λ matches. (id : List ℕ) → is_given (found_of matches) id
+        ≡ given_in (app_of command.entry) (map string_bytes words.now) id) }
     ensures numbers { is_simple_and_free (app_of command.entry) ≡ true
-        → IfOk result (λ matches. HaveNumbers (app_of command.entry) (one_text (found_of matches))) }
+        → IfOk result (λ matches.
+        HaveNumbers (app_of command.entry) (one_text (found_of matches))) }
     ensures taken { is_simple_and_free (app_of command.entry) ≡ true
         → OnOk result (AreTaken (app_of command.entry) (map string_bytes words.now)) }
     ensures memory { is_simple_and_free (app_of command.entry) ≡ true
-        → IfErr result (λ fault. AreTaken (app_of command.entry) (map string_bytes words.now) → fault ≡ UsageFault.Memory) }
+        → IfErr result (λ fault. AreTaken (app_of command.entry) (map string_bytes words.now)
+        → fault ≡ UsageFault.Memory) }
 {
     match command.try_get_matches_from_mut(words) {
         Ok(matches) => Ok(matches),

@@ -1,8 +1,9 @@
-//! Sixteen workers who bid on one item of one shard, side by side: nothing is hot.
+//! Sixteen workers who bid on one item of one shard, side by side in threads: nothing is hot.
 use crate::comparing::assert_same;
+use crate::runs::testing::Threaded;
 use crate::testing::{LOOK, VIEW, bid, item_seen, put_up, vases};
 use auction_rows::{Opening, Request};
-use auction_run::{FreeGate, Outcome, Policy, run};
+use auction_run::{Outcome, Policy, run};
 use item_shards::OpeningBook;
 use std::alloc::Global;
 use std::process::Abort;
@@ -60,6 +61,6 @@ fn assert_outcome(rt: &impl Abort, outcome: &Outcome) {
 fn workers_on_one_shard_share_its_numbers(rt: HostRuntime) {
     let book = OpeningBook::empty(OPENING);
     let scripts = scripts(&rt, rt.alloc());
-    let outcome = run(&rt, rt.alloc(), &book, scripts, POLICY, &FreeGate);
+    let outcome = run(&rt, rt.alloc(), &book, scripts, POLICY, &Threaded);
     assert_outcome(&rt, &outcome.expect(&rt, "a run"));
 }

@@ -1,5 +1,16 @@
+use Rattle.std.proofs.Common.{arith}
+use Rattle.record_reading.proofs.DigitLemmas.{more_behind}
 use Rattle.record_reading.proofs.PlainLineLemmas.{bid_in_place}
 use Rattle.record_reading.proofs.plain_lines.any_bid.Goals as goal
+
+pub item_to_comma-requires-clause-within : goal.item_to_comma-requires-clause-within
+item_to_comma-requires-clause-within c = more_behind _ _ _ _ _ c.requires.ends c.in_ok-bidder.ensures.there (λ e. omega (arith, e))
+
+pub number_to-requires-clause-within : goal.number_to-requires-clause-within
+number_to-requires-clause-within c = more_behind _ _ _ _ _ c.requires.ends c.in_ok-item.ensures.there (λ e. omega (arith, e))
+
+pub last_number-requires-clause-within : goal.last_number-requires-clause-within
+last_number-requires-clause-within c = more_behind _ _ _ _ _ c.requires.ends c.in_ok-amount.ensures.there (λ e. omega (arith, e))
 
 pub returns : goal.returns
 returns c =

@@ -1,6 +1,16 @@
-use Rattle.std.proofs.Common.{◌∙◌, sym}
+use Rattle.std.proofs.Common.{arith, ◌∙◌, sym}
+use Rattle.record_reading.proofs.DigitLemmas.{more_behind}
 use Rattle.record_reading.proofs.PlainLineLemmas.{comment_in_place}
 use Rattle.record_reading.proofs.plain_lines.comment.Goals as goal
+
+pub u32_to-requires-2-clause-within : goal.u32_to-requires-2-clause-within
+u32_to-requires-2-clause-within c = more_behind _ _ _ _ _ c.requires.ends c.in_ok-author.ensures.there (λ e. omega (arith, e))
+
+pub item_to_comma-requires-clause-within : goal.item_to_comma-requires-clause-within
+item_to_comma-requires-clause-within c = more_behind _ _ _ _ _ c.requires.ends c.in_ok-about.ensures.there (λ e. omega (arith, e))
+
+pub last_field-requires-clause-within : goal.last_field-requires-clause-within
+last_field-requires-clause-within c = more_behind _ _ _ _ _ c.requires.ends c.in_ok-item.ensures.there (λ e. omega (arith, e))
 
 pub returns : goal.returns
 returns c =

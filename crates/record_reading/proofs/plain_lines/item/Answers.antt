@@ -1,6 +1,19 @@
-use Rattle.std.proofs.Common.{◌∙◌, sym}
+use Rattle.std.proofs.Common.{arith, ◌∙◌, sym}
+use Rattle.record_reading.proofs.DigitLemmas.{more_behind}
 use Rattle.record_reading.proofs.PlainLineLemmas.{item_in_place}
 use Rattle.record_reading.proofs.plain_lines.item.Goals as goal
+
+pub u32_to-requires-2-clause-within : goal.u32_to-requires-2-clause-within
+u32_to-requires-2-clause-within c = more_behind _ _ _ _ _ c.requires.ends c.in_ok-seller.ensures.there (λ e. omega (arith, e))
+
+pub next_field-requires-clause-within : goal.next_field-requires-clause-within
+next_field-requires-clause-within c = more_behind _ _ _ _ _ c.requires.ends c.in_ok-category.ensures.there (λ e. omega (arith, e))
+
+pub number_to-requires-2-clause-within : goal.number_to-requires-2-clause-within
+number_to-requires-2-clause-within c = more_behind _ _ _ _ _ c.requires.ends c.in_ok-start.ensures.there (λ e. omega (arith, e))
+
+pub put_up-requires-clause-within : goal.put_up-requires-clause-within
+put_up-requires-clause-within c = more_behind _ _ _ _ _ c.requires.ends c.in_ok-closes.ensures.there (λ e. omega (arith, e))
 
 pub returns : goal.returns
 returns c =

@@ -1,7 +1,7 @@
 use Rattle.std.proofs.Common.{arith, ◌≡◌, ℕ, drop, subst, sym}
 use Rattle.auction_reading.specs.Parcels.{read_with}
 use Rattle.auction_reading.specs.Said.{HasRead, WasRead, read_by}
-use Rattle.auction_reading.proofs.JoinLemmas.{can_join, parcel_read_on}
+use Rattle.auction_reading.proofs.JoinLemmas.{parcel_read_on}
 use Rattle.auction_reading.proofs.SaidLemmas.{has_read_none}
 use Rattle.auction_reading.proofs.parcels.Parcel.join_at.Goals as goal
 
@@ -12,10 +12,7 @@ pub returns-then-not-can_join-clause-reads : goal.returns-then-not-can_join-clau
 returns-then-not-can_join-clause-reads c text is = has_read_none (read_by c.args.progress.now) (drop c.args.at text) c.requires
 
 pub join-requires : goal.join-requires
-join-requires c =
-    let can = c.can_join.ensures in
-    let yes = c.if-not-can_join.false in
-    can_join c.args.progress.now c.args.self.now.progress (can.workers yes) (can.room yes) (can.rows yes)
+join-requires c = c.can_join.ensures.0 c.if-not-can_join.false
 
 pub returns-clause-within : goal.returns-clause-within
 returns-clause-within c text is within = (is c.in-Some.to c.in-Some.is).within
@@ -25,9 +22,8 @@ returns-clause-reads c text is =
     let self = c.args.self.now in
     let old = read_by c.args.progress.now in
     let to = c.in-Some.to in
-    let can = c.can_join.ensures in
-    let yes = c.if-not-can_join.false in
+    let can = c.can_join.ensures.0 c.if-not-can_join.false in
     let begins : self.from ≡ c.args.at = omega (arith, c.if-self-at.false) in
     subst (λ (was : WasRead). HasRead old (drop c.args.at text) was (drop to text)) (sym c.in_ok-join.ensures.joins)
     (subst (λ (n : ℕ). HasRead old (drop n text) (read_with old (read_by self.progress)) (drop to text)) begins
-    (parcel_read_on old (read_by self.progress) (drop self.from text) (drop to text) (can_join c.args.progress.now self.progress (can.workers yes) (can.room yes) (can.rows yes)) (is to c.in-Some.is).reads))
+    (parcel_read_on old (read_by self.progress) (drop self.from text) (drop to text) can (is to c.in-Some.is).reads))

@@ -1,6 +1,10 @@
 use Rattle.std.proofs.Common.{◌≡◌, ◌<◌, None, Some, length, refl, sym, ap, subst, ◌∙◌, arith, rules}
+use Rattle.std.specs.Prelude.{Result, Err, IsErrOf}
 use Rattle.std.proofs.Math.Nat.{lt_of_not-le}
 use Rattle.std.proofs.lemmas.Bool.{false≢true}
+use Rattle.auction_rows.specs.declared.replies.Refusal.{Refusal}
+use Rattle.auction_rows.specs.declared.replies.Refusal.TheVariants.{NoSuchUser}
+use Rattle.auction_rows.specs.declared.rows.Row.{Row}
 use Rattle.auction_rows.specs.Refusals.{refusal}
 use Rattle.auction_rows.specs.Replies.{reply, row_of}
 use Rattle.auction_rows.specs.Requests.{is_view}
@@ -8,11 +12,23 @@ use Rattle.auction_rows.specs.Book.{Book, worker_of}
 use Rattle.item_shards.proofs.OpeningLemmas.{made, row_added, row_at}
 use Rattle.item_shards.proofs.SerialLemmas.{goes_on, worker_of_added}
 use Rattle.closing_laws.specs.Standing.{counters_at}
+use Rattle.phase_floor.specs.declared.adding.AddFault.{AddFault}
+use Rattle.phase_floor.specs.declared.adding.AddFault.TheVariants.{Refused, BadRow}
 use Rattle.phase_floor.specs.Resuming.{counters_in}
 use Rattle.phase_floor.specs.States.{IsBookOf}
 use Rattle.phase_floor.proofs.ResumeLemmas.{each_next}
 use Rattle.phase_floor.proofs.RowLemmas.{view_without_row}
 use Rattle.phase_floor.proofs.joined.Joined.add.Goals as goal
+
+not_view : (reason : Refusal) → IsErrOf {T = Row} (Err (Refused reason)) BadRow → ⊥
+not_view reason is = absurd (cc is)
+
+abbrev reason_told : Result Row AddFault → Refusal
+reason_told (Err (Refused reason)) = reason
+reason_told _ = NoSuchUser
+
+same_reason : (told reason : Refusal) → IsErrOf {T = Row} (Err (Refused told)) (Refused reason) → told ≡ reason
+same_reason told reason is = ap reason_told is
 
 pub add_row-requires : goal.add_row-requires
 add_row-requires c =
@@ -72,3 +88,12 @@ returns-in_default-row_at-clause-bad_row c = λ is own.
     let nothing : c.row_at.result ≡ None = search rules in
     let accepted : refusal opening b opened.request ≡ None = sym (c.refusal.ensures b stands) ∙ none in
     view_without_row (is_view opened.request) (refusal opening b opened.request) (row_at opening b opened) (made opening b opened) accepted (sym (c.row_at.ensures b stands accepted) ∙ nothing)
+
+pub returns-in-Some-clause-refused : goal.returns-in-Some-clause-refused
+returns-in-Some-clause-refused c = λ reason is book of. (
+  omega (arith, c.workers.ensures.count),
+  sym (c.refusal.ensures book of.stands) ∙ c.in-Some.is ∙ ap Some (same_reason c.in-Some.reason reason is),
+)
+
+pub returns-in-Some-clause-bad_row : goal.returns-in-Some-clause-bad_row
+returns-in-Some-clause-bad_row c = λ is. absurd (not_view _ is)

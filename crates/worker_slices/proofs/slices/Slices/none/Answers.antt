@@ -1,0 +1,10 @@
+use Rattle.std.proofs.Common.{ap, subst, sym}
+use Rattle.std.specs.List.{AllByRecursion}
+use Rattle.worker_slices.specs.Slicing.{IsStocked, stocks_of}
+use Rattle.worker_slices.proofs.slices.Slices.none.Goals as goal
+
+pub invariant_of-result : goal.invariant_of-result
+invariant_of-result c = subst (AllByRecursion IsStocked) (sym (ap stocks_of c.new.ensures.empty)) tt
+
+pub returns : goal.returns
+returns c = c.new.ensures.empty
