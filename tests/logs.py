@@ -1,6 +1,6 @@
 #!/usr/bin/env python3
-"""Shows what the log of `--log` keeps, as docs/FORMATS.md and docs/SERVING.md say: a log that is locked, forbidden, cut, moved, or none; writes, syncs and cuts of it that
-fail, full disks and no memory, after which nothing answered is lost; and a start right after a kill.
+"""Shows what the log of `--log` keeps, as docs/FORMATS.md and docs/SERVING.md say: a log that is locked, forbidden, cut, changed, moved, or none; writes,
+syncs and cuts of it that fail, full disks and no memory, after which nothing answered is lost; and a start right after a kill.
 
     tests/logs.py [PROGRAM] [--only CHECK]
 """
@@ -36,7 +36,8 @@ REFUSED_ROWS = (
     ("0,+buynow,1,0.0,4,5", "row 9: refused 7 NotEnough"),
 )
 SEEN = "user rating=0 comments=0"
-UNREAD, UNWRITTEN = "cannot be read", "cannot be written"
+UNREAD, UNWRITTEN, UNSYNCED, UNCUT = "cannot be read", "cannot be written", "cannot be synced", "cannot be cut back"
+CHANGED = "changed, moved or removed by another program"
 
 
 # How it is opened.
@@ -240,18 +241,23 @@ def quick_starts(tester: Tester) -> None:
 
 @with_shim
 def failing_logs(tester: Tester) -> None:
-    """a write, a sync, or one of them and its cut of the log that fails, at each place: the fault, with the system's words only as the log is opened, no reply of that part, and nothing answered is lost"""
-    causes = {"write": ("LOG_WRITE_FAILS",), "sync": ("LOG_SYNC_FAILS",), "write and cut": ("LOG_WRITE_FAILS", "LOG_CUT_FAILS"), "sync and cut": ("LOG_SYNC_FAILS", "LOG_CUT_FAILS")}
-    for cause, limits in causes.items():
+    """a write, a sync, or one of them and its cut of the log that fails, at each place: the fault with the system's words, no reply of that part, and nothing answered is lost"""
+    causes = {
+        "write": (UNWRITTEN, errno.ENOSPC, "LOG_WRITE_FAILS"),
+        "sync": (UNSYNCED, errno.EIO, "LOG_SYNC_FAILS"),
+        "write and cut": (UNCUT, errno.EIO, "LOG_WRITE_FAILS", "LOG_CUT_FAILS"),
+        "sync and cut": (UNCUT, errno.EIO, "LOG_SYNC_FAILS", "LOG_CUT_FAILS"),
+    }
+    for cause, (words, why, *limits) in causes.items():
         for number in range(1, 9):
             # The first cut and the first sync are those of the log's opening.
             limited = {name: str(2 if name == "LOG_CUT_FAILS" else number) for name in limits}
-            why = errno.EIO if limited.get("LOG_SYNC_FAILS") == "1" else None
+            told = UNWRITTEN if limited.get("LOG_SYNC_FAILS") == "1" else words
             log = tester.folder / f"{cause}-{number}"
             auction = Auction(tester.program, "--log", str(log), env=os.environ | {"LD_PRELOAD": str(tester.shim)} | limited)
             answered, fault = until_refused(auction, [FIRST[0], *(f"comment,{at},{at},0.0,1" for at in range(9))])
             what = f"{cause} {number} fails"
-            tester.tally.check(fault == told_of(log, UNWRITTEN, why), f"{what}: {fault}")
+            tester.tally.check(fault == told_of(log, told, why), f"{what}: {fault}")
             lost_nothing(tester, what, log, answered, at_most=len(answered) + cause.endswith("and cut"))
 
 
@@ -267,8 +273,8 @@ def interrupted_logs(tester: Tester) -> None:
         tester.tally.check(log.read_bytes() == rows_of([*FIRST, *(f"comment,{at},{at},0.0,1" for at in range(40))]), f"the log, each {every}th call interrupted")
 
 
-def moved_logs(tester: Tester) -> None:
-    """a log that another program cuts or adds to while it is in use: the next row is a fault, and the file is left as it is; one that is moved or removed: rows go on in that file"""
+def changed_logs(tester: Tester) -> None:
+    """a log that another program cuts or adds to while it is in use: the next row is a fault, and the file is left as it is"""
     rows = rows_of(FIRST)
     foreign = b"0,+comment,5,6,0.0,1\n"
     for what, text, next_reply in (
@@ -285,22 +291,64 @@ def moved_logs(tester: Tester) -> None:
         log.write_bytes(text)
         tester.tally.check(auction.one("viewuser,9") == SEEN, f"a log {what}: a view")
         answered, fault = until_refused(auction, ["comment,1,2,0.0,1"])
-        tester.tally.check((answered, fault) == ([], told_of(log, UNWRITTEN)) and log.read_bytes() == text, f"a log {what}: {answered}, {fault}")
+        tester.tally.check((answered, fault) == ([], told_of(log, CHANGED)) and log.read_bytes() == text, f"a log {what}: {answered}, {fault}")
         later = Auction(tester.program, "--log", str(log))
         answered, wanted = later.one("comment,1,2,0.0,1"), next_reply if text else "refused 3 NoSuchItem"
         later.close()
         tester.tally.check(answered == wanted, f"a log {what}: the next start answers {answered}")
-    for what, is_kept in (("moved", True), ("removed", False)):
-        log, elsewhere = tester.folder / what, tester.folder / f"{what}-elsewhere"
+
+
+def replaced(log: Path, other: Path) -> None:
+    shutil.copy(log, other)
+    other.rename(log)
+
+
+def linked(log: Path, other: Path, target: Path) -> None:
+    log.rename(other)
+    log.symlink_to(target)
+
+
+def turned(log: Path, other: Path) -> None:
+    shutil.copy(log, other)
+    log.unlink()
+    log.symlink_to(other)
+
+
+def moved_logs(tester: Tester) -> None:
+    """a log that is moved, removed or replaced, or whose link is turned, while it is in use: the next row is a fault, and no file has it; a link to the log in its place, or another name of it, changes nothing"""
+    row = "comment,1,2,0.0,1"
+    for number, (what, move, words, why) in enumerate((
+        ("moved", Path.rename, CHANGED, None),
+        ("removed", lambda log, other: log.unlink(), CHANGED, None),
+        ("in a folder that is moved", lambda log, other: log.parent.rename(other), CHANGED, None),
+        ("replaced by a copy", replaced, CHANGED, None),
+        ("behind a link that is turned to a copy", turned, CHANGED, None),
+        ("replaced by a link to nothing", lambda log, other: linked(log, other, other.with_name("nothing")), CHANGED, None),
+        ("replaced by a link to itself", lambda log, other: linked(log, other, log), UNREAD, errno.ELOOP),
+        ("replaced by a link to it", lambda log, other: linked(log, other, other), None, None),
+        ("with a second name", lambda log, other: other.hardlink_to(log), None, None),
+    )):
+        folder = tester.folder / f"moved-{number}"
+        log, other = folder / "in" / "log", folder / "other"
+        log.parent.mkdir(parents=True)
+        if move is turned:
+            log.symlink_to(folder / "first")
         auction = Auction(tester.program, "--log", str(log))
         auction.many([(0, request) for request in FIRST])
-        log.rename(elsewhere)
-        if not is_kept:
-            elsewhere.unlink()
-        answered, fault = until_refused(auction, ["comment,1,2,0.0,1"])
-        tester.tally.check((answered, fault, log.exists()) == (["comment 0.0"], None, False), f"a log that is {what}: {answered}, {fault}")
-        tester.tally.check(not is_kept or elsewhere.read_bytes() == rows + rows_of([*FIRST, "comment,1,2,0.0,1"])[len(rows):], f"a log that is {what}: its rows")
-        tester.tally.check(fault_of(tester.program, log) is None and log.read_bytes() == b"", f"a log that is {what}: the next start makes a new one")
+        move(log, other)
+        tester.tally.check(auction.one("viewuser,9") == SEEN, f"a log {what}: a view")
+        before = held_by(folder)
+        outcome = until_refused(auction, [row])
+        if words is None:
+            is_right = outcome == (["comment 0.0"], None) and log.read_bytes() == rows_of([*FIRST, row])
+        else:
+            is_right = outcome == ([], told_of(log, words, why)) and held_by(folder) == before
+        tester.tally.check(is_right, f"a log {what}: {outcome}")
+
+
+def held_by(folder: Path) -> dict[Path, bytes]:
+    """What the files of a folder hold."""
+    return {path: path.read_bytes() for path in folder.rglob("*") if path.is_file()}
 
 
 def until_refused(auction: Auction, asked: Iterable[str]) -> tuple[list[str], tuple | None]:
@@ -331,7 +379,7 @@ def full_disks(tester: Tester) -> None:
         log = tester.folder / f"limited-{size}"
         limit = partial(limited_to, size)
         answered, fault = until_refused(Auction(tester.program, "--log", str(log), preexec_fn=limit), asked)
-        tester.tally.check(fault == told_of(log, UNWRITTEN), f"a log of at most {size} bytes: {fault}")
+        tester.tally.check(fault == told_of(log, UNWRITTEN, errno.EFBIG), f"a log of at most {size} bytes: {fault}")
         lost_nothing(tester, f"a log of at most {size} bytes", log, answered, at_most=len(answered))
     disk = tester.folder / "disk"
     disk.mkdir()
@@ -407,7 +455,7 @@ def refused_memory_of_a_cut_row(tester: Tester) -> None:
             kept_off.unlink(missing_ok=True)
 
 
-CHECKS = (locked_log, without_locks, forbidden_logs, append_only_logs, cut_logs, foreign_files, repaired_logs, special_files, closed_places, bad_logs, read_back, quick_starts, failing_logs, interrupted_logs, moved_logs, full_disks, refused_memory, refused_memory_of_a_cut_row)
+CHECKS = (locked_log, without_locks, forbidden_logs, append_only_logs, cut_logs, foreign_files, repaired_logs, special_files, closed_places, bad_logs, read_back, quick_starts, failing_logs, interrupted_logs, changed_logs, moved_logs, full_disks, refused_memory, refused_memory_of_a_cut_row)
 
 if __name__ == "__main__":
     main(__doc__, CHECKS)

@@ -9,8 +9,8 @@ pub use auction_text::UntilEnd;
 pub use execution::{execute, one_worker_has_one_answer};
 pub use program_opening::{
     AddFault, Cause, Fault, FileLog, Joined, LogCause, LogFault, LogFileFault, MakeFault,
-    OpenFault, OpenedLog, Options, ReadFault, ResumeFault, RunFault, UsageFault, WriteFault,
-    new_auction, open_log, read_options, status, write_fault,
+    NamedFile, OpenFault, OpenedLog, Options, ReadFault, ResumeFault, RunFault, UsageFault,
+    WriteFault, new_auction, open_log, read_options, status, write_fault,
 };
 pub use program_serving::{
     LiveTeller, Log, LoggedInput, NoLog, Teller, parts_are_one_history, serve,

@@ -1,6 +1,6 @@
 -- What a log has accepted of its file, as the file is cut or added to.
-use Rattle.std.proofs.Common.{◌≡◌, ◌∙◌, ◌+◌, ◌++◌, ◌==◌, ◌≤◌, ◌<◌, ◌∷◌, ℕ, zero, suc, Bool, false, List, [], Option, None, Some, IfSome, ap, arith, drop, le_of_eq, length, length-append, length-drop, refl, subst, sym, take}
-use Rattle.std.proofs.lemmas.Bool.{eq-eqb, ne_eqb}
+use Rattle.std.proofs.Common.{◌≡◌, ◌∙◌, ◌+◌, ◌++◌, ◌==◌, ◌≤◌, ◌<◌, ◌∷◌, ℕ, zero, suc, Bool, true, false, List, [], Option, None, Some, IfSome, ap, arith, drop, le_of_eq, length, length-append, length-drop, refl, subst, sym, take}
+use Rattle.std.proofs.lemmas.Bool.{eq-eqb, eqb-true, ne_eqb}
 use Rattle.std.proofs.lemmas.List.{length-take-le, take-append-le, take-take, take_all}
 use Rattle.std.specs.Io.KnownBytes.{append_known, Appends}
 use Rattle.std.specs.Option.{option_map}
@@ -93,3 +93,8 @@ pub holds_all : (held : Option (List ℕ)) (count given : ℕ) → IfSome held (
 holds_all None count given there end behind = tt
 holds_all (Some bytes) count zero there end behind = sym (eq-eqb (length bytes) count (omega (arith, there, end refl)))
 holds_all (Some bytes) count (suc given) there end behind = let more = behind (omega arith) in ne_eqb (suc given) 0 (λ is. omega (arith, is)) ∙ sym (ne_eqb (length bytes) count (λ same. omega (arith, same, more)))
+
+-- a file of which it is true that it has so many bytes has them
+pub of_length : (held : Option (List ℕ)) (count : ℕ) (same : Bool) → IfSome held (λ bytes. same ≡ (length bytes == count)) → same ≡ true → IfSome held (λ bytes. length bytes ≡ count)
+of_length None count same is holds = tt
+of_length (Some bytes) count same is holds = eqb-true (length bytes) count (sym is ∙ holds)

@@ -2,7 +2,7 @@
 use Rattle.std.specs.Prelude.{◌≡◌, ◌≤◌, ℕ, Bool, true, false, List, Option, IfSome, drop, length, take}
 use Rattle.std.specs.Io.KnownBytes.{append_known}
 use Rattle.part_log.specs.declared.log.LogFault.{LogFault}
-use Rattle.part_log.specs.declared.log.LogFault.TheVariants.{Write, Sync, Broken}
+use Rattle.part_log.specs.declared.log.LogFault.TheVariants.{Write, Cut, Ended}
 
 -- the known bytes are so many at least
 abbrev pub HoldsSoMany : Option (List ℕ) → ℕ → Type 0
@@ -25,17 +25,18 @@ pub record LogState : Type 0 where
   pub found : Option (List ℕ)
   -- it puts nothing by any more
   pub has_ended : Bool
+  -- its name leads elsewhere or nowhere
+  pub is_lost : Bool
 
--- what a start finds after these bytes were not put by: just what was accepted, or, if they could
--- not be taken back, a prefix of them behind it
+-- what a start finds after these bytes were not put by in a log that had not ended: just what was
+-- accepted, or, if they could not be taken back, a prefix of them behind it
 abbrev pub IsFoundAfter : LogFault → Option (List ℕ) → Option (List ℕ) → List ℕ → Type 0
-IsFoundAfter Write accepted found bytes = found ≡ accepted
-IsFoundAfter Sync accepted found bytes = found ≡ accepted
-IsFoundAfter Broken accepted found bytes =
+IsFoundAfter (Cut why) accepted found bytes =
     (n : ℕ) × (found ≡ append_known accepted (take n bytes))
+IsFoundAfter Ended accepted found bytes = ⊥
+IsFoundAfter _ accepted found bytes = found ≡ accepted
 
 -- whether a log has ended after this fault: it goes on after a write that failed, and only then
 abbrev pub IsEndedAfter : LogFault → Bool → Bool → Type 0
-IsEndedAfter Write before after = after ≡ before
-IsEndedAfter Sync before after = after ≡ true
-IsEndedAfter Broken before after = after ≡ true
+IsEndedAfter (Write why) before after = after ≡ before
+IsEndedAfter _ before after = after ≡ true

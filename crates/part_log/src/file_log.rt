@@ -1,23 +1,29 @@
 //! Files that can be read at any place, added to at the end, and cut; and a log in such a file.
-ghost use Rattle.std.specs.Prelude.{◌≡◌, ◌==◌, ◌≤◌, ◌<◌, ℕ, false, List, Option, None, IsErr, OnOk, length, take, IfErr, IfOk, IfSome};
+ghost use Rattle.std.specs.Prelude.{◌≡◌, ◌==◌, ◌≤◌, ◌<◌, ℕ, Bool, true, false, List, Option, IsErr, OnOk, length, take, IfErr, IfOk, IfSome};
 ghost use Rattle.std.specs.Option.{option_map};
 ghost use Rattle.std.specs.Io.KnownBytes.{append_known};
+ghost use Rattle.std.specs.declared.io.Error.{Error};
 ghost use Rattle.part_log.specs.Files.{HoldsSoMany, IsReadAt};
 
 use crate::log::{Log, LogFault};
-use auction_text::UntilEnd;
-use std::fs::File;
 use std::io;
-use std::io::{Read, Seek, SeekFrom, Write};
+use std::io::ErrorKind;
 use std::marker::Model;
 
-/// A file that can be read at any place, added to at the end, and cut.
+/// A file with a name, which can be read at any place, added to at the end, and cut.
 pub trait AppendFile {
     /// The bytes that it holds, if they are known: those that a read gives.
     ghost held: { Self → Option (List ℕ) };
 
     /// The bytes that the disk keeps, if they are known: those that outlast a crash.
     ghost synced: { Self → Option (List ℕ) };
+
+    /// Whether it is known that its name leads elsewhere or nowhere.
+    ghost is_lost: { Self → Bool };
+
+    /// Whether its name leads to it: else no start finds it.
+    fn is_at_its_name(&self) -> io::Result<bool>
+        ensures lost { is_lost self.now ≡ true → IfOk result (λ found. found ≡ false) };
 
     /// Reads bytes from a place on: none only at the end, or into no room.
     fn read_at(&self, at: u64, buffer: &mut [u8]) -> io::Result<usize>
@@ -48,34 +54,8 @@ pub trait AppendFile {
         ensures kept { IsErr result → synced self.new ≡ synced self.old };
 }
 
-impl AppendFile for File {
-    // What a file of the system holds, and what its disk keeps, is not known to contracts.
-    ghost held = { λ _. None };
-
-    ghost synced = { λ _. None };
-
-    fn read_at(&self, at: u64, buffer: &mut [u8]) -> io::Result<usize> {
-        let mut file = self;
-        file.seek(SeekFrom::Start(at))?;
-        // It reads again where a signal interrupts it.
-        UntilEnd::of(file).read(buffer)
-    }
-
-    fn append(&mut self, bytes: &[u8]) -> io::Result<()> {
-        self.write_all(bytes)
-    }
-
-    fn cut(&mut self, len: u64) -> io::Result<()> {
-        self.set_len(len)
-    }
-
-    fn sync(&mut self) -> io::Result<()> {
-        self.sync_data()
-    }
-}
-
 /// A log at the end of a file. Contracts see the bytes that it has accepted, which the disk keeps,
-/// those that a start would find, and whether it has ended.
+/// those that a start would find, whether it has ended, and whether its name leads elsewhere.
 #[derive(Drop)]
 pub struct FileLog<F: AppendFile + Drop> {
     file: F,
@@ -96,6 +76,7 @@ impl<F: AppendFile + Drop> Model for FileLog<F> {
       accepted = option_map (take l.kept) (F.synced l.file);
       found = F.held l.file;
       has_ended = l.has_ended;
+      is_lost = F.is_lost l.file;
     } };
 
     ghost invariant = { λ l. IsKeptIn (F.held l.file) l.kept l.has_ended
@@ -126,12 +107,12 @@ impl<F: AppendFile + Drop> FileLog<F> {
         ensures accepted { self.new.accepted ≡ self.old.accepted }
         ensures ended { self.new.has_ended ≡ self.old.has_ended }
         ensures taken { OnOk result (self.new.found ≡ self.new.accepted) }
-        ensures broken { IfErr result (λ fault. (fault ≡ LogFault.Broken)
-            × (self.new.found ≡ self.old.found)) }
+        ensures left { IfErr result (λ fault. (why : Error) × (fault ≡ LogFault.Cut why)) }
+        ensures kept { IsErr result → self.new.found ≡ self.old.found }
     {
         match self.file.cut(self.kept) {
             Ok(()) => Ok(()),
-            Err(_) => Err(LogFault::Broken),
+            Err(why) => Err(LogFault::Cut(why)),
         }
     }
 }
@@ -148,6 +129,18 @@ fn holds_just<F: AppendFile>(file: &F, count: u64) -> io::Result<bool>
     Ok(file.read_at(count, &mut byte)? == 0)
 }
 
+// Whether a file is as it was left: at its name, with so many bytes and no more.
+fn is_as_left<F: AppendFile>(file: &F, count: u64) -> io::Result<bool>
+    ensures lost { F.is_lost file.now ≡ true → IfOk result (λ same. same ≡ false) }
+    ensures just { IfOk result (λ same. same ≡ true →
+        IfSome (F.held file.now) (λ bytes. length bytes ≡ count)) }
+{
+    if !file.is_at_its_name()? {
+        return Ok(false);
+    }
+    holds_just(file, count)
+}
+
 impl<F: AppendFile + Drop> Log for FileLog<F> {
     ghost accepted = { λ log. log.accepted };
 
@@ -155,28 +148,32 @@ impl<F: AppendFile + Drop> Log for FileLog<F> {
 
     ghost has_ended = { λ log. log.has_ended };
 
+    ghost is_lost = { λ log. log.is_lost };
+
     fn put(&mut self, bytes: &[u8]) -> Result<(), LogFault> {
         if self.has_ended {
-            return Err(LogFault::Broken);
+            return Err(LogFault::Ended);
         }
         let Some(kept) = self.kept.checked_add(bytes.len() as u64) else {
-            return Err(LogFault::Write);
+            return Err(LogFault::Write(io::Error::from(ErrorKind::FileTooLarge)));
         };
         self.has_ended = true;
-        // Another program may have cut it or added to it: rows behind that could be lost.
-        if !holds_just(&self.file, self.kept).is_ok_and(|holds| holds) {
-            return Err(LogFault::Broken);
+        // Rows in a file that another program has changed, moved or removed could be lost.
+        match is_as_left(&self.file, self.kept) {
+            Ok(true) => {}
+            Ok(false) => return Err(LogFault::Changed),
+            Err(why) => return Err(LogFault::Read(why)),
         }
-        if self.file.append(bytes).is_err() {
+        if let Err(why) = self.file.append(bytes) {
             self.take_back()?;
             self.has_ended = false;
-            return Err(LogFault::Write);
+            return Err(LogFault::Write(why));
         }
         // After a sync that failed the disk may have let go what it was given, so it is asked to
         // keep nothing more. No start finds what was not accepted.
-        if self.file.sync().is_err() {
+        if let Err(why) = self.file.sync() {
             self.take_back()?;
-            return Err(LogFault::Sync);
+            return Err(LogFault::Sync(why));
         }
         self.kept = kept;
         self.has_ended = false;

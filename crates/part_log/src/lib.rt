@@ -4,6 +4,8 @@
 
 mod file_log;
 mod log;
+mod named_file;
 
 pub use file_log::{AppendFile, FileLog};
 pub use log::{Log, LogFault, NoLog, TellFault, Teller, tell_part};
+pub use named_file::NamedFile;

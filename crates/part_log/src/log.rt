@@ -5,22 +5,32 @@ ghost use Rattle.part_log.specs.Files.{IsEndedAfter, IsFoundAfter};
 ghost use Rattle.part_log.specs.Telling.{IsEndedBy, IsFoundBy, IsLoggedFirst, IsToldSoFar, IsUnlogged};
 
 use auction_text::{WriteFault, write_last};
+use std::io;
 use std::io::Write;
 use thiserror::Error;
 
 /// Why bytes were not put by.
-#[derive(Clone, Copy, Debug, PartialEq, Eq, Drop, Error)]
+#[derive(Clone, Copy, Debug, Drop, Error)]
 pub enum LogFault {
     /// They could not be written, and were taken back: a later call may put other bytes by.
-    #[error("log cannot be written")]
-    Write,
+    #[error("cannot be written: {0}")]
+    Write(io::Error),
     /// They were written but not synced, and were taken back: no later call puts anything by.
-    #[error("log cannot be written")]
-    Sync,
-    /// They could not be taken back, the log had ended before, or its file does not hold just what
-    /// was accepted: no later call puts anything by.
-    #[error("log cannot be written")]
-    Broken,
+    #[error("cannot be synced: {0}")]
+    Sync(io::Error),
+    /// They were not put by, and could not be taken back: no later call puts anything by.
+    #[error("cannot be cut back: {0}")]
+    Cut(io::Error),
+    /// What was accepted could not be looked for, and nothing was written: no later call puts
+    /// anything by.
+    #[error("cannot be read: {0}")]
+    Read(io::Error),
+    /// Its file is not as it was left, and nothing was written: no later call puts anything by.
+    #[error("changed, moved or removed by another program")]
+    Changed,
+    /// It had ended before.
+    #[error("has ended")]
+    Ended,
 }
 
 /// Where bytes are put by for good.
@@ -35,8 +45,11 @@ pub trait Log {
     /// Whether it puts nothing by any more.
     ghost has_ended: { Self → Bool };
 
+    /// Whether it is known that no start would find it.
+    ghost is_lost: { Self → Bool };
+
     /// Puts these bytes by, after those before, all or none: after `Ok` they outlast a crash. A log
-    /// that has ended answers `Broken`.
+    /// that has ended answers `Ended`.
     fn put(&mut self, bytes: &[u8]) -> Result<(), LogFault>
         ensures accepted { OnOk result (Appends (accepted self.old) (accepted self.new) bytes.now) }
         ensures found { OnOk result (found self.new ≡ accepted self.new) }
@@ -48,7 +61,8 @@ pub trait Log {
         ensures ended_after { IfErr result (λ fault.
             IsEndedAfter fault (has_ended self.old) (has_ended self.new)) }
         ensures ended_before { has_ended self.old ≡ true →
-            (result ≡ Err LogFault.Broken) × (self.new ≡ self.old) };
+            (result ≡ Err LogFault.Ended) × (self.new ≡ self.old) }
+        ensures lost { is_lost self.old ≡ true → IsErr result };
 
     /// Whether it keeps what is put by: if not, nothing need be put by.
     fn keeps(&self) -> bool
@@ -69,6 +83,8 @@ impl Log for NoLog {
 
     ghost has_ended = { λ _. false };
 
+    ghost is_lost = { λ _. false };
+
     fn put(&mut self, _bytes: &[u8]) -> Result<(), LogFault> {
         Ok(())
     }
@@ -79,10 +95,10 @@ impl Log for NoLog {
 }
 
 /// Why a part was not told.
-#[derive(Clone, Copy, Debug, PartialEq, Eq, Drop, Error)]
+#[derive(Clone, Copy, Debug, Drop, Error)]
 pub enum TellFault {
     /// Its rows were not put by, and no byte was written.
-    #[error("{0}")]
+    #[error("log {0}")]
     Log(LogFault),
     /// Its rows were put by, and a prefix of its text was written.
     #[error("{0}")]

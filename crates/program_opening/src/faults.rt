@@ -49,7 +49,7 @@ pub enum Fault {
     #[error("{0}")]
     OpenLog(LogFileFault),
     /// Rows could not be logged.
-    #[error("{0}")]
+    #[error("log {0}")]
     Log(LogFault),
 }
 

@@ -16,6 +16,6 @@ pub use log_file::{LogCause, LogFileFault, OpenedLog, open_log};
 pub use log_opening::OpenFault;
 pub use opening::new_auction;
 pub use options::{Options, read_options};
-pub use part_log::{FileLog, LogFault};
+pub use part_log::{FileLog, LogFault, NamedFile};
 pub use phase_floor::{AddFault, Joined};
 pub use program_options::UsageFault;

@@ -6,7 +6,7 @@ ghost use Rattle.program_opening.specs.Opened.{IsOpenedFrom, NamesFile};
 use crate::faults::Fault;
 use auction_text::WriteFault;
 use log_opening::{OpenFault, cut_log, read_log};
-use part_log::{AppendFile, FileLog, LogFault};
+use part_log::{AppendFile, FileLog, LogFault, NamedFile};
 use phase_floor::Joined;
 use std::alloc::Global;
 use std::fs::{File, OpenOptions, TryLockError};
@@ -36,8 +36,8 @@ pub enum LogCause {
     /// Its text opens no auction.
     #[error("{0}")]
     Text(OpenFault),
-    /// Rows could not be added to it.
-    #[error("cannot be written")]
+    /// Rows were not added to it.
+    #[error("{0}")]
     Log(LogFault),
     /// What is to be cut off it could not be kept.
     #[error("cut bytes cannot be kept: {0}")]
@@ -222,13 +222,13 @@ pub fn open_file<R: Files<File = File>, F: AppendFile + Drop, W: Write>(
 /// writes their text to `told`. The beginning of a row that was being written is cut off its end,
 /// and kept in the file of that name with `.cut`. After a fault the log is as it was, but for that
 /// beginning: if it was cut off, it is kept.
-pub fn open_log<R: Files<File = File>, W: Write>(
-    rt: &R,
+pub fn open_log<'a, R: Files<File = File>, W: Write>(
+    rt: &'a R,
     alloc: Global,
-    path: &str,
+    path: &'a str,
     auction: Joined,
     told: &mut W,
-) -> Result<OpenedLog<File>, Fault>
+) -> Result<OpenedLog<NamedFile<'a, R>>, Fault>
     requires { IsStartOf auction [] }
     ensures opens { IfOk result (λ opened. IsOpenedFrom None
         (W.contents told.old) (W.contents told.new) opened.auction opened.log opened.cut) }
@@ -236,7 +236,11 @@ pub fn open_log<R: Files<File = File>, W: Write>(
     ensures has { IfOk result (λ opened. HasBook opened.auction) }
 {
     match open_locked(rt, alloc, path) {
-        Ok(file) => open_file(rt, alloc, FileAt { file, path }, auction, told),
+        Ok(file) => {
+            let files = rt;
+            let file = NamedFile { files, path, file };
+            open_file(rt, alloc, FileAt { file, path }, auction, told)
+        }
         Err(cause) => Err(LogFileFault::at(alloc, path, cause).into()),
     }
 }

@@ -9,33 +9,47 @@ use std::io;
 use std::io::Write;
 use std::process::Abort;
 
-// What a log answers to three parts, of which the call with this number fails: after those of
-// `open`, 2 is the append of the first part and 3 its sync.
-fn three_parts(rt: &impl Abort, alloc: Global, fails_at: usize) -> [Result<(), LogFault>; 3] {
-    let file = MemFile::new(alloc, fails_at);
+// What a log in a file answers to three parts: the system's words are not compared.
+fn three_parts(rt: &impl Abort, file: MemFile) -> [&'static str; 3] {
     let mut log = FileLog::open(file, 0).expect(rt, "a log");
     [
-        put_known(&mut log, b"one\n"),
-        put_known(&mut log, b"two\n"),
-        put_known(&mut log, b"three\n"),
+        answer_of(put_known(&mut log, b"one\n")),
+        answer_of(put_known(&mut log, b"two\n")),
+        answer_of(put_known(&mut log, b"three\n")),
     ]
 }
 
+fn answer_of(put: Result<(), LogFault>) -> &'static str {
+    match put {
+        Ok(()) => "accepted",
+        Err(LogFault::Write(_)) => "not written",
+        Err(LogFault::Sync(_)) => "not synced",
+        Err(LogFault::Cut(_)) => "not cut back",
+        Err(LogFault::Read(_)) => "not read",
+        Err(LogFault::Changed) => "changed",
+        Err(LogFault::Ended) => "ended",
+    }
+}
+
+// After those of `open`, call 2 is the append of the first part and call 3 its sync.
 #[test]
 fn a_log_goes_on_after_a_write_that_failed_alone(rt: HostRuntime) {
-    let refused = Err(LogFault::Write);
-    let unsynced = Err(LogFault::Sync);
-    let broken = Err(LogFault::Broken);
     for (fails_at, answers) in [
-        (99, [Ok(()), Ok(()), Ok(())]),
-        (2, [refused, Ok(()), Ok(())]),
-        (3, [unsynced, broken, broken]),
-        (4, [Ok(()), refused, Ok(())]),
-        (5, [Ok(()), unsynced, broken]),
+        (99, ["accepted", "accepted", "accepted"]),
+        (2, ["not written", "accepted", "accepted"]),
+        (3, ["not synced", "ended", "ended"]),
+        (4, ["accepted", "not written", "accepted"]),
+        (5, ["accepted", "not synced", "ended"]),
     ] {
-        let found = three_parts(&rt, rt.alloc(), fails_at);
+        let found = three_parts(&rt, MemFile::new(rt.alloc(), fails_at));
         assert_same(&rt, (fails_at, found), (fails_at, answers));
     }
+}
+
+#[test]
+fn a_log_whose_name_leads_elsewhere_ends(rt: HostRuntime) {
+    let found = three_parts(&rt, MemFile::lost(rt.alloc()));
+    assert_same(&rt, found, ["changed", "ended", "ended"]);
 }
 
 // Takes nothing.
@@ -49,28 +63,25 @@ impl Log for Full {
 
     ghost has_ended = { λ _. false };
 
+    ghost is_lost = { λ _. false };
+
     fn put(&mut self, _bytes: &[u8]) -> Result<(), LogFault> {
-        Err(LogFault::Write)
+        Err(LogFault::Write(io::Error::from(io::ErrorKind::StorageFull)))
     }
 }
 
 #[test]
 fn a_part_whose_rows_are_refused_is_not_told(rt: HostRuntime) {
     let mut told = Vec::new(rt.alloc());
-    let refused = Err(TellFault::Log(LogFault::Write));
-    assert_same(
-        &rt,
-        tell_part(&mut Full, &mut told, b"row\n", b"reply\n"),
-        refused,
-    );
+    let refused = tell_part(&mut Full, &mut told, b"row\n", b"reply\n");
+    let is_refused = matches!(refused, Err(TellFault::Log(LogFault::Write(_))));
+    assert_same(&rt, is_refused, true);
     assert_same(&rt, told.as_slice(), b"".as_slice());
     // A part without rows asks nothing of the log.
-    assert_same(&rt, tell_part(&mut Full, &mut told, b"", b"seen\n"), Ok(()));
-    assert_same(
-        &rt,
-        tell_part(&mut NoLog, &mut told, b"row\n", b"reply\n"),
-        Ok(()),
-    );
+    let seen = tell_part(&mut Full, &mut told, b"", b"seen\n");
+    assert_same(&rt, seen.is_ok(), true);
+    let unlogged = tell_part(&mut NoLog, &mut told, b"row\n", b"reply\n");
+    assert_same(&rt, unlogged.is_ok(), true);
     assert_same(&rt, told.as_slice(), b"seen\nreply\n".as_slice());
 }
 
@@ -101,7 +112,7 @@ fn each_part_is_flushed(rt: HostRuntime) {
     };
     let mut teller = Teller { log: NoLog, writer };
     for (text, flushed) in [("one\n", 4), ("two\n", 8), ("", 8)] {
-        assert_same(&rt, teller.tell(b"row\n", text.as_bytes()), Ok(()));
+        assert_same(&rt, teller.tell(b"row\n", text.as_bytes()).is_ok(), true);
         assert_same(&rt, teller.writer.flushed, flushed);
     }
     assert_same(

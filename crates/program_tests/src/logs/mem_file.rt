@@ -1,5 +1,5 @@
 //! A file in memory whose bytes contracts know.
-ghost use Rattle.std.specs.Prelude.{◌≡◌, ◌≤◌, ◌++◌, ℕ, List, Some, OnOk, take, vec_len};
+ghost use Rattle.std.specs.Prelude.{◌≡◌, ◌≤◌, ◌++◌, ℕ, true, List, Some, IsErr, OnOk, take, vec_len};
 
 use part_log::{AppendFile, FileLog, Log, LogFault};
 use std::alloc::Global;
@@ -14,6 +14,8 @@ pub(crate) struct MemFile {
     // The number of the call that fails, from 0.
     fails_at: usize,
     calls: usize,
+    // Whether its name leads elsewhere.
+    is_lost: bool,
     ghost few: { synced ≤ vec_len bytes },
 }
 
@@ -25,7 +27,15 @@ impl MemFile {
             synced: 0,
             fails_at,
             calls: 0,
+            is_lost: false,
         }
+    }
+
+    /// An empty file of which no call fails, and whose name leads elsewhere.
+    pub(crate) fn lost(alloc: Global) -> MemFile {
+        let mut file = MemFile::new(alloc, usize::MAX);
+        file.is_lost = true;
+        file
     }
 
     // Whether this call is the one that fails.
@@ -43,6 +53,12 @@ impl AppendFile for MemFile {
     ghost held = { λ f. Some f.bytes.items };
 
     ghost synced = { λ f. Some (take f.synced f.bytes.items) };
+
+    ghost is_lost = { λ f. f.is_lost };
+
+    fn is_at_its_name(&self) -> io::Result<bool> {
+        Ok(!self.is_lost)
+    }
 
     fn read_at(&self, at: u64, buffer: &mut [u8]) -> io::Result<usize> {
         let bytes = self.bytes.as_slice();
@@ -85,6 +101,7 @@ pub(crate) fn put_known(log: &mut FileLog<MemFile>, bytes: &[u8]) -> Result<(), 
     ensures accepted { OnOk result ((xs : List ℕ) → log.old.accepted ≡ Some xs →
         log.new.accepted ≡ Some (xs ++ bytes.now)) }
     ensures found { OnOk result (log.new.found ≡ log.new.accepted) }
+    ensures lost { log.old.is_lost ≡ true → IsErr result }
 {
     log.put(bytes)
 }
