@@ -1,12 +1,19 @@
 -- What a log opens that was read and then cut.
-use Rattle.std.proofs.Common.{◌≡◌, ◌++◌, ◌∙◌, [], ℕ, List, Option, Some, None, IfSome, false, length, sym}
-use Rattle.std.proofs.lemmas.List.{take-append-drop}
+use Rattle.std.proofs.Common.{◌≡◌, ◌++◌, ◌∙◌, [], ℕ, List, Option, Some, None, IfSome, arith, false, length, subst, sym}
+use Rattle.std.proofs.lemmas.List.{take-append-drop, take_all}
+use Rattle.std.specs.Io.KnownBytes.{Appends}
 use Rattle.auction_rows.specs.Book.{Book}
 use Rattle.auction_text.specs.RowLines.{rows_text}
-use Rattle.log_opening.specs.Opening.{HasRowsAndTail, Opens, OpensWith}
+use Rattle.log_opening.specs.Opening.{HasRowsAndTail, Opens, OpensWith, TellsFirst}
 use Rattle.log_opening.specs.declared.opening.LoggedAuction.{LoggedAuction}
 use Rattle.part_log.specs.Files.{LogState}
-use Rattle.program_opening.specs.Opened.{IsOpenedFrom, IsTextOf}
+use Rattle.log_opening.specs.declared.opening.OpenFault.{OpenFault}
+use Rattle.program_opening.specs.Opened.{IsOpenedFrom, IsTextOf, NamesFile, text_cause, text_fault}
+use Rattle.program_opening.specs.declared.faults.Fault.{Fault}
+use Rattle.program_opening.specs.declared.faults.Fault.TheVariants.{OpenLog}
+use Rattle.program_opening.specs.declared.log_file.LogCause.{LogCause}
+use Rattle.program_opening.specs.declared.log_file.LogFileFault.{LogFileFault}
+use Rattle.program_opening.specs.declared.log_file.LogFileFault.TheVariants.{At, Memory}
 
 -- a text is what its rows and its tail are
 split_at : (text : List ℕ) (book : Book) (logged : LoggedAuction) → HasRowsAndTail text book logged → text ≡ rows_text book [] ++ logged.tail.items
@@ -34,3 +41,26 @@ opened_from text told now logged log cut was is accepted found goes_on = record 
   found = found;
   goes_on = goes_on;
 }
+
+front : (text : Option (List ℕ)) (book : Book) (logged : LoggedAuction) → OpensWith text book logged → IfSome text (λ text. (rest : List ℕ) × (text ≡ rows_text book [] ++ rest))
+front None book logged opens = tt
+front (Some text) book logged opens = (logged.tail.items, split_at text book logged opens.text_is)
+
+-- the rows of a log that was read were told whole
+pub told_whole : (text told now : Option (List ℕ)) (logged : LoggedAuction) → Opens text told now logged → TellsFirst text told now
+told_whole text told now logged was =
+    let rows = rows_text was.book [] in
+    record {
+      book = was.book;
+      part = (length rows, subst (Appends told now) (sym (take_all (length rows) rows (omega arith))) was.tells);
+      text_is = front text was.book logged was.opens;
+    }
+
+of_file : (path : List ℕ) (cause : LogCause) (told : LogFileFault) (Q : OpenFault → Type 0) → NamesFile path cause told → IfSome (text_cause cause) Q → IfSome (text_fault (OpenLog told)) Q
+of_file path cause (At name is) Q names holds = subst (λ c. IfSome (text_cause c) Q) (sym names.1) holds
+of_file path cause Memory Q names holds = tt
+
+-- a fault that names a log and a cause tells what is wrong with its text if the cause does
+pub tells_cause : (path : List ℕ) (cause : LogCause) (told : LogFileFault) (fault : Fault) (Q : OpenFault → Type 0) → NamesFile path cause told → fault ≡ OpenLog told
+    → IfSome (text_cause cause) Q → IfSome (text_fault fault) Q
+tells_cause path cause told fault Q names same holds = subst (λ f. IfSome (text_fault f) Q) (sym same) (of_file path cause told Q names holds)

@@ -1,5 +1,5 @@
 -- What a start opens of a log.
-use Rattle.std.specs.Prelude.{◌≡◌, ◌++◌, ℕ, true, false, List, [], Option, Some, IfSome, length, string_bytes}
+use Rattle.std.specs.Prelude.{◌≡◌, ◌++◌, ℕ, true, false, List, [], Option, None, Some, IfSome, length, string_bytes}
 use Rattle.std.specs.Io.KnownBytes.{Appends}
 use Rattle.auction_rows.specs.Book.{Book}
 use Rattle.phase_floor.specs.Adding.{IsStartOf}
@@ -7,7 +7,11 @@ use Rattle.phase_floor.specs.States.{JoinedState}
 use Rattle.auction_text.specs.RowLines.{rows_text}
 use Rattle.part_log.specs.Files.{LogState}
 use Rattle.log_opening.specs.CutRows.{is_cut_row}
+use Rattle.log_opening.specs.declared.opening.OpenFault.{OpenFault}
+use Rattle.program_opening.specs.declared.faults.Fault.{Fault}
+use Rattle.program_opening.specs.declared.faults.Fault.TheVariants.{OpenLog}
 use Rattle.program_opening.specs.declared.log_file.LogCause.{LogCause}
+use Rattle.program_opening.specs.declared.log_file.LogCause.TheVariants.{Text}
 use Rattle.program_opening.specs.declared.log_file.LogFileFault.{LogFileFault}
 use Rattle.program_opening.specs.declared.log_file.LogFileFault.TheVariants.{At, Memory}
 
@@ -15,6 +19,16 @@ use Rattle.program_opening.specs.declared.log_file.LogFileFault.TheVariants.{At,
 abbrev pub NamesFile : List ℕ → LogCause → LogFileFault → Type 0
 NamesFile path cause (At name told) = (string_bytes name ≡ path) × (told ≡ cause)
 NamesFile path cause Memory = Unit {0}
+
+-- what is wrong with the text of a log, if this cause is of it
+abbrev pub text_cause : LogCause → Option OpenFault
+text_cause (Text fault) = Some fault
+text_cause _ = None
+
+-- what is wrong with the text of a log, if this fault tells it
+abbrev pub text_fault : Fault → Option OpenFault
+text_fault (OpenLog (At name cause)) = text_cause cause
+text_fault _ = None
 
 -- A text is that of a book's rows, and of a cut row behind them, which has so many bytes.
 pub record IsTextOf (book : Book) (cut : ℕ) (text : List ℕ) : Type 0 where

@@ -1,7 +1,8 @@
 //! The file of a log: how it is opened and locked, and where what is cut off it is kept.
-ghost use Rattle.std.specs.Prelude.{[], None, IfOk};
+ghost use Rattle.std.specs.Prelude.{◌≡◌, [], None, IfErr, IfOk, IfSome, length};
 ghost use Rattle.phase_floor.specs.Adding.{HasBook, IsSameAuction, IsStartOf};
-ghost use Rattle.program_opening.specs.Opened.{IsOpenedFrom, NamesFile};
+ghost use Rattle.log_opening.specs.Opening.{IsRefused, TellsFirst};
+ghost use Rattle.program_opening.specs.Opened.{IsOpenedFrom, NamesFile, text_cause, text_fault};
 
 use crate::faults::Fault;
 use auction_text::WriteFault;
@@ -142,7 +143,9 @@ fn keep_tail<R: Files<File = File>>(
     alloc: Global,
     path: &str,
     tail: &[u8],
-) -> Result<(), LogCause> {
+) -> Result<(), LogCause>
+    ensures of_no_text { IfErr result (λ cause. text_cause cause ≡ None) }
+{
     let Ok(mut name) = path.to_owned(alloc) else {
         return Err(LogCause::Memory);
     };
@@ -195,6 +198,11 @@ pub fn open_file<R: Files<File = File>, F: AppendFile + Drop, W: Write>(
     ensures opens { IfOk result (λ opened. IsOpenedFrom (F.held at.entry.file)
         (W.contents told.old) (W.contents told.new) opened.auction opened.log opened.cut) }
     ensures same { IfOk result (λ opened. IsSameAuction auction opened.auction) }
+    ensures refused { IfErr result (λ fault. IfSome (text_fault fault) (λ of.
+        IfSome (F.held at.entry.file)
+        (IsRefused of auction.limit (length auction.counters) auction.opening))) }
+    ensures told { IfErr result (λ _. TellsFirst (F.held at.entry.file)
+        (W.contents told.old) (W.contents told.new)) }
 {
     let FileAt { file, path } = at;
     let logged = match read_log(alloc, &file, auction, told) {

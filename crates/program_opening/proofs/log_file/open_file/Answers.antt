@@ -1,5 +1,6 @@
 use Rattle.std.proofs.Common.{◌≡◌, ◌∙◌, length}
-use Rattle.program_opening.proofs.OpenedLogs.{opened_from}
+use Rattle.program_opening.proofs.OpenedLogs.{opened_from, tells_cause, told_whole}
+use Rattle.program_opening.specs.declared.log_file.LogCause.TheVariants.{Text}
 use Rattle.program_opening.proofs.log_file.open_file.Goals as goal
 
 pub cut_log-requires : goal.cut_log-requires
@@ -14,3 +15,12 @@ returns-in-Ok-cut_log-clause-opens g c =
 
 pub returns-in-Ok-cut_log-clause-same : goal.returns-in-Ok-cut_log-clause-same
 returns-in-Ok-cut_log-clause-same g c = c.in-Ok.ensures.same
+
+pub returns-in-Err-clause-refused : goal.returns-in-Err-clause-refused
+returns-in-Err-clause-refused g c = tells_cause _ (Text c.in-Err.fault) c.at.result c.into.result _ c.at.ensures c.into.ensures c.in-Err.ensures.refused
+
+pub returns-in-Err-keep_tail-clause-told : goal.returns-in-Err-keep_tail-clause-told
+returns-in-Err-keep_tail-clause-told g c = told_whole _ _ _ c.in-Ok.logged c.in-Ok.ensures.opens
+
+pub returns-in-Err-cut_log-clause-told : goal.returns-in-Err-cut_log-clause-told
+returns-in-Err-cut_log-clause-told g c = told_whole _ _ _ c.in-Ok.logged c.in-Ok.ensures.opens
