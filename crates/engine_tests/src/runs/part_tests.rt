@@ -4,11 +4,11 @@ ghost use Rattle.item_shards.specs.OpeningBooks.{opening_of, rows_of_book};
 ghost use Rattle.auction_run.specs.Boards.{IsUpToDate};
 
 use crate::comparing::assert_same;
-use crate::runs::testing::{given_back, own_scripts, policy_of};
+use crate::runs::testing::{own_scripts, policy_of};
 use crate::testing::{LOOK, OPENING, VIEW, bid, item_seen, purchase, put_up, vases};
 use crate::windows::view_tests::assert_seen;
 use auction_rows::{Facts, Reply, Request};
-use auction_run::{Board, FreeGate, RunFault, WindowBoard, run_on_shown, run_shown};
+use auction_run::{Board, FreeGate, RunFault, Stopped, WindowBoard, run_on_shown, run_shown};
 use auction_window::{PhaseLog, Publisher, Window, WindowName};
 use item_shards::OpeningBook;
 use phase_floor::Joined;
@@ -58,27 +58,39 @@ fn next_part<R: Threads + Wait + Sync + Abort, B: Board>(
     outcome.state
 }
 
-// The last is refused for want of scripts: a view of the state that comes back shows this.
+// One is refused for want of scripts: a view of the state that comes back shows this.
 fn refused_part<R: Threads + Wait + Sync + Abort, B: Board>(
     rt: &R,
     alloc: Global,
     state: Joined,
     board: &mut B,
     seen: &Reply,
-)
+) -> Joined
     requires { IsUpToDate B.has board.old state }
+    ensures { IsUpToDate B.has board.new result }
 {
     let none = Vec::new(alloc);
-    let answer = run_on_shown(rt, alloc, state, none, policy_of(2, 2), &FreeGate, board);
-    let (state, fault) = given_back(rt, answer);
+    let Err(Stopped::Refused(back, fault)) = run_on_shown(
+        rt,
+        alloc,
+        state,
+        none,
+        policy_of(2, 2),
+        &FreeGate,
+        board,
+    ) else {
+        panic!(rt; "nothing was refused");
+    };
     assert_same(
         rt,
-        (state.view(&VIEW), fault),
+        (back.view(&VIEW), fault),
         (Some(*seen), RunFault::Workers),
     );
+    back
 }
 
 // Shows the parts to one window that asks after each, and to one that is told of the last phase.
+// The next part goes on once more from what the refused one gives back.
 fn show_parts<J: WindowName, R: Threads + Wait + Sync + Abort>(
     rt: &R,
     alloc: Global,
@@ -98,7 +110,9 @@ fn show_parts<J: WindowName, R: Threads + Wait + Sync + Abort>(
     let state = next_part(rt, alloc, state, board);
     let seen = item_seen(&facts, Some((30, 2)), 3, 2);
     assert_seen(rt, &mut windows[0], VIEW, 3, seen);
-    refused_part(rt, alloc, state, board, &seen);
+    let state = refused_part(rt, alloc, state, board, &seen);
+    let _last = next_part(rt, alloc, state, board);
+    let seen = item_seen(&facts, Some((30, 2)), 4, 1);
     show_last(rt, board, windows, &seen);
 }
 
@@ -113,7 +127,7 @@ fn show_last<J: WindowName>(
         windows[1].learn(told);
     }
     for window in windows {
-        assert_seen(rt, window, VIEW, 3, *seen);
+        assert_seen(rt, window, VIEW, 4, *seen);
     }
 }
 
