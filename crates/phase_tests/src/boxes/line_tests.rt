@@ -84,6 +84,7 @@ fn put_by_hand<N: PhaseName, R: Wait + Abort>(
     assert!(rt; clock < LAST_NUMBER);
     let line = list(held.shard_mut(), clock + 1);
     assert_same(rt, [line.before, line.number], [0, 1]);
+    assert_same(rt, held.shard().clock(), 1);
     boxes.put(rt, &mut key, held, Some(line));
     let shards = close_one(rt, boxes, key, room);
     assert_listed(rt, &shards);

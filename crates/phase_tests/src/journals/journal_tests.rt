@@ -81,6 +81,7 @@ fn journals_are_merged_by_number_and_then_worker(rt: HostRuntime) {
 #[test]
 fn a_journal_gives_its_entries(rt: HostRuntime) {
     let journal = journal_of(&rt, rt.alloc(), 2, 4);
+    assert_same(&rt, journal.worker(), 2);
     let mut entries = journal.entries();
     let first = entries.next().expect(&rt, "an entry").to_entry();
     assert!(rt; first == entry(2, 4));
