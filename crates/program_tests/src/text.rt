@@ -1,7 +1,8 @@
-//! Tests of how `auction_text` reads the parts of an input, writes their texts, and writes to
-//! writers that fail.
+//! Tests of how `auction_text` reads an input whole and in parts, writes the texts of parts, and
+//! writes to writers that fail.
 mod ended_tests;
 mod live_tests;
 mod moved_tests;
 mod part_tests;
+mod script_tests;
 mod writing_tests;

@@ -1,0 +1,64 @@
+//! The rows and scripts of a whole input.
+use crate::comparing::assert_same;
+use crate::testing::FIRST;
+use auction_rows::Request;
+use auction_text::{Cause, ReadFault, read_scripts};
+use std::process::Abort;
+
+const BID: Request = Request::StoreBid {
+    bidder: 3,
+    item: FIRST,
+    amount: 20,
+    time: 5,
+};
+
+// Asserts that these are the scripts of two workers.
+fn assert_scripts(
+    rt: &impl Abort,
+    scripts: &[Vec<Request>],
+    of_first: &[Request],
+    of_second: &[Request],
+) {
+    let [first, second] = scripts else {
+        panic!(rt; "not two scripts");
+    };
+    assert_same(rt, first.as_slice(), of_first);
+    assert_same(rt, second.as_slice(), of_second);
+}
+
+// The requests of the two stand among one another.
+#[test]
+fn each_worker_has_its_requests_in_their_order(rt: HostRuntime) {
+    let text: &[u8] = b"\
+0,+item,0,0,Vase,10,100,1
+1,viewuser,4
+0,bid,3,0.0,20,5
+1,viewbids,0.0
+0,viewitem,0.0
+1,viewcategory,2
+";
+    let input = read_scripts(rt.alloc(), text, 2).expect(&rt, "an input");
+    let first = [BID, Request::ViewItem { item: FIRST }];
+    let second = [
+        Request::ViewUser { user: 4 },
+        Request::ViewBids { item: FIRST },
+        Request::ViewCategory { category: 2 },
+    ];
+    assert_scripts(&rt, &input.scripts, &first, &second);
+    assert_same(&rt, input.rows.len(), 1);
+}
+
+#[test]
+fn an_input_with_a_fault_gives_no_scripts(rt: HostRuntime) {
+    let inputs: [(&[u8], ReadFault); 2] = [
+        (b"0,viewuser,4\n2,viewuser,4\n", ReadFault::Worker(2)),
+        (
+            b"0,viewuser,4\n\n1,viewuser\n",
+            ReadFault::Line(2, Cause::Fields),
+        ),
+    ];
+    for (text, fault) in inputs {
+        let got = read_scripts(rt.alloc(), text, 2).err();
+        assert_same(&rt, got, Some(fault));
+    }
+}
