@@ -10,7 +10,7 @@ pub cut_twice : (kept : ℕ) (known : Option (List ℕ)) → option_map (take ke
 cut_twice kept None = refl
 cut_twice kept (Some bytes) = ap Some (take-take kept kept bytes (omega arith))
 
-cut_holds : (held : Option (List ℕ)) (kept : ℕ) (ended : Bool) → HoldsSoMany held kept → IsKeptIn (option_map (take kept) held) kept ended
+pub cut_holds : (held : Option (List ℕ)) (kept : ℕ) (ended : Bool) → HoldsSoMany held kept → IsKeptIn (option_map (take kept) held) kept ended
 cut_holds None kept ended many = (tt, λ goes_on. tt)
 cut_holds (Some bytes) kept ended many = let long = length-take-le kept bytes many in (le_of_eq (sym long), λ goes_on. long)
 
