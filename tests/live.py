@@ -163,6 +163,16 @@ def open_quotes(tester: Tester) -> None:
     auction.close()
 
 
+def other_workers(tester: Tester) -> None:
+    """lines of one worker with an open quote, with a record of the other behind a carriage return, and of no kind: faults of that worker alone, and the other's requests keep their replies and places"""
+    data = b'0,item,0,0,Vase,10,100,1\n1,item,0,0,"\n1,viewuser,0\r0,bid,5,0.0,999,1\n1,nonsense\n0,bid,1,0.0,20,5\n1,viewuser,0\n0,viewbids,0.0\n'
+    faults = (f"1,0,fault record {at}: {words}" for at, words in ((2, "wrong number of fields"), (3, "wrong number of fields"), (4, "unknown kind")))
+    first, bid, seen, bids = ["0,0,item 0.0", *faults], "0,1,bid 0.0", f"1,0,{SEEN}", "0,2,bids 20:5:1:0.0"
+    for most, last in ((1, [bid, seen, bids]), (1000, [bid, bids, seen])):
+        got = run([tester.program, "--workers", "2", "--live", str(most)], data)
+        tester.tally.check((got.status, got.stdout.decode().splitlines(), got.stderr) == (0, first + last, b""), f"two workers, --live {most}: {described(got)}")
+
+
 def endless_lines(tester: Tester) -> None:
     """lines of 70 MB in little memory: a fault, and the request behind each is answered"""
     for byte in (b",", b'"'):
@@ -327,7 +337,7 @@ def kills(tester: Tester) -> None:
             print(f"{number + 1} kills", flush=True)
 
 
-CHECKS = (line_ends, terminals, clients, faulty_lines, ends_without_live, faulty_rows, answered_faults, open_quotes, endless_lines, signals, sockets, unread_replies, short_parts, no_report, same_bytes, histories, kills)
+CHECKS = (line_ends, terminals, clients, faulty_lines, ends_without_live, faulty_rows, answered_faults, open_quotes, other_workers, endless_lines, signals, sockets, unread_replies, short_parts, no_report, same_bytes, histories, kills)
 
 
 def main() -> None:

@@ -66,24 +66,32 @@ def without_locks(tester: Tester) -> None:
 
 
 def forbidden_logs(tester: Tester) -> None:
-    """a log that this user may not read or write, or whose folder he may not read: a fault, and the log is as it was; a folder that he may only read"""
+    """a log, also by a link, that this user may not read or write, or whose own folder he may not read: a fault, and the log is as it was; a folder that he may only read"""
     program = shutil.copy(tester.program, tester.folder / "program")
     folder, rows = tester.folder / "forbidden", rows_of(FIRST)
-    log = folder / "log"
+    log, link, hidden = folder / "log", tester.folder / "linked", tester.folder / "hidden"
     folder.mkdir()
+    hidden.mkdir()
     log.write_bytes(rows)
+    for place in (link, hidden / "link"):
+        place.symlink_to(log)
     if os.geteuid() == 0:
         tester.folder.chmod(0o755)
-        os.chown(folder, NOBODY, NOBODY)
-        os.chown(log, NOBODY, NOBODY)
-    forbidden = told_of(log, UNREAD, errno.EACCES)
-    for of_folder, of_log, wanted in ((0o700, 0o200, forbidden), (0o700, 0o400, forbidden), (0o300, 0o600, forbidden), (0o500, 0o600, None)):
-        log.chmod(of_log)
-        folder.chmod(of_folder)
-        refused = fault_of(program, log, preexec_fn=become_nobody)
-        folder.chmod(0o700)
-        log.chmod(0o600)
-        tester.tally.check(refused == wanted and log.read_bytes() == rows, f"a log with mode {of_log:o} in a folder with mode {of_folder:o}: {refused}")
+        for path in (folder, hidden, log):
+            os.chown(path, NOBODY, NOBODY)
+    for of_folder, of_log, is_refused in ((0o700, 0o200, True), (0o700, 0o400, True), (0o300, 0o600, True), (0o500, 0o600, False)):
+        for path in (log, link):
+            log.chmod(of_log)
+            folder.chmod(of_folder)
+            refused = fault_of(program, path, preexec_fn=become_nobody)
+            folder.chmod(0o700)
+            log.chmod(0o600)
+            wanted = told_of(path, UNREAD, errno.EACCES) if is_refused else None
+            tester.tally.check(refused == wanted and log.read_bytes() == rows, f"{path.name} with mode {of_log:o} in a folder with mode {of_folder:o}: {refused}")
+    hidden.chmod(0o300)
+    refused = fault_of(program, hidden / "link", preexec_fn=become_nobody)
+    hidden.chmod(0o700)
+    tester.tally.check(refused is None, f"a link in a folder that he may not read: {refused}")
 
 
 def append_only_logs(tester: Tester) -> None:
@@ -145,7 +153,9 @@ def foreign_files(tester: Tester) -> None:
         file.write_bytes(text)
         refused = fault_of(tester.program, file)
         right = refused is not None and refused[1] == 5 and (words is None or refused[0] == f"rubis_auction: {file}: line {line}: {words}")
-        tester.tally.check(right and file.read_bytes() == text and not file.with_name("foreign.cut").exists(), f"{text[:40]!r} as a log: {refused}")
+        garbage = run([tester.program, "--log", file], b"garbage\n")
+        right = right and (garbage.status, garbage.stdout) == (5, b"")
+        tester.tally.check(right and file.read_bytes() == text and not file.with_name("foreign.cut").exists(), f"{text[:40]!r} as a log: {refused}, {described(garbage)}")
 
 
 def repaired_logs(tester: Tester) -> None:
@@ -180,14 +190,16 @@ def special_files(tester: Tester) -> None:
 
 
 def closed_places(tester: Tester) -> None:
-    """standard input, output or error closed: the log has rows and nothing else, and the next start accepts it"""
-    rows, log = rows_of(FIRST), tester.folder / "places"
-    for closed, statuses in (("<&-", (0, 2)), (">&-", (4,)), ("2>&-", (0,)), ("<&- >&- 2>&-", (0, 2, 4)), (">&- 2>&-", (4,))):
+    """standard input, output or error closed: the log has the rows and what was asked for, and nothing else, and the next start accepts it"""
+    rows, row, log = rows_of(FIRST), b"0,+bid,1,0.0,20,5\n", tester.folder / "places"
+    replies = f"0,0,bid 0.0\n0,1,{SEEN}\n".encode()
+    # Nothing is asked of a program that has no input, and its replies are not seen where it has no output.
+    for closed, statuses, asked, seen in (("<&-", (0, 2), b"", b""), (">&-", (4,), row, b""), ("2>&-", (0,), row, replies), ("<&- >&- 2>&-", (0, 2, 4), b"", b""), (">&- 2>&-", (4,), row, b"")):
         log.write_bytes(rows + b"0,+bi")
         shell = f"exec {tester.program} --live 1 --log {log} {closed}"
         got = run(["sh", "-c", shell], b"0,bid,1,0.0,20,5\n0,viewuser,0\n")
-        right = got.status in statuses and log.read_bytes() in (rows, rows + b"0,+bid,1,0.0,20,5\n")
-        tester.tally.check(right and fault_of(tester.program, log) is None, f"with {closed}: {described(got)}")
+        right = got.status in statuses and got.stdout == seen and log.read_bytes() == rows + asked
+        tester.tally.check(right and fault_of(tester.program, log) is None, f"with {closed}: {described(got)}, {log.read_bytes()[len(rows):]!r}")
 
 
 def bad_logs(tester: Tester) -> None:
