@@ -1,0 +1,8 @@
+//! Jobs done side by side, each but the first by a thread of its own.
+#![tactic(auto)]
+
+mod fault;
+mod threads;
+
+pub use fault::JobFault;
+pub use threads::{Job, work_all};
