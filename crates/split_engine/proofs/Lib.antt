@@ -1,0 +1,7 @@
+mod Splits
+mod Works
+mod States
+mod Ends
+mod Lines
+mod Sessions
+mod Counts

@@ -1,0 +1,54 @@
+use Rattle.std.proofs.Common.{◌≡◌, ◌++◌, ◌∷◌, [], ◌+◌, ◌*◌, suc, length, take, ap, sym, ◌∙◌, refl, subst, arith, append_assoc}
+use Rattle.std.proofs.Math.Numerals.{add-one}
+use Rattle.std.proofs.Math.Seq.{take-suc}
+use Rattle.std.proofs.lemmas.List.{length-set, append-nil}
+use Rattle.std.specs.List.{AllByRecursion}
+use Rattle.split_engine.specs.Serial.{after_act, reply, IsWithin}
+use Rattle.split_engine.specs.Serving.{commit}
+use Rattle.split_engine.specs.Phases.{HasPerformed}
+use Rattle.split_engine.proofs.Works.{all_at, performed_both, performed_none, performed_one}
+use Rattle.split_engine.proofs.joined.perform_all.Goals as goal
+
+pub perform_call-requires-clause-within : goal.perform_call-requires-clause-within
+perform_call-requires-clause-within g c =
+    let at = all_at (λ call. IsWithin g.A.Application.rules (length c.args.so_far.now.table.items) call.1) c.args.calls.now c.loop-place.place c.index-calls-place.result c.loop-place-test.true c.requires.within in
+    let here = subst (λ call. IsWithin g.A.Application.rules (length c.args.so_far.now.table.items) call.1) (sym c.index-calls-place.is) at in
+    subst (λ len. IsWithin g.A.Application.rules len c.index-calls-place.result.1) (sym c.loop-place.invariant.same) here
+
+pub perform_call-requires-clause-fits : goal.perform_call-requires-clause-fits
+perform_call-requires-clause-fits g c =
+    let fits = c.requires.fits in
+    (fits.0 + 2 * c.loop-place.place, omega (arith, fits.1, c.loop-place-test.true), c.loop-place.invariant.fits fits.0 fits.2)
+
+pub loop-place-init : goal.loop-place-init
+loop-place-init g c = record {
+  more = [];
+  history_is = sym (append-nil c.args.so_far.now.history.items);
+  performed = performed_none g.A.Application.rules c.args.worker c.args.so_far.now.table.items;
+  same = refl;
+  fits = λ n h. subst (λ m. AllByRecursion (g.A.Application.fits m) c.args.so_far.now.table.items) (omega arith) h;
+}
+
+pub loop-place-preserved : goal.loop-place-preserved
+loop-place-preserved g c =
+    let was = c.loop-place.invariant in let d = c.in_ok-perform_call.ensures in
+    let calls = c.args.calls.now in let place = c.loop-place.place in let call = c.index-calls-place.result in
+    let e = commit c.args.worker call (reply g.A.Application.rules c.loop-place.so_far.table.items call.1) in
+    let taken : take (place + 1) calls ≡ take place calls ++ call ∷ [] =
+    ap (λ n. take n calls) (add-one place) ∙ take-suc calls place call c.loop-place-test.true
+    ∙ ap (λ x. take place calls ++ x ∷ []) (sym c.index-calls-place.is) in
+    let done = performed_both g.A.Application.rules c.args.worker (take place calls) (call ∷ []) c.args.so_far.now.table.items c.loop-place.so_far.table.items c.perform_call.new.so_far.table.items was.more (e ∷ [])
+    was.performed (performed_one g.A.Application.rules c.args.worker c.loop-place.so_far.table.items c.perform_call.new.so_far.table.items call d.table) in record {
+      more = was.more ++ e ∷ [];
+      history_is = d.history ∙ ap (λ h. h ++ e ∷ []) was.history_is ∙ append_assoc c.args.so_far.now.history.items was.more (e ∷ []);
+      performed = subst (λ all. HasPerformed g.A.Application.rules c.args.worker all c.args.so_far.now.table.items c.perform_call.new.so_far.table.items (was.more ++ e ∷ [])) (sym taken) done;
+      same = ap length d.table ∙ length-set (after_act g.A.Application.rules c.loop-place.so_far.table.items _ _) _ _ ∙ length-set c.loop-place.so_far.table.items _ _ ∙ was.same;
+      fits = λ n h.
+          let two : suc (suc (n + 2 * place)) ≡ n + 2 * (place + 1) = omega arith in
+          subst (λ m. AllByRecursion (g.A.Application.fits m) c.perform_call.new.so_far.table.items) two (d.fits (n + 2 * place) (was.fits n h));
+    }
+
+pub returns-clause-fits : goal.returns-clause-fits
+returns-clause-fits g c n h =
+    let all : n + 2 * c.loop-place.place ≡ n + 2 * length c.args.calls.now = omega (arith, c.loop-place-test.false, c.loop-place.auto.place-end) in
+    subst (λ m. AllByRecursion (g.A.Application.fits m) c.loop-place.so_far.table.items) all (c.loop-place.invariant.fits n h)

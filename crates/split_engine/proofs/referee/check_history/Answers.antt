@@ -1,0 +1,42 @@
+use Rattle.std.proofs.Common.{◌≡◌, ◌++◌, [], ◌∷◌, Some, ◌+◌, ◌*◌, suc, take, ap, refl, sym, ◌∙◌, subst, arith}
+use Rattle.std.proofs.Math.Numerals.{add-one}
+use Rattle.std.proofs.Math.Seq.{take-suc}
+use Rattle.std.specs.List.{AllByRecursion}
+use Rattle.split_engine.specs.Serving.{lists}
+use Rattle.split_engine.specs.Checking.{IsRightLine, after_line, lines_replay, after_lines}
+use Rattle.split_engine.proofs.Lines.{lines_push, after_push}
+use Rattle.split_engine.proofs.Works.{get_is}
+use Rattle.split_engine.proofs.referee.check_history.Goals as goal
+
+pub check_line-requires-clause-fits : goal.check_line-requires-clause-fits
+check_line-requires-clause-fits g c =
+    let fits = c.requires.fits in
+    (fits.0 + 2 * c.loop-place.place, omega (arith, fits.1, c.loop-place-test.true), c.loop-place.invariant.fits fits.0 fits.2)
+
+pub returns-then-not-check_line-clause-wrong : goal.returns-then-not-check_line-clause-wrong
+returns-then-not-check_line-clause-wrong g c =
+    let s = g.A.Application in let was = c.loop-place.invariant in let scripts = lists c.args.scripts.now in
+    let line = c.index-lines-place.result in (
+      was.replays,
+      line,
+      get_is c.args.lines.now c.loop-place.place line c.loop-place-test.true ∙ ap Some (sym c.index-lines-place.is),
+      λ right. c.if-not-check_line.ensures.wrong refl (subst (λ t. IsRightLine s.rules scripts t line) (sym was.table) right),
+    )
+
+pub loop-place-preserved : goal.loop-place-preserved
+loop-place-preserved g c =
+    let s = g.A.Application in let was = c.loop-place.invariant in let scripts = lists c.args.scripts.now in
+    let place = c.loop-place.place in let line = c.index-lines-place.result in let lines = c.args.lines.now in
+    let e = c.if-not-check_line.ensures in
+    let taken : take (place + 1) lines ≡ take place lines ++ line ∷ [] =
+    ap (λ n. take n lines) (add-one place) ∙ take-suc lines place line c.loop-place-test.true
+    ∙ ap (λ x. take place lines ++ x ∷ []) (sym c.index-lines-place.is) in record {
+      replays = subst (lines_replay s.rules scripts c.args.table.now.items) (sym taken)
+          (lines_push s.rules scripts c.args.table.now.items (take place lines) line was.replays (subst (λ t. IsRightLine s.rules scripts t line) was.table (e.right refl)));
+      table = e.table refl ∙ ap (λ t. after_line s.rules scripts t line) was.table ∙ sym (after_push s.rules scripts c.args.table.now.items (take place lines) line)
+          ∙ ap (after_lines s.rules scripts c.args.table.now.items) (sym taken);
+      size = e.size ∙ was.size;
+      fits = λ n h.
+          let two : suc (suc (n + 2 * place)) ≡ n + 2 * (place + 1) = omega arith in
+          subst (λ m. AllByRecursion (s.fits m) c.check_line.new.table.items) two (e.fits (n + 2 * place) (was.fits n h));
+    }

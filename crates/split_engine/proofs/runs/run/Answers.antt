@@ -1,0 +1,66 @@
+use Rattle.std.proofs.Common.{length, ap, sym, ◌∙◌, subst, arith}
+use Rattle.std.proofs.lemmas.List.{length-map}
+use Rattle.split_engine.specs.Serving.{lists}
+use Rattle.split_engine.specs.Phases.{AllFinished}
+use Rattle.split_engine.proofs.Counts.{are_scripts}
+use Rattle.split_engine.proofs.States.{have_length}
+use Rattle.split_engine.proofs.Ends.{state_at_first}
+use Rattle.split_engine.proofs.runs.run.Goals as goal
+
+pub loop-round-init : goal.loop-round-init
+loop-round-init g c = let s = g.A.Application in let e = c.in_ok-cursors.ensures in record {
+  state = λ n few fits. state_at_first s.rules s.fits n c.args.table.items (lists c.args.scripts.now) c.new.result.items c.in_ok-cursors.cursors.items
+      (e.0 ∙ sym (length-map c.args.scripts.now (λ v. v.items))) e.1 c.new.ensures.items fits;
+}
+
+pub is_finished-requires : goal.is_finished-requires
+is_finished-requires g c =
+    let s = g.A.Application in let fits = c.requires.fits in let f = c.loop-round.invariant.state fits.0 fits.1 fits.2 in record {
+      len = ap length c.deref.ensures.value
+          ∙ have_length s.rules (length c.args.table.items) 0 (lists c.args.scripts.now) c.loop-round.state.cursors.items c.loop-round.state.so_far.history.items f.served
+          ∙ length-map c.args.scripts.now (λ v. v.items);
+    }
+
+pub finish-requires : goal.finish-requires
+finish-requires g c = subst (λ ds. AllFinished (lists c.args.scripts.now) ds) c.deref.ensures.value (c.is_finished.ensures c.if-is_finished.true)
+
+pub returns-then-is_finished-clause-outcome : goal.returns-then-is_finished-clause-outcome
+returns-then-is_finished-clause-outcome g c =
+    let fits = c.requires.fits in
+    c.finish.ensures fits.0 c.args.table.items (c.loop-round.invariant.state fits.0 fits.1 fits.2)
+
+pub perform_round-requires-clause-state : goal.perform_round-requires-clause-state
+perform_round-requires-clause-state g c =
+    let fits = c.requires.fits in
+    λ sent lives. (fits.0, c.args.table.items, fits.1, (are_scripts g.A.Application.rules (length c.args.table.items) (lists c.args.scripts.now) c.requires.scripts), c.loop-round.invariant.state fits.0 fits.1 fits.2)
+
+pub loop-round-preserved : goal.loop-round-preserved
+loop-round-preserved g c = record {
+  state = λ n few fits. c.in_ok-state.ensures.state n c.args.table.items few (are_scripts g.A.Application.rules (length c.args.table.items) (lists c.args.scripts.now) c.requires.scripts) (c.loop-round.invariant.state n few fits);
+}
+
+pub joined_phase-requires-clause-state : goal.joined_phase-requires-clause-state
+joined_phase-requires-clause-state g c =
+    let fits = c.requires.fits in
+    (fits.0, c.args.table.items, fits.1, (are_scripts g.A.Application.rules (length c.args.table.items) (lists c.args.scripts.now) c.requires.scripts), c.loop-round.invariant.state fits.0 fits.1 fits.2)
+
+pub finish-requires-2 : goal.finish-requires-2
+finish-requires-2 g c = c.in_ok-joined_phase.ensures.ends (omega arith)
+
+pub returns-clause-outcome : goal.returns-clause-outcome
+returns-clause-outcome g c =
+    let fits = c.requires.fits in
+    c.finish-2.ensures fits.0 c.args.table.items
+    (c.in_ok-joined_phase.ensures.state fits.0 c.args.table.items fits.1 (are_scripts g.A.Application.rules (length c.args.table.items) (lists c.args.scripts.now) c.requires.scripts) (c.loop-round.invariant.state fits.0 fits.1 fits.2))
+
+pub perform_round-requires-clause-few : goal.perform_round-requires-clause-few
+perform_round-requires-clause-few g c = λ sent lives. let few = c.requires.scripts.few in omega (arith, few, length-map c.args.scripts.now (λ v. v.items))
+
+pub perform_round-requires-clause-total : goal.perform_round-requires-clause-total
+perform_round-requires-clause-total g c = λ sent lives. let few = c.requires.scripts.few in omega (arith, few)
+
+pub joined_phase-requires-clause-few : goal.joined_phase-requires-clause-few
+joined_phase-requires-clause-few g c = let few = c.requires.scripts.few in omega (arith, few, length-map c.args.scripts.now (λ v. v.items))
+
+pub joined_phase-requires-clause-total : goal.joined_phase-requires-clause-total
+joined_phase-requires-clause-total g c = let few = c.requires.scripts.few in omega (arith, few)

@@ -1,0 +1,24 @@
+use Rattle.std.proofs.Common.{subst, arith}
+use Rattle.std.proofs.lemmas.List.{length-map}
+use Rattle.std.specs.List.{AllByRecursion}
+use Rattle.split_engine.specs.Serial.{IsWithin}
+use Rattle.split_engine.specs.Serving.{lists}
+use Rattle.split_engine.proofs.Ends.{take_whole}
+use Rattle.split_engine.proofs.States.{listed}
+use Rattle.split_engine.proofs.Works.{all_take}
+use Rattle.split_engine.proofs.scripts.check_scripts.Goals as goal
+
+pub loop-worker-preserved : goal.loop-worker-preserved
+loop-worker-preserved g c =
+    let P = AllByRecursion (IsWithin g.A.Application.rules c.args.records) in let script = c.index-scripts-worker.result in
+    let at = listed c.args.scripts.now c.loop-worker.worker script c.loop-worker-test.true c.index-scripts-worker.is in
+    all_take P (lists c.args.scripts.now) c.loop-worker.worker script.items at.0 at.1 c.loop-worker.invariant
+    (subst P c.deref.ensures.value c.in_default.ensures)
+
+pub returns-clause-ok : goal.returns-clause-ok
+returns-clause-ok g c =
+    let scripts = lists c.args.scripts.now in let few = c.are_few.ensures.few c.if-not-are_few.false in record {
+      few = omega (arith, few, length-map c.args.scripts.now (λ v. v.items));
+      keys = subst (AllByRecursion (AllByRecursion (IsWithin g.A.Application.rules c.args.records)))
+          (take_whole scripts c.loop-worker.worker (omega (arith, c.loop-worker-test.false, length-map c.args.scripts.now (λ v. v.items)))) c.loop-worker.invariant;
+    }

@@ -1,0 +1,16 @@
+use Rattle.std.proofs.Common.{ℕ, ◌<◌, subst, arith}
+use Rattle.std.specs.List.{AllByRecursion}
+use Rattle.split_engine.specs.Serial.{IsWithin}
+use Rattle.split_engine.proofs.Ends.{take_whole}
+use Rattle.split_engine.proofs.Works.{all_take}
+use Rattle.split_engine.proofs.scripts.without_key.Goals as goal
+
+pub loop-index-preserved : goal.loop-index-preserved
+loop-index-preserved g c =
+    all_take (IsWithin g.A.Application.rules c.args.records) c.args.script.now c.loop-index.index c.index-script-index.result c.loop-index-test.true c.index-script-index.is
+    c.loop-index.invariant (subst (λ (keys : ℕ × ℕ). (keys.0 < c.args.records) × (keys.1 < c.args.records)) c.keys-first.ensures (c.if-first-records.false, c.if-second-records.false))
+
+pub returns : goal.returns
+returns g c =
+    subst (AllByRecursion (IsWithin g.A.Application.rules c.args.records))
+    (take_whole c.args.script.now c.loop-index.index (omega (arith, c.loop-index-test.false))) c.loop-index.invariant

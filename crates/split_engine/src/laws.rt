@@ -1,0 +1,21 @@
+//! Why split phases replay, for every application.
+ghost use Rattle.std.specs.Prelude.{◌≡◌, ℕ, List};
+ghost use Rattle.std.specs.List.{AllByRecursion};
+ghost use Rattle.split_engine.specs.declared.entry.Entry.{Entry as Commit};
+ghost use Rattle.split_engine.specs.Serial.{ReplaysFrom, table_after};
+ghost use Rattle.split_engine.specs.Splitting.{InterleavesAll, IsSplitEntry, all_merged};
+
+use crate::application::Application;
+
+/// However workers' commits of a split phase are interleaved, they replay on one thread, and the
+/// table after them is the one into which all workers' slices are merged.
+pub fn split_phases_replay<A: Application>()
+    ensures replays { (table : List A.Record) (all : List (Commit A.Request A.Reply)) →
+        AllByRecursion (IsSplitEntry A.rules A.is_small table) all →
+        ReplaysFrom A.rules table all }
+    ensures merged { (n : ℕ) (table : List A.Record)
+        (journals : List (List (Commit A.Request A.Reply)))
+        (all : List (Commit A.Request A.Reply)) → AllByRecursion (A.fits n) table →
+        InterleavesAll journals all → AllByRecursion (IsSplitEntry A.rules A.is_small table) all →
+        all_merged A.rules table table journals ≡ table_after A.rules table all }
+{}

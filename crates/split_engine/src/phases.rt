@@ -1,0 +1,214 @@
+//! Split phases: each worker's part on a thread of its own, and what they leave taken in.
+ghost use Rattle.std.specs.Prelude.{◌≡◌, ℕ, ◌+◌, ◌*◌, ◌<◌, ◌≤◌, ◌++◌, ◌∷◌, [], List, length, map, IfOk, IfErr};
+ghost use Rattle.std.specs.List.{AllByRecursion, AllZip};
+ghost use Rattle.split_engine.specs.declared.entry.Entry.{Entry as Commit};
+ghost use Rattle.split_engine.specs.declared.state.Cursor.{Cursor as CursorValue};
+ghost use Rattle.split_engine.specs.Rules.{most_acts, most_before, index_end};
+ghost use Rattle.split_engine.specs.Splitting.{merged_all};
+ghost use Rattle.split_engine.specs.Serving.{lists, total, IsScript};
+ghost use Rattle.split_engine.specs.Faults.{IsRunFault};
+ghost use Rattle.split_engine.specs.Phases.{HaveServed, IsRunState};
+ghost use Rattle.split_engine.specs.Assignments.{Assignment, assignment, assignments, all_left, CanDo, HasDone, HasClosed};
+
+use crate::application::Application;
+use crate::fault::RunFault;
+use crate::slices::merge_all;
+use crate::split::{SplitData, SplitPhase, SplitPlan, SplitTask, begin};
+use crate::state::{Cursor, MOST_COMMITS, Outcome, RunState};
+use job_threads::work_all;
+use std::alloc::{AllocError, Global};
+use std::sync::Wait;
+use std::thread::Threads;
+
+// Each worker's task.
+fn tasks<'a, A: Application>(
+    alloc: Global,
+    phase: SplitPhase<'a, A>,
+    scripts: &'a [Vec<A::Request>],
+    cursors: Vec<Cursor<A::Request>>,
+) -> Result<Vec<SplitTask<'a, A>>, AllocError>
+    requires few { length scripts.now < index_end }
+    requires quota { 2 * phase.plan.quota < most_acts }
+    requires hot { length phase.plan.hot.now ≡ length phase.table.now }
+    requires scripts { AllByRecursion (IsScript A.rules (length phase.table.now))
+        (lists scripts.now) }
+    requires served { (history : List (Commit A.Request A.Reply))
+        × HaveServed A.rules (length phase.table.now) 0 (lists scripts.now) cursors.items history }
+    ensures can { IfOk result (λ made. AllByRecursion (λ task. CanDo A.rules
+        (assignment task.phase.table.now task.phase.plan.hot.now task.worker task.script.now
+        task.phase.plan.quota task.start.cursor)
+        task.start.journal.items task.start.slices.items) made.items) }
+    ensures len { IfOk result (λ made. length made.items ≡ length scripts.now) }
+    ensures tasks { IfOk result (λ made. map (λ task.
+        assignment task.phase.table.now task.phase.plan.hot.now task.worker task.script.now
+        task.phase.plan.quota task.start.cursor) made.items
+        ≡ assignments phase.entry.table.now phase.entry.plan.hot.now phase.entry.plan.quota 0
+        (lists scripts.now) cursors.items) }
+{
+    let mut made = Vec::with_capacity(alloc, scripts.len())?;
+    let mut cursors = cursors.into_iter();
+    for worker in 0..scripts.len() {
+        let Some(cursor) = cursors.next() else {
+            unreachable!()
+        };
+        made.push(SplitTask {
+            phase: SplitPhase {
+                table: phase.table,
+                plan: phase.plan,
+            },
+            worker: worker as u32,
+            script: &scripts[worker],
+            start: begin::<A>(alloc, phase.table.len(), cursor)?,
+        })?;
+    }
+    Ok(made)
+}
+
+// Takes in what a worker did: merges its slices.
+fn take_in<A: Application>(
+    alloc: Global,
+    state: RunState<A>,
+    own: SplitData<A>,
+) -> Result<RunState<A>, AllocError>
+    requires done { (given : Assignment A.Record A.Request)
+        × (length given.table ≡ length state.so_far.table.items)
+        × HasDone A.rules A.is_small given own.cursor own.journal.items own.slices.items }
+    requires room { length state.so_far.history.items + length own.journal.items ≤ MOST_COMMITS }
+    requires fits { (n : ℕ) × (n < most_before)
+        × AllByRecursion (A.fits (n + 2 * length state.so_far.history.items))
+        state.so_far.table.items }
+    ensures table { IfOk result (λ new.
+        new.so_far.table.items ≡ merged_all A.rules state.so_far.table.items own.slices.items) }
+    ensures history { IfOk result (λ new.
+        new.so_far.history.items ≡ state.so_far.history.items ++ own.journal.items) }
+    ensures cursors { IfOk result (λ new.
+        new.cursors.items ≡ state.cursors.items ++ own.cursor ∷ []) }
+    ensures fits { (n : ℕ) →
+        AllByRecursion (A.fits (n + 2 * length state.so_far.history.items))
+        state.so_far.table.items →
+        IfOk result (λ new.
+        AllByRecursion (A.fits (n + 2 * length new.so_far.history.items)) new.so_far.table.items) }
+{
+    let RunState {
+        so_far,
+        mut cursors,
+    } = state;
+    let Outcome { mut history, table } = so_far;
+    let SplitData {
+        cursor,
+        mut journal,
+        slices,
+    } = own;
+    let table = merge_all::<A>(alloc, table, slices)?;
+    history.append(&mut journal)?;
+    cursors.push(cursor)?;
+    Ok(RunState {
+        so_far: Outcome { history, table },
+        cursors,
+    })
+}
+
+// Takes in what all workers did.
+fn take_in_all<A: Application>(
+    alloc: Global,
+    so_far: Outcome<A>,
+    answers: Vec<Result<SplitData<A>, AllocError>>,
+) -> Result<RunState<A>, AllocError>
+    requires fits { (n : ℕ) × (n < most_before)
+        × AllByRecursion (A.fits (n + 2 * length so_far.history.items)) so_far.table.items }
+    requires done { (given : List (Assignment A.Record A.Request))
+        × (length so_far.history.items + all_left given ≤ MOST_COMMITS)
+        × AllByRecursion (λ a. a.cursor.next ≤ length a.script) given
+        × AllByRecursion (λ a. a.table ≡ so_far.table.items) given
+        × AllZip (λ a answer. IfOk answer (λ own.
+        HasDone A.rules A.is_small a own.cursor own.journal.items own.slices.items))
+        given answers.items }
+    ensures { (given : List (Assignment A.Record A.Request)) →
+        AllByRecursion (λ a. a.cursor.next ≤ length a.script) given →
+        AllByRecursion (λ a. a.table ≡ so_far.table.items) given →
+        AllZip (λ a answer. IfOk answer (λ own.
+        HasDone A.rules A.is_small a own.cursor own.journal.items own.slices.items))
+        given answers.items →
+        IfOk result (λ state. HasClosed A.rules A.is_small A.fits given
+        so_far.table.items so_far.history.items
+        state.so_far.table.items state.so_far.history.items state.cursors.items) }
+{
+    let cursors = Vec::with_capacity(alloc, answers.len())?;
+    let mut state = RunState { so_far, cursors };
+    for answer in answers {
+        state = take_in::<A>(alloc, state, answer?)?;
+    }
+    Ok(state)
+}
+
+// Closes a split phase in which the workers did their parts.
+fn close<A: Application>(
+    alloc: Global,
+    scripts: &[Vec<A::Request>],
+    plan: SplitPlan<'_>,
+    so_far: Outcome<A>,
+    answers: Vec<Result<SplitData<A>, AllocError>>,
+) -> Result<RunState<A>, AllocError>
+    requires total { total (lists scripts.now) ≤ MOST_COMMITS }
+    requires done { (n : ℕ) × (opened : List A.Record) × (cursors : List (CursorValue A.Request))
+        × (n < most_before) × IsRunState A.rules A.fits n opened (lists scripts.now)
+        so_far.table.items so_far.history.items cursors
+        × AllZip (λ a answer. IfOk answer (λ own.
+        HasDone A.rules A.is_small a own.cursor own.journal.items own.slices.items))
+        (assignments so_far.table.items plan.hot.now plan.quota 0 (lists scripts.now) cursors)
+        answers.items }
+    ensures { (n : ℕ) (opened : List A.Record) (cursors : List (CursorValue A.Request)) →
+        AllByRecursion (IsScript A.rules (length opened)) (lists scripts.now) →
+        IsRunState A.rules A.fits n opened (lists scripts.now)
+        so_far.table.items so_far.history.items cursors →
+        AllZip (λ a answer. IfOk answer (λ own.
+        HasDone A.rules A.is_small a own.cursor own.journal.items own.slices.items))
+        (assignments so_far.table.items plan.entry.hot.now plan.entry.quota 0
+        (lists scripts.now) cursors)
+        answers.items →
+        IfOk result (λ new. IsRunState A.rules A.fits n opened (lists scripts.now)
+        new.so_far.table.items new.so_far.history.items new.cursors.items) }
+{
+    take_in_all::<A>(alloc, so_far, answers)
+}
+
+/// Performs a split phase: each worker's part on a thread of its own, but the first worker's.
+pub(crate) fn split_phase<A: Application + Send + Sync, R: Threads + Wait + Sync>(
+    rt: &R,
+    alloc: Global,
+    scripts: &[Vec<A::Request>],
+    plan: SplitPlan<'_>,
+    state: RunState<A>,
+) -> Result<RunState<A>, RunFault>
+where
+    A::Record: Send + Sync,
+    A::Slice: Send,
+    A::Fixed: Send,
+    A::Request: Send + Sync,
+    A::Reply: Send,
+    A::Act: Send,
+    requires few { length scripts.now < index_end }
+    requires quota { 2 * plan.quota < most_acts }
+    requires hot { length plan.hot.now ≡ length state.so_far.table.items }
+    requires total { total (lists scripts.now) ≤ MOST_COMMITS }
+    requires state { (n : ℕ) × (opened : List A.Record) × (n < most_before)
+        × AllByRecursion (IsScript A.rules (length opened)) (lists scripts.now)
+        × IsRunState A.rules A.fits n opened (lists scripts.now)
+        state.so_far.table.items state.so_far.history.items state.cursors.items }
+    ensures fault { IfErr result (IsRunFault (length scripts.now)) }
+    ensures state { (n : ℕ) (opened : List A.Record) → n < most_before →
+        AllByRecursion (IsScript A.rules (length opened)) (lists scripts.now) →
+        IsRunState A.rules A.fits n opened (lists scripts.now)
+        state.so_far.table.items state.so_far.history.items state.cursors.items →
+        IfOk result (λ new. IsRunState A.rules A.fits n opened (lists scripts.now)
+        new.so_far.table.items new.so_far.history.items new.cursors.items) }
+{
+    let RunState { so_far, cursors } = state;
+    let phase = SplitPhase {
+        table: &so_far.table,
+        plan,
+    };
+    let tasks = tasks::<A>(alloc, phase, scripts, cursors)?;
+    let answers = work_all(rt, alloc, tasks)?;
+    Ok(close::<A>(alloc, scripts, plan, so_far, answers)?)
+}

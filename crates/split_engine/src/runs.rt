@@ -1,0 +1,161 @@
+//! Runs of workers' scripts: joined and split phases in turn.
+ghost use Rattle.std.specs.Prelude.{◌≡◌, ℕ, true, ◌+◌, ◌*◌, ◌<◌, ◌≤◌, List, length, IfOk, IfErr};
+ghost use Rattle.std.specs.List.{AllByRecursion};
+ghost use Rattle.split_engine.specs.Rules.{most_before, index_end};
+ghost use Rattle.split_engine.specs.Serving.{lists, total, IsScript, AreScripts, IsOutcome};
+ghost use Rattle.split_engine.specs.Faults.{IsRunFault};
+ghost use Rattle.split_engine.specs.Phases.{IsRunState, AreFresh, AllFinished};
+
+use crate::application::Application;
+use crate::fault::RunFault;
+use crate::hot::{hot_keys, key_counts};
+use crate::joined::joined_phase;
+use crate::phases::split_phase;
+use crate::split::SplitPlan;
+use crate::state::{Cursor, MOST_COMMITS, Outcome, RunState};
+use std::alloc::{AllocError, Global};
+use std::sync::Wait;
+use std::thread::Threads;
+
+/// How a run is divided into phases, and which keys are hot.
+#[derive(Clone, Copy, PartialEq, Eq, Debug)]
+pub struct Policy {
+    /// How many requests of its script each worker is given in a joined phase, after those that
+    /// were deferred.
+    pub joined_quota: usize,
+    /// How many it is given in a split phase.
+    pub split_quota: usize,
+    /// How many times a joined and a split phase follow each other, before a last joined phase
+    /// performs what is left.
+    pub rounds: usize,
+    /// How many splittable requests of a joined phase have to name a key for it to be hot in the
+    /// split phase after it.
+    pub threshold: u32,
+}
+
+// So many workers' cursors, each at the beginning of its script.
+fn new_cursors<Q: Drop>(alloc: Global, workers: usize) -> Result<Vec<Cursor<Q>>, AllocError>
+    ensures { IfOk result (λ cursors. (length cursors.items ≡ workers) × AreFresh cursors.items) }
+{
+    let mut cursors = Vec::with_capacity(alloc, workers)?;
+    for _worker in 0..workers {
+        cursors.push(Cursor {
+            next: 0,
+            stash: Vec::new(alloc),
+        })?;
+    }
+    Ok(cursors)
+}
+
+// Whether all requests of all scripts are performed.
+fn is_finished<Q>(scripts: &[Vec<Q>], cursors: &[Cursor<Q>]) -> bool
+    requires len { length cursors.now ≡ length scripts.now }
+    ensures { result ≡ true → AllFinished (lists scripts.now) cursors.now }
+{
+    for worker in 0..scripts.len() {
+        let cursor = &cursors[worker];
+        if cursor.next != scripts[worker].len() {
+            return false;
+        }
+        if cursor.stash.len() != 0 {
+            return false;
+        }
+    }
+    true
+}
+
+// Performs a joined and a split phase.
+fn perform_round<A: Application + Send + Sync, R: Threads + Wait + Sync>(
+    rt: &R,
+    alloc: Global,
+    scripts: &[Vec<A::Request>],
+    policy: &Policy,
+    state: RunState<A>,
+) -> Result<RunState<A>, RunFault>
+where
+    A::Record: Send + Sync,
+    A::Slice: Send,
+    A::Fixed: Send,
+    A::Request: Send + Sync,
+    A::Reply: Send,
+    A::Act: Send,
+    requires few { length scripts.now < index_end }
+    requires total { total (lists scripts.now) ≤ MOST_COMMITS }
+    requires state { (n : ℕ) × (opened : List A.Record) × (n < most_before)
+        × AllByRecursion (IsScript A.rules (length opened)) (lists scripts.now)
+        × IsRunState A.rules A.fits n opened (lists scripts.now)
+        state.so_far.table.items state.so_far.history.items state.cursors.items }
+    ensures fault { IfErr result (IsRunFault (length scripts.now)) }
+    ensures state { (n : ℕ) (opened : List A.Record) → n < most_before →
+        AllByRecursion (IsScript A.rules (length opened)) (lists scripts.now) →
+        IsRunState A.rules A.fits n opened (lists scripts.now)
+        state.so_far.table.items state.so_far.history.items state.cursors.items →
+        IfOk result (λ new. IsRunState A.rules A.fits n opened (lists scripts.now)
+        new.so_far.table.items new.so_far.history.items new.cursors.items) }
+{
+    let mut state = state;
+    let from = state.so_far.history.len();
+    joined_phase::<A>(scripts, policy.joined_quota, &mut state)?;
+    let counts = key_counts::<A>(alloc, state.so_far.table.len(), &state.so_far.history, from)?;
+    let hot = hot_keys(alloc, &counts, policy.threshold)?;
+    let plan = SplitPlan {
+        hot: &hot,
+        quota: policy.split_quota.min(MOST_COMMITS),
+    };
+    split_phase::<A, R>(rt, alloc, scripts, plan, state)
+}
+
+// What the run gives, once all scripts are performed.
+fn finish<A: Application>(scripts: &[Vec<A::Request>], state: RunState<A>) -> Outcome<A>
+    requires { AllFinished (lists scripts.now) state.cursors.items }
+    ensures { (n : ℕ) (opened : List A.Record) →
+        IsRunState A.rules A.fits n opened (lists scripts.now)
+        state.so_far.table.items state.so_far.history.items state.cursors.items →
+        IsOutcome A.rules opened (lists scripts.now) result.history.items result.table.items }
+{
+    let RunState { so_far, cursors: _ } = state;
+    so_far
+}
+
+/// Performs a script for each worker over a table, in joined and split phases in turn. The history
+/// has each request of each script once, replays on one thread, and leaves the table.
+///
+/// `check_scripts` is the test of `scripts`. `fits`: each record is one that fewer than 2^31 acts
+/// can make.
+pub fn run<A: Application + Send + Sync, R: Threads + Wait + Sync>(
+    rt: &R,
+    alloc: Global,
+    table: Vec<A::Record>,
+    scripts: &[Vec<A::Request>],
+    policy: Policy,
+) -> Result<Outcome<A>, RunFault>
+where
+    A::Record: Send + Sync,
+    A::Slice: Send,
+    A::Fixed: Send,
+    A::Request: Send + Sync,
+    A::Reply: Send,
+    A::Act: Send,
+    requires scripts { AreScripts A.rules (length table.items) (lists scripts.now) }
+    requires fits { (n : ℕ) × (n < most_before) × AllByRecursion (A.fits n) table.items }
+    ensures outcome { IfOk result (λ outcome. IsOutcome A.rules table.items (lists scripts.now)
+        outcome.history.items outcome.table.items) }
+    ensures fault { IfErr result (IsRunFault (length scripts.now)) }
+{
+    let cursors = new_cursors::<A::Request>(alloc, scripts.len())?;
+    let mut state = RunState {
+        so_far: Outcome {
+            history: Vec::new(alloc),
+            table,
+        },
+        cursors,
+    };
+    for _round in 0..policy.rounds {
+        if is_finished(scripts, &state.cursors) {
+            return Ok(finish::<A>(scripts, state));
+        }
+        state = perform_round::<A, R>(rt, alloc, scripts, &policy, state)?;
+    }
+    joined_phase::<A>(scripts, usize::MAX, &mut state)?;
+    Ok(finish::<A>(scripts, state))
+}

@@ -1,0 +1,74 @@
+//! Whether scripts can be run.
+ghost use Rattle.std.specs.Prelude.{◌≡◌, ◌+◌, ◌<◌, ◌≤◌, true, false, Some, MatchOption, length, slice_get, IfOk, IfErr};
+ghost use Rattle.std.specs.List.{AllByRecursion};
+ghost use Rattle.split_engine.specs.Serial.{IsWithin};
+ghost use Rattle.split_engine.specs.Serving.{lists, total, AreScripts};
+ghost use Rattle.split_engine.specs.Faults.{IsScriptFault};
+
+use crate::application::Application;
+use crate::state::MOST_COMMITS;
+use thiserror::Error;
+
+/// Why scripts cannot be run.
+#[derive(Clone, Copy, Debug, PartialEq, Eq, Drop, Error)]
+pub enum ScriptFault {
+    /// There are more than 2^30 scripts and requests.
+    #[error("more than 1073741824 scripts and requests")]
+    TooLong,
+    /// The request with this index of a worker's script names a key that the table does not have.
+    #[error("worker {worker}, request {index}: no such key")]
+    NoSuchKey { worker: usize, index: usize },
+}
+
+// Whether there are at most 2^30 scripts and requests.
+fn are_few<Q>(scripts: &[Vec<Q>]) -> bool
+    ensures few { result ≡ true → length scripts.now + total (lists scripts.now) ≤ MOST_COMMITS }
+    ensures many { result ≡ false → MOST_COMMITS < length scripts.now + total (lists scripts.now) }
+{
+    if scripts.len() > MOST_COMMITS {
+        return false;
+    }
+    let mut left = MOST_COMMITS - scripts.len();
+    for worker in 0..scripts.len() {
+        let long = scripts[worker].len();
+        if long > left {
+            return false;
+        }
+        left -= long;
+    }
+    true
+}
+
+// The index of the first request that names a key which is not there.
+fn without_key<A: Application>(script: &[A::Request], records: usize) -> Option<usize>
+    ensures { MatchOption result (AllByRecursion (IsWithin A.rules records) script.now)
+        (λ index. (q : A.Request) × (slice_get script.now index ≡ Some q)
+        × (IsWithin A.rules records q → ⊥)) }
+{
+    for index in 0..script.len() {
+        let (first, second) = A::keys(&script[index]);
+        if first as usize >= records || second as usize >= records {
+            return Some(index);
+        }
+    }
+    None
+}
+
+/// Whether scripts can be run over a table of so many records; if not, this is why.
+pub fn check_scripts<A: Application>(
+    scripts: &[Vec<A::Request>],
+    records: usize,
+) -> Result<(), ScriptFault>
+    ensures ok { IfOk result (λ _. AreScripts A.rules records (lists scripts.now)) }
+    ensures fault { IfErr result (IsScriptFault A.rules records (lists scripts.now)) }
+{
+    if !are_few(scripts) {
+        return Err(ScriptFault::TooLong);
+    }
+    for worker in 0..scripts.len() {
+        if let Some(index) = without_key::<A>(&scripts[worker], records) {
+            return Err(ScriptFault::NoSuchKey { worker, index });
+        }
+    }
+    Ok(())
+}
