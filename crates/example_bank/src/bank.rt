@@ -1,0 +1,203 @@
+//! The bank: its accounts, and the requests that name one or two of them.
+ghost use Rattle.std.specs.Prelude.{◌≡◌, ◌*◌, ◌≤◌};
+ghost use Rattle.example_bank.specs.Model.{deposited, refused, transferred, IsSmall};
+
+use split_engine::{Application, Checkable, Decision};
+
+/// What the bank is asked.
+#[derive(Clone, Copy)]
+pub enum BankRequest {
+    /// To put an amount into an account, if it is open.
+    Deposit { to: u32, amount: u32 },
+    /// To take an amount from one account to another, if both are open and it is there.
+    Transfer { from: u32, to: u32, amount: u32 },
+    /// What is in an account.
+    Balance { of: u32 },
+    /// To close an account for good.
+    Close { of: u32 },
+}
+
+/// What the bank answers.
+#[derive(Clone, Copy, PartialEq, Eq, Debug)]
+pub enum BankReply {
+    Done,
+    /// An account is closed.
+    Closed,
+    /// The amount is not there.
+    NotEnough,
+    /// This is in the account.
+    Holds(u64),
+}
+
+/// What is done to an account.
+#[derive(Clone, Copy)]
+pub enum Change {
+    Add(u32),
+    Take(u32),
+    Shut,
+    Nothing,
+}
+
+/// What is kept of an account.
+#[derive(Clone, Copy)]
+pub struct Account {
+    /// What is in it.
+    pub held: u64,
+    /// Whether it takes deposits and transfers.
+    pub is_open: bool,
+}
+
+/// The bank. A slice of an account is what a worker deposited into it.
+pub struct Bank;
+
+// Nothing is done.
+fn refused(reply: BankReply) -> Decision<BankReply, Change>
+    ensures value { result ≡ refused reply }
+    ensures small { IsSmall result.first × IsSmall result.second }
+{
+    Decision {
+        reply,
+        first: Change::Nothing,
+        second: Change::Nothing,
+    }
+}
+
+// A deposit into an account, of which this says whether it is open.
+fn deposited(is_open: bool, amount: u32) -> Decision<BankReply, Change>
+    ensures value { result ≡ deposited is_open amount }
+    ensures small { IsSmall result.first × IsSmall result.second }
+{
+    if !is_open {
+        return refused(BankReply::Closed);
+    }
+    Decision {
+        reply: BankReply::Done,
+        first: Change::Add(amount),
+        second: Change::Nothing,
+    }
+}
+
+// A transfer from one account to another.
+fn transferred(from: &Account, to: &Account, amount: u32) -> Decision<BankReply, Change>
+    ensures value { result ≡ transferred from.now to.now amount }
+    ensures small { IsSmall result.first × IsSmall result.second }
+{
+    if !from.is_open {
+        return refused(BankReply::Closed);
+    }
+    if !to.is_open {
+        return refused(BankReply::Closed);
+    }
+    if from.held < amount as u64 {
+        return refused(BankReply::NotEnough);
+    }
+    Decision {
+        reply: BankReply::Done,
+        first: Change::Take(amount),
+        second: Change::Add(amount),
+    }
+}
+
+impl Application for Bank {
+    ghost use Rattle.example_bank.specs.Model.{bank, Fits, SliceFits, IsSmall};
+    ghost use Rattle.example_bank.specs.Laws.{bank_laws};
+
+    type Record = Account;
+
+    type Slice = u64;
+
+    type Fixed = bool;
+
+    type Request = BankRequest;
+
+    type Reply = BankReply;
+
+    type Act = Change;
+
+    ghost rules = { bank };
+
+    ghost fits = { Fits };
+
+    ghost slice_fits = { SliceFits };
+
+    ghost is_small = { IsSmall };
+
+    ghost laws = { bank_laws };
+
+    fn keys(request: &BankRequest) -> (u32, u32) {
+        match *request {
+            BankRequest::Transfer { from, to, .. } => (from, to),
+            BankRequest::Deposit { to: of, .. }
+            | BankRequest::Balance { of }
+            | BankRequest::Close { of } => (of, of),
+        }
+    }
+
+    fn splits(request: &BankRequest) -> bool {
+        matches!(*request, BankRequest::Deposit { .. })
+    }
+
+    fn fixed(held: &Account) -> bool {
+        held.is_open
+    }
+
+    fn decide(
+        request: &BankRequest,
+        first: &Account,
+        second: &Account,
+    ) -> Decision<BankReply, Change> {
+        let request = *request;
+        match request {
+            BankRequest::Deposit { amount, .. } => deposited(first.is_open, amount),
+            BankRequest::Transfer { amount, .. } => transferred(first, second, amount),
+            BankRequest::Balance { .. } => refused(BankReply::Holds(first.held)),
+            BankRequest::Close { .. } => Decision {
+                reply: BankReply::Done,
+                first: Change::Shut,
+                second: Change::Nothing,
+            },
+        }
+    }
+
+    fn decide_split(
+        request: &BankRequest,
+        first: bool,
+        _second: bool,
+    ) -> Decision<BankReply, Change> {
+        let request = *request;
+        let amount = match request {
+            BankRequest::Deposit { amount, .. } => amount,
+            _ => 0,
+        };
+        deposited(first, amount)
+    }
+
+    fn apply(held: &mut Account, act: Change) {
+        match act {
+            Change::Add(amount) => held.held += amount as u64,
+            Change::Take(amount) => held.held = held.held.saturating_sub(amount as u64),
+            Change::Shut => held.is_open = false,
+            Change::Nothing => {}
+        }
+    }
+
+    fn empty_slice() -> u64 {
+        0
+    }
+
+    fn apply_to_slice(slice: &mut u64, act: Change) {
+        if let Change::Add(amount) = act {
+            *slice += amount as u64;
+        }
+    }
+
+    fn merge(held: &mut Account, slice: u64) {
+        held.held += slice;
+    }
+}
+
+impl Checkable for Bank {
+    fn is_same_reply(told: &BankReply, given: &BankReply) -> bool {
+        *told == *given
+    }
+}
