@@ -3,7 +3,7 @@
 
     tests/library_calls.py [TESTS ..]
 
-The tests `calls` of the crates engine_tests and phase_tests make the calls and print a line `CALL: ANSWER` for each; tests/library_calls.txt has their
+The tests `calls` of the crates engine_tests, phase_tests and application_tests make the calls and print a line `CALL: ANSWER` for each; tests/library_calls.txt has their
 lines with ample memory. Each of their allocations is refused in turn, alone and with all that come after it. A begin and a store that were refused are
 asked once more, and go on with memory as if they had not been: the first store of a permit has number 1. Any other call that is refused ends its test,
 which tells the fault. A refused close leaves the history of the phases before. A refused publish is refused for good, and the window shows what it
@@ -27,6 +27,7 @@ FAILED, AFTER_THE_FAULT = 101, "\nthe test failed: its result gives status 1\n"
 
 NO_MEMORY = "no memory"
 ALLOCATION_FAILED = "memory allocation failed"
+NO_THREAD = "thread not started"
 # What the standard library answers, told as the error of a test.
 REFUSED = ("error: AllocError", "error: AllocFailed { .. }")
 BEGINS = ("joined begin", "split begin")
@@ -43,6 +44,8 @@ FAULTS = {
     **dict.fromkeys(("first_store ready", "first store permit", "first_view ready", "first view permit"), REFUSED),
     PUBLISH: (ALLOCATION_FAILED,),
     "windows ready": (*REFUSED, "error: Memory"),
+    "application ready": REFUSED,
+    "application run": (NO_MEMORY, NO_THREAD),
     LOOK: ("refused",),
 }
 
@@ -187,7 +190,7 @@ def try_each(programs: list[Path], tally: Tally) -> None:
 
 def main() -> None:
     words = argparse.ArgumentParser(description=__doc__, formatter_class=argparse.RawDescriptionHelpFormatter)
-    words.add_argument("tests", nargs="*", type=Path, default=[built_tests("engine_tests"), built_tests("phase_tests")])
+    words.add_argument("tests", nargs="*", type=Path, default=[built_tests(name) for name in ("engine_tests", "phase_tests", "application_tests")])
     programs = [tests.resolve() for tests in words.parse_args().tests]
     tally = Tally()
     try_each(programs, tally)

@@ -1,0 +1,60 @@
+//! The referee: its verdicts on histories of two scripts.
+ghost use Rattle.std.specs.Prelude.{◌<◌, length};
+
+use crate::counters::CounterRequest::{Add, Read};
+use crate::counters::{CounterReply, Counters};
+use split_engine::{Line, check_history, perform};
+use std::alloc::{AllocError, Global};
+use std::test::Fail;
+
+fn line(worker: u32, index: u32, reply: CounterReply) -> Line<CounterReply> {
+    Line {
+        worker,
+        index,
+        reply,
+    }
+}
+
+// What the referee finds of lines for two scripts over counters that show 1 and 2.
+fn verdict(alloc: Global, lines: &[Line<CounterReply>]) -> Result<Result<(), usize>, AllocError>
+    requires { length lines.now < 1000 }
+{
+    let first = vec![in alloc; Add { to: (0, 1), by: 4 }, Read { counter: 1 }]?;
+    let second = vec![in alloc; Read { counter: 0 }]?;
+    let scripts = [first, second];
+    let mut counters = vec![in alloc; 1u64, 2u64]?;
+    Ok(check_history::<Counters>(&mut counters, &scripts, lines))
+}
+
+#[test]
+fn verdicts(rt: HostRuntime) -> Result<(), Fail> {
+    let alloc = rt.alloc();
+    let read = line(1, 0, CounterReply::Shows(1));
+    let added = line(0, 0, CounterReply::Added);
+    let six = line(0, 1, CounterReply::Shows(6));
+    let seven = line(0, 1, CounterReply::Shows(7));
+    let unasked = line(0, 2, CounterReply::Added);
+    let stranger = line(2, 0, CounterReply::Added);
+    assert_eq!(rt; verdict(alloc, &[read, added, six])?, Ok(()));
+    assert_eq!(rt; verdict(alloc, &[read, added, seven])?, Err(2));
+    assert_eq!(rt; verdict(alloc, &[added, read, six])?, Err(1));
+    assert_eq!(rt; verdict(alloc, &[read, unasked, added])?, Err(1));
+    assert_eq!(rt; verdict(alloc, &[stranger, read, added])?, Err(0));
+    Ok(())
+}
+
+#[test]
+fn requests_one_by_one(rt: HostRuntime) -> Result<(), Fail> {
+    let mut counters = vec![in rt.alloc(); 1u64, 2u64]?;
+    let add = Add { to: (1, 1), by: 4 };
+    assert_eq!(rt;
+        perform::<Counters>(&mut counters, &add),
+        CounterReply::Added
+    );
+    let read = Read { counter: 1 };
+    assert_eq!(rt;
+        perform::<Counters>(&mut counters, &read),
+        CounterReply::Shows(10)
+    );
+    Ok(())
+}
