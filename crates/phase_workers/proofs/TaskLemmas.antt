@@ -9,11 +9,12 @@ use Rattle.phase_transactions.specs.declared.transaction.PermitFault.{PermitFaul
 use Rattle.phase_transactions.specs.Workers.{WorkerState}
 use Rattle.phase_laws.proofs.ListLemmas.{all-append}
 use Rattle.shard_boxes.specs.States.{ShardState}
-use Rattle.phase_workers.specs.declared.round.ServingFault.{ServingFault}
-use Rattle.phase_workers.specs.declared.round.ServingFault.TheVariants.{Worker, Spawn, Memory}
+use Rattle.job_threads.specs.declared.fault.JobFault.{JobFault}
+use Rattle.job_threads.specs.declared.fault.JobFault.TheVariants.{Spawn, Memory}
+use Rattle.job_threads.specs.Threads.{IsUnstarted}
 use Rattle.phase_workers.specs.declared.round.WorkerAnswer.{WorkerAnswer}
 use Rattle.phase_workers.specs.Tasks.{Task, task, tasks, HasDoneTask, HasMetFault, without_fault, fault_or, first_fault, IsFirstFault, IsFaultBy}
-use Rattle.phase_workers.specs.Threads.{IsUnstarted}
+use Rattle.phase_workers.specs.Threads.{fault_of_jobs}
 
 -- the next of the scripts that are left
 pub next_script : (scripts : List (List Request)) (n m : ℕ) (script : List Request) → n < length scripts → script ≡ get_or scripts n script → m ≡ n + 1 →
@@ -91,10 +92,9 @@ module _ {D : Type 0} (of : D → Task) (takes : Bool) (initial : List ShardStat
       first_fault answers ≡ Some fault → map of owns ≡ ts → IsFirstFault takes initial ts fault
   fault_met owns answers ts fault kept is are = subst (λ us. IsFirstFault takes initial us fault) are (first_met owns answers fault kept is)
 
-pub unstarted_by : (jobs workers : ℕ) (P : PermitFault → Type 0) (fault : ServingFault) → jobs ≤ workers → IsUnstarted jobs fault → IsFaultBy workers P fault
+pub unstarted_by : (jobs workers : ℕ) (P : PermitFault → Type 0) (fault : JobFault) → jobs ≤ workers → IsUnstarted jobs fault → IsFaultBy workers P (fault_of_jobs fault)
 unstarted_by jobs workers P Spawn few is = omega (arith, few, is)
 unstarted_by jobs workers P Memory few is = tt
-unstarted_by jobs workers P (Worker met) few is = absurd is
 
 tasks_few : (permits : List WorkerState) (scripts : List (List Request)) (first : ℕ) → length (tasks permits scripts first) ≤ length scripts
 tasks_few [] scripts first = omega arith

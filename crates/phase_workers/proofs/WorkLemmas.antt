@@ -22,6 +22,7 @@ use Rattle.phase_permits.proofs.PermitLemmas.{none_put_off}
 use Rattle.phase_transactions.specs.declared.transaction.PermitFault.{PermitFault}
 use Rattle.phase_transactions.specs.Performing.{HasFailed, IsCause, HasCommitted, HasFailedFirst, HasDealt, HasPerformedFirstSome}
 use Rattle.phase_laws.proofs.ListLemmas.{all-append}
+use Rattle.job_threads.proofs.ThreadLemmas.{err_as}
 use Rattle.run_laws.specs.Serving.{call_of}
 use Rattle.shard_boxes.specs.States.{ShardState}
 use Rattle.worker_journals.specs.Journals.{JournalView, commit_in}
@@ -158,10 +159,6 @@ dealt_next initial old new request index false h = record {
   left = ap (λ (d : WorkerState). d.left) h.worker;
   tries = ap (λ (d : WorkerState). d.tries) h.worker;
 }
-
-pub err_as : {A E : Type 0} (result : Result A E) (fault : E) (Q : E → Type 0) → IsErrAnd result (λ e. e ≡ fault) → Q fault → IfErr result Q
-err_as (Ok a) fault Q is q = tt
-err_as (Err e) fault Q is q = subst Q (sym is) q
 
 -- what a permit did with the request at a place of the script, where the request is found there
 module _ (initial : List ShardState) (old mid new : WorkerState) (script : List Request) (place : ℕ) (asked request : Request) (done result : Result Bool PermitFault)

@@ -1,17 +1,9 @@
--- What a thread's handle tells of its job, and why a job is not done.
-use Rattle.std.specs.Prelude.{ℕ, ◌<◌, ⊤}
-use Rattle.std.specs.declared.thread.PromisedHandle.{PromisedHandle}
-use Rattle.phase_workers.specs.declared.threads.JobPromise.{JobPromise}
+-- Why workers are not done, if their jobs are not.
+use Rattle.job_threads.specs.declared.fault.JobFault.{JobFault}
+use Rattle.job_threads.specs.declared.fault.JobFault.TheVariants as job
 use Rattle.phase_workers.specs.declared.round.ServingFault.{ServingFault}
-use Rattle.phase_workers.specs.declared.round.ServingFault.TheVariants.{Worker, Spawn, Memory}
+use Rattle.phase_workers.specs.declared.round.ServingFault.TheVariants.{Spawn, Memory}
 
--- the job of a thread
-abbrev pub job_of : {T J : Type 0} → PromisedHandle T (JobPromise J) → J
-job_of handle = handle.promise.job.value
-
--- why so many jobs are not done: a thread, of those of all but the first, could not be started, or
--- no memory was left
-abbrev pub IsUnstarted : ℕ → ServingFault → Type 0
-IsUnstarted jobs Spawn = 1 < jobs
-IsUnstarted jobs Memory = ⊤
-IsUnstarted jobs (Worker fault) = ⊥
+abbrev pub fault_of_jobs : JobFault → ServingFault
+fault_of_jobs job.Spawn = Spawn
+fault_of_jobs job.Memory = Memory

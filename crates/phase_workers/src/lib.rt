@@ -4,7 +4,6 @@
 
 mod meeting;
 mod round;
-mod threads;
 mod worker;
 
 pub use round::{Round, ServingFault, serve_all};

@@ -6,9 +6,9 @@ ghost use Rattle.phase_workers.specs.Tasks.{task, tasks, CanBeDone, HasDoneTask,
 ghost use Rattle.phase_workers.specs.Working.{IsPermitOf, ArePermitsOf};
 
 use crate::meeting::is_for_one_thread;
-use crate::threads::{Job, work_all};
 use crate::worker::{Gate, Post, perform_task};
 use auction_rows::MOST_WORKERS;
+use job_threads::{Job, JobFault, work_all};
 use phase_permits::{Kind, Permit, PermitFault, Receipt};
 use shard_boxes::{Boxes, PhaseName};
 use std::alloc::{AllocError, AllocFailed, Global};
@@ -50,6 +50,19 @@ impl<T: Drop> From<AllocFailed<T>> for ServingFault {
 
     fn from(_refused: AllocFailed<T>) -> ServingFault {
         ServingFault::Memory
+    }
+}
+
+impl From<JobFault> for ServingFault {
+    ghost use Rattle.phase_workers.specs.Threads.{fault_of_jobs};
+
+    ghost from_gives = { λ job fault. fault ≡ fault_of_jobs job };
+
+    fn from(job: JobFault) -> ServingFault {
+        match job {
+            JobFault::Spawn => ServingFault::Spawn,
+            JobFault::Memory => ServingFault::Memory,
+        }
     }
 }
 

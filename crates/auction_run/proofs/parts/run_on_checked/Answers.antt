@@ -3,7 +3,7 @@ use Rattle.auction_rows.specs.declared.rows.Row.{Row}
 use Rattle.auction_rows.specs.Book.{Book}
 use Rattle.auction_window.specs.Published.{book_of}
 use Rattle.phase_floor.specs.States.{JoinedState, IsBookOf}
-use Rattle.phase_workers.proofs.WorkLemmas.{err_as}
+use Rattle.job_threads.proofs.ThreadLemmas.{err_as}
 use Rattle.auction_run.specs.declared.checks.Stopped.TheVariants.{Failed}
 use Rattle.run_phases.specs.Boards.{HasShownAfter}
 use Rattle.run_phases.specs.Beginning.{BeginsWith}

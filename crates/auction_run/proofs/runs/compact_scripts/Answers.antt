@@ -1,6 +1,6 @@
 use Rattle.std.proofs.Common.{◌++◌, ◌∷◌, append_assoc, ap, sym, ◌∙◌}
 use Rattle.std.specs.Vec.Iter.{into_iter_items}
-use Rattle.phase_workers.proofs.ThreadLemmas.{none_left, all_done}
+use Rattle.job_threads.proofs.ThreadLemmas.{none_left, all_done}
 use Rattle.run_laws.specs.Serving.{lists}
 use Rattle.auction_run.proofs.runs.compact_scripts.Goals as goal
 

@@ -1,6 +1,6 @@
 use Rattle.std.proofs.Common.{◌≡◌, [], subst}
 use Rattle.std.specs.Prelude.{IfErr}
-use Rattle.phase_workers.proofs.WorkLemmas.{err_as}
+use Rattle.job_threads.proofs.ThreadLemmas.{err_as}
 use Rattle.item_shards.specs.OpeningBooks.{opening_of, rows_of_book}
 use Rattle.auction_run.specs.Runs.{AnswersRun, HasShownFirst}
 use Rattle.auction_run.proofs.AnswerLemmas.{all, answered_first, not_first}

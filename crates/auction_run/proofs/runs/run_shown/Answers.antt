@@ -1,7 +1,7 @@
 use Rattle.std.proofs.Common.{◌≡◌, ◌∙◌, [], ap, subst, sym}
 use Rattle.std.specs.Prelude.{IfErr}
 use Rattle.item_shards.specs.OpeningBooks.{opening_of, rows_of_book}
-use Rattle.phase_workers.proofs.WorkLemmas.{err_as}
+use Rattle.job_threads.proofs.ThreadLemmas.{err_as}
 use Rattle.run_phases.specs.declared.faults.RunFault.TheVariants.{Memory}
 use Rattle.run_phases.specs.Beginning.{AreShort, HaveWorkers}
 use Rattle.auction_run.specs.Runs.{AnswersRun, HasShownFirst}

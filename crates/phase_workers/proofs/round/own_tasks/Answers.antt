@@ -3,7 +3,7 @@ use Rattle.std.specs.List.{AllByRecursion}
 use Rattle.std.specs.Vec.Iter.{into_iter_items, into_iter_len}
 use Rattle.phase_workers.specs.Tasks.{Task, task, tasks, CanBeDone}
 use Rattle.phase_workers.specs.Working.{IsPermitOf, ArePermitsOf}
-use Rattle.phase_workers.proofs.ThreadLemmas.{none_left, all_done}
+use Rattle.job_threads.proofs.ThreadLemmas.{none_left, all_done}
 use Rattle.phase_workers.proofs.TaskLemmas.{next_script, next_task, next_within, one_made, own_more}
 use Rattle.phase_workers.proofs.round.own_tasks.Goals as goal
 

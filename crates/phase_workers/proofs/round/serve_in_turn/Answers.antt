@@ -5,7 +5,7 @@ use Rattle.std.specs.Prelude.{OnOk, IfErr, Result}
 use Rattle.phase_transactions.specs.declared.transaction.PermitFault.{PermitFault}
 use Rattle.phase_workers.specs.Tasks.{Task, task, tasks, CanBeDone, HasDoneTask, HasMetFault}
 use Rattle.phase_workers.specs.Working.{ArePermitsOf, IsPermitOf}
-use Rattle.phase_workers.proofs.ThreadLemmas.{none_left, all_done, worked_more}
+use Rattle.job_threads.proofs.ThreadLemmas.{none_left, all_done, worked_more}
 use Rattle.phase_workers.proofs.TaskLemmas.{first_fault_after, next_script, next_task, next_within, one_made}
 use Rattle.phase_workers.proofs.round.serve_in_turn.Goals as goal
 

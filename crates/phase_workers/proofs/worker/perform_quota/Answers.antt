@@ -9,7 +9,8 @@ use Rattle.phase_transactions.specs.Performing.{HaveOpening}
 use Rattle.run_laws.specs.Turns.{numbered}
 use Rattle.run_laws.proofs.QuotaLemmas.{next_call}
 use Rattle.phase_workers.specs.Working.{calls_from, committed, stashed, hot_for, put_off, not_put_off, HasStopped}
-use Rattle.phase_workers.proofs.WorkLemmas.{same, same_after, kept_more, request_there, within_script, some_left, try_left, err_as, stopped_next}
+use Rattle.job_threads.proofs.ThreadLemmas.{err_as}
+use Rattle.phase_workers.proofs.WorkLemmas.{same, same_after, kept_more, request_there, within_script, some_left, try_left, stopped_next}
 use Rattle.phase_workers.proofs.worker.perform_quota.Goals as goal
 
 pub loop-place-preserved : goal.loop-place-preserved

@@ -2,7 +2,7 @@ use Rattle.std.proofs.Common.{rules, arith, ◌≡◌, ◌≤◌, ◌+◌, ℕ, 
 use Rattle.auction_rows.specs.declared.rows.Row.{Row}
 use Rattle.auction_rows.specs.Book.{Book}
 use Rattle.auction_window.specs.Published.{book_of}
-use Rattle.phase_workers.proofs.WorkLemmas.{err_as}
+use Rattle.job_threads.proofs.ThreadLemmas.{err_as}
 use Rattle.run_laws.specs.Run.{HasLeft, first_index}
 use Rattle.run_laws.specs.Serving.{script_of}
 use Rattle.run_phases.specs.declared.faults.RunFault.TheVariants.{Memory}

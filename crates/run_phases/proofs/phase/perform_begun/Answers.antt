@@ -1,5 +1,5 @@
 use Rattle.std.proofs.Common.{◌∙◌}
-use Rattle.phase_workers.proofs.WorkLemmas.{err_as}
+use Rattle.job_threads.proofs.ThreadLemmas.{err_as}
 use Rattle.run_phases.specs.Phases.{IsMet, told}
 use Rattle.run_phases.proofs.PhaseLemmas.{can_with, fault_met}
 use Rattle.run_phases.proofs.phase.perform_begun.Goals as goal

@@ -1,5 +1,5 @@
 use Rattle.std.proofs.Common.{true, refl, sym, subst}
-use Rattle.phase_workers.proofs.WorkLemmas.{err_as}
+use Rattle.job_threads.proofs.ThreadLemmas.{err_as}
 use Rattle.run_phases.specs.Phases.{IsMet}
 use Rattle.run_phases.proofs.PhaseLemmas.{ended_phase, can_perform}
 use Rattle.run_phases.proofs.phase.perform_joined_phase.Goals as goal
