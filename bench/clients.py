@@ -13,6 +13,8 @@ import redis_server
 from programs import ROOT
 
 BENCHMARK, FRONT = "redis-benchmark", f"{ROOT}/examples/front.py"
+# Of the program under the front.
+WORKERS = 4
 
 # The item that all bid on, as a row of a log and as a request.
 ROW, ITEM = '0,+item,0,0,"Vase",1,100000000,1,1000000\n', ("ITEM", "0", "0", "Vase", "1", "100000000", "1", "1000000")
@@ -57,7 +59,8 @@ class Front:
 
     def __init__(self, program, folder, is_logged):
         self.log = f"{folder}/front.log" if is_logged else None
-        self.words = [sys.executable, "-B", FRONT, "--port", "0", *(["--log", self.log] if is_logged else []), program, "--split", "4096"]
+        words = ["--port", "0", "--workers", str(WORKERS), *(["--log", self.log] if is_logged else [])]
+        self.words = [sys.executable, "-B", FRONT, *words, program, "--fast"]
 
     def __enter__(self):
         if self.log:

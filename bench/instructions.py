@@ -1,10 +1,11 @@
 """How many instructions a request takes, and in which part of the program: counted by valgrind's callgrind, by crates of functions."""
 import collections
 import glob
-import os
 import re
 import shutil
 import subprocess
+import sys
+import tempfile
 
 VALGRIND = ["valgrind", "--quiet", "--tool=callgrind", "--compress-strings=no", "--compress-pos=no"]
 
@@ -15,11 +16,11 @@ READER, ENGINE = "csv", "auction_run"
 BAD_RECORD = b"?\n"
 
 
-def is_there():
+def is_there() -> bool:
     return shutil.which("valgrind") is not None
 
 
-def crates_of_engine(root):
+def crates_of_engine(root: str) -> set[str]:
     """The engine's crate and all crates below it, the kit's too, but for `core`, which all crates use."""
     with open(f"{root}/crates.txt") as text:
         uses = {name: used.split() for name, used in re.findall(r"(?m)^(\w+): ?(.*)$", text.read())}
@@ -32,11 +33,21 @@ def crates_of_engine(root):
     return found - {"core"}
 
 
-def counted(words, path, folder):
+def counted(words: list[str], path: str, folder: str) -> collections.Counter[str]:
     """The instructions of a command over a file, by the crates of functions; those of no crate by ''."""
-    told = f"{folder}/callgrind"
+    with tempfile.TemporaryDirectory(dir=folder) as own:
+        return by_crates(*files_of_counts(words, path, own))
+
+
+def files_of_counts(words: list[str], path: str, folder: str, *options: str) -> list[str]:
+    """The file that callgrind writes of a command over a file, or those of its threads."""
     with open(path, "rb") as given:
-        subprocess.run([*VALGRIND, f"--callgrind-out-file={told}", *words], stdin=given, capture_output=True)
+        ran = subprocess.run([*VALGRIND, *options, f"--callgrind-out-file={folder}/counts", *words], stdin=given, capture_output=True, text=True)
+    found = sorted(glob.glob(f"{folder}/counts-*")) or glob.glob(f"{folder}/counts")
+    return found or sys.exit(f"{' '.join(words)}: valgrind counts nothing, status {ran.returncode}\n{ran.stderr}")
+
+
+def by_crates(told: str) -> collections.Counter[str]:
     counts, crate, is_inclusive = collections.Counter(), "", False
     with open(told) as text:
         for line in text:
@@ -50,24 +61,20 @@ def counted(words, path, folder):
     return counts
 
 
-def by_threads(words, path, folder):
-    """The instructions of a command over a file, of all threads and of the first."""
-    told = f"{folder}/threads"
-    for old in glob.glob(f"{told}*"):
-        os.remove(old)
-    with open(path, "rb") as given:
-        subprocess.run([*VALGRIND, "--separate-threads=yes", f"--callgrind-out-file={told}", *words], stdin=given, capture_output=True)
-    counts = [total_of(one) for one in sorted(glob.glob(f"{told}-*"))]
-    return sum(counts), counts[0]
+def by_threads(words: list[str], path: str, folder: str) -> tuple[int, int]:
+    """The instructions of a command over a file, of all threads and of the longest; threads that follow each other may have one file, and count as one."""
+    with tempfile.TemporaryDirectory(dir=folder) as own:
+        counts = [total_of(one) for one in files_of_counts(words, path, own, "--separate-threads=yes")]
+    return sum(counts), max(counts)
 
 
-def total_of(told):
-    """The count that stands in a file of callgrind's for all its functions."""
+def total_of(told: str) -> int:
+    """The count that a file of callgrind's has for all its functions."""
     with open(told) as text:
         return int(re.search(r"(?m)^(?:summary|totals): (\d+)", text.read()).group(1))
 
 
-def with_bad_record(path, folder):
+def with_bad_record(path: str, folder: str) -> str:
     cut = f"{folder}/cut.csv"
     with open(path, "rb") as load, open(cut, "wb") as into:
         shutil.copyfileobj(load, into)
@@ -75,9 +82,10 @@ def with_bad_record(path, folder):
     return cut
 
 
-def by_parts(words, path, engine, folder):
+def by_parts(words: list[str], path: str, engine: set[str], folder: str) -> tuple[int, int, int, int]:
     """Of a command over a load: the instructions of reading, of these the reader's of records, of performing, and all others."""
     whole = counted(words, path, folder)
-    reading = counted(words, with_bad_record(path, folder), folder)
+    with tempfile.TemporaryDirectory(dir=folder) as own:
+        reading = counted(words, with_bad_record(path, own), own)
     own = sum(whole[crate] - reading[crate] for crate in engine)
     return reading.total(), reading[READER], own, whole.total() - reading.total() - own

@@ -2,10 +2,10 @@
 import re
 from typing import NamedTuple
 
-from figures import (ALONE, AT_ONCE, AUCTION, DELAY, LATEST, LOCK, MOST_OF_PARTS, PHASES, POSTGRES, POSTGRES_LOGGED, RATE, REDIS, REDIS_LOGGED, SHARDS, SQLITE,
-                     SYSTEMS, UNSPLIT, USUAL, WHOLE_RATE, live_words)
+from figures import (ALONE, AT_ONCE, AUCTION, DELAY, EXECUTING, LATEST, MOST_OF_PARTS, PHASES, POSTGRES_LOGGED, REDIS, REDIS_LOGGED, SHARDS, UNSPLIT,
+                     WHOLE_RATE, live_words)
 from measures import BIDDING
-from svg import GREY, INK, Axis, decades, frame, line, mark, path, picture, short, spread, steps, text
+from svg import GREY, INK, Axis, decades, frame, line, mark, path, picture, rounds, short, spread, steps, text
 
 
 class Style(NamedTuple):
@@ -14,16 +14,15 @@ class Style(NamedTuple):
     width: float = 2.0
 
 
-STYLES = {
-    AUCTION: Style("#c1121f", 0, 3), UNSPLIT: Style("#f4978e", 0), USUAL: Style("#e07a1f", 3), PHASES: Style("#1d3557", -4), SHARDS: Style("#457b9d", 3),
-    LOCK: Style("#8ecae6", -3), ALONE: Style("#8338ec", 4), SQLITE: Style("#6a994e", 5), POSTGRES: Style("#7f5539", 6),
-}
+STYLES = {AUCTION: Style("#c1121f", 0, 3), UNSPLIT: Style("#f4978e", 0), PHASES: Style("#1d3557", -4), SHARDS: Style("#457b9d", 3), ALONE: Style("#bc6c25", 4)}
 
 # What the legend adds to a system's name.
-GLOSSES = {AUCTION: "proved, with a history", PHASES: "no history", SQLITE: "one thread, from Python", POSTGRES: "clients over a socket"}
+GLOSSES = {AUCTION: "proved, with a history", PHASES: "no history", ALONE: "one thread executes"}
 
-# What is compared with a lock for each shard.
-COMPARED = (AUCTION, UNSPLIT, PHASES, ALONE)
+# What the plot by workers shows; the tables have all.
+SHOWN = (AUCTION, UNSPLIT, PHASES, SHARDS)
+
+PROCESSORS = re.compile(r"on (\d+) (?:virtual )?processors")
 
 MEASURED = re.compile(r"(?m)^Measured on (.*), in \d+ minutes, with\n\n    (.*)$")
 
@@ -59,7 +58,8 @@ def entries(names, left, top, apart, columns=2, dashes=None):
 def curve(across, up, points, style, dashes=""):
     """Lines between points, each with the bar of its tries where they differ; a point is a place, its value, and the least and greatest."""
     drawn = [(across.at(at), up.at(value)) for at, value, *_ in points]
-    yield path(drawn, style.colour, style.width, dashes)
+    if drawn:
+        yield path(drawn, style.colour, style.width, dashes)
     for at, value, least, greatest in points:
         if least < greatest:
             yield spread(across.at(at), up.at(least), up.at(greatest), style.colour)
@@ -68,38 +68,50 @@ def curve(across, up, points, style, dashes=""):
 
 def bars_said(rows):
     """What a picture says of its bars, if it has any."""
-    return " Bars: from the least to the greatest try." if any(row.least < row.greatest for row in rows) else ""
+    return " Bars: from the minimum to the maximum." if any(row.least < row.greatest for row in rows) else ""
+
+
+def in_millions(row):
+    return [part / 1e6 for part in (row.value, row.least, row.greatest)]
 
 
 def by_workers(rows, place):
-    loads = list(dict.fromkeys(row.load for row in rows))
-    counts = sorted({row.workers for row in rows})
-    tics = decades([row.value for row in rows])
-    title = "Requests per second by number of workers (higher is better; nothing is durable)"
+    """A panel for each load, with a scale of its own."""
+    rows = [row for row in rows if row.measure == WHOLE_RATE and row.system in SHOWN]
+    if not rows:
+        return None
+    loads, counts = list(dict.fromkeys(row.load for row in rows)), sorted({row.workers for row in rows})
     parts = []
     for at, load in enumerate(loads):
-        left = 84 + at * 332
-        across, up = Axis(counts[0] * 0.85, counts[-1] * 1.15, left, left + 290, True), Axis(tics[0], tics[-1], 370, 80, True)
-        parts += frame(across, up, [(count, str(count)) for count in counts], [(tic, short(tic)) for tic in tics],
-                       ("workers (threads; clients of PostgreSQL)", "requests per second (logarithmic)" if at == 0 else ""))
-        parts.append(text(left + 145, 66, load_title(load), 14, weight="bold"))
-        for system in SYSTEMS:
-            own = [row for row in rows if row.load == load and row.system == system]
-            if own:
-                own.sort(key=lambda row: row.workers)
-                parts += curve(across, up, [(row.workers, row.value, row.least, row.greatest) for row in own], STYLES[system])
-    present = [system for system in SYSTEMS if any(row.system == system for row in rows)]
-    parts += entries([(legend(system), STYLES[system]) for system in present], 200, 440, 360)
-    about = f"Three panels, one for each of {', '.join(loads)}; a line for each system. The table below it has the figures.{bars_said(rows)}"
-    return picture(1080, 584, title, about, parts + foot(584, place, bars_said(rows)))
+        own, left = [row for row in rows if row.load == load], 84 + at * 332
+        tics = steps(max(row.greatest for row in own) / 1e6)
+        across, up = Axis(counts[0] * 0.85, counts[-1] * 1.15, left, left + 280, True), Axis(0, tics[-1], 370, 80)
+        parts += frame(across, up, [(count, str(count)) for count in counts], [(tic, f"{tic:g}") for tic in tics],
+                       ("workers (threads)", "millions of requests per second" if at == 0 else ""))
+        parts += [text(left + 140, 62, load_title(load), 14, weight="bold"), *processors(across, up, place)]
+        for system in SHOWN:
+            parts += curve(across, up, sorted((row.workers, *in_millions(row)) for row in own if row.system == system), STYLES[system])
+    present = [system for system in SHOWN if any(row.system == system for row in rows)]
+    parts += entries([(legend(system), STYLES[system]) for system in present], 200, 440, 380)
+    title = "Throughput of whole commands by number of workers (higher is better; each panel has a scale of its own)"
+    about = f"Three panels, one for each of {', '.join(loads)}; a line for each system. figures.csv has the figures.{bars_said(rows)}"
+    return picture(1080, 544, title, about, parts + foot(544, place, bars_said(rows)))
+
+
+def processors(across, up, place):
+    """A mark at as many workers as the machine has processors, if the page says that."""
+    found = PROCESSORS.search(place[0])
+    if found and across.least < int(found[1]) < across.most:
+        x = across.at(int(found[1]))
+        yield from (line(x, up.begin, x, up.end, GREY, 1, "2 3"), text(x, up.end - 4, f"{found[1]} processors", 10, fill=GREY))
 
 
 def by_skew(rows, place):
-    """Each rate as a multiple of that of plain Rust with a lock for each shard, at the same skew."""
+    """Bids on one item are another load, so no line leads to them."""
+    most = max(row.workers for row in rows)
+    rows = [row for row in rows if row.measure == WHOLE_RATE and row.workers == most]
     names = list(dict.fromkeys(row.load for row in rows))
-    base = {row.load: row for row in rows if row.system == SHARDS}
-    drawn = {system: [(names.index(row.load), *(value / base[row.load].value for value in (row.value, row.least, row.greatest)))
-                      for row in rows if row.system == system and row.load in base] for system in (*COMPARED, SHARDS)}
+    drawn = {system: [(names.index(row.load), *in_millions(row)) for row in rows if row.system == system] for system in (*SHOWN, ALONE)}
     drawn = {system: points for system, points in drawn.items() if points}
     if not drawn:
         return None
@@ -107,12 +119,14 @@ def by_skew(rows, place):
     across, up = Axis(-0.2, len(names) - 0.8, 84, 1050, False), Axis(0, tics[-1], 400, 60)
     parts = list(frame(across, up, [(at, name.split("exponent ")[-1].replace("bids on ", "")) for at, name in enumerate(names)],
                        [(tic, f"{tic:g}") for tic in tics], ("exponent of Zipf's law (0: all items alike); last, all bids on one item",
-                                                            "throughput (a lock per shard = 1)")))
-    for system in drawn:
-        parts += curve(across, up, drawn[system], STYLES[system], "6 4" if system == SHARDS else "")
-    parts += entries([(legend(system), STYLES[system]) for system in drawn], 190, 470, 380, dashes={SHARDS: "6 4"})
-    title = f"Throughput by skew, relative to plain Rust with a lock per shard: {rows[0].workers} workers bid on 10,000 items"
-    about = f"A line for each of {', '.join(drawn)}, over the exponent of Zipf's law. The table below it has the figures.{bars_said(rows)}"
+                                                            "millions of requests per second")))
+    for system, points in drawn.items():
+        last = len(names) - 1
+        for part in ([point for point in points if point[0] < last], [point for point in points if point[0] == last]):
+            parts += curve(across, up, part, STYLES[system])
+    parts += entries([(legend(system), STYLES[system]) for system in drawn], 190, 470, 380)
+    title = f"Throughput of whole commands by skew: {most} workers bid on 10,000 items (higher is better)"
+    about = f"A line for each of {', '.join(drawn)}, over the exponent of Zipf's law. figures.csv has the figures.{bars_said(rows)}"
     return picture(1080, 580, title, about, parts + foot(580, place, bars_said(rows)))
 
 
@@ -131,18 +145,20 @@ def by_requests(rows, place):
                 names.append((words, STYLES[system]))
                 dashes[words] = dashed
                 parts += curve(across, up, own, STYLES[system], dashed)
-    parts += entries(names, 104, 78, 400, 1, dashes)
+    parts += entries(names, 104, 470, 400, dashes=dashes)
     title = f"Peak memory of the whole command, {rows[0].workers} workers (lower is better)"
-    return picture(900, 500, title, f"A line for each system and load, over the number of requests: {'; '.join(loads)}. figures.csv has the figures.",
-                   parts + foot(500, place))
+    return picture(900, 560, title, f"A line for each system and load, over the number of requests: {'; '.join(loads)}. figures.csv has the figures.",
+                   parts + foot(560, place))
 
 
 def by_delay(rows, place):
     """Throughput against the time until a deferred view is answered, a point for each split quota."""
-    points = [delay_point(rows, split) for split in quotas_of(rows)]
+    most = max(row.workers for row in rows)
+    rows = [row for row in rows if row.workers == most]
+    points = [delay_point(rows, split) for split in quotas_of(rows)] if any(row.measure == EXECUTING for row in rows) else []
     if not points:
         return None
-    across_tics, up_tics = decades([value for point in points for value in point[1:3]]), steps(max(point[3].greatest for point in points))
+    across_tics, up_tics = rounds([value for point in points for value in point[1:3]]), steps(max(point[3].greatest for point in points))
     across, up = Axis(across_tics[0], across_tics[-1], 84, 870, True), Axis(0, up_tics[-1], 400, 60)
     parts = list(frame(across, up, [(tic, f"{tic:g}") for tic in across_tics], [(tic, short(tic)) for tic in up_tics],
                        ("milliseconds until a deferred view is answered: median, and a line to the 99th percentile (logarithmic)", "requests per second")))
@@ -154,7 +170,8 @@ def by_delay(rows, place):
         if rate.least < rate.greatest:
             parts.append(spread(x, up.at(rate.least), up.at(rate.greatest), style.colour))
         parts += [mark(x, y, style.colour, 0), text(x + 8, y + 19, f"--split {split}", 12, "start", INK)]
-    title = f"Throughput against the delay of deferred views: {rows[0].load}, {rows[0].workers} workers"
+    parts.append(text(450, 50, f"{rows[0].load}, executing, {rows[0].workers} workers", 12, fill=GREY))
+    title = "Throughput against the delay of deferred views (up and left is better)"
     about = f"A point for each split quota: {', '.join(str(point[0]) for point in points)}. The table above it has the figures.{bars_said(rows)}"
     return picture(900, 500, title, about, parts + foot(500, place, bars_said(rows)))
 
@@ -166,12 +183,13 @@ def quotas_of(rows):
 
 def delay_point(rows, split):
     """A quota, the median and the latest delay in milliseconds at its throughput, and that."""
-    rate, median, latest = (next(row for row in rows if row.split == split and row.measure == measure) for measure in (RATE, DELAY, LATEST))
+    rate, median, latest = (next(row for row in rows if row.split == split and row.measure == measure) for measure in (EXECUTING, DELAY, LATEST))
     return split, *(max(delay.value, 1) / rate.value * 1e3 for delay in (median, latest)), rate
 
 
-# What the plot of parts has a level line for, whatever the parts.
-LEVELS = {AT_ONCE: Style("#c1121f", 0, 1.5), REDIS: Style("#6a994e", 5, 1.5), REDIS_LOGGED: Style("#386641", -3, 1.5), POSTGRES_LOGGED: Style("#7f5539", 6, 1.5)}
+# What the plot of parts has a level line for, whatever the parts, in these colours.
+LEVELS = {AT_ONCE: "#c1121f", REDIS: "#386641", REDIS_LOGGED: "#8338ec", POSTGRES_LOGGED: "#7f5539"}
+LEVEL_NAMES = {AT_ONCE: "without --live: all read first"}
 
 
 def by_parts(rows, place):
@@ -184,18 +202,25 @@ def by_parts(rows, place):
     tics = decades([row.value for row in rates.values()])
     across, up = Axis(0.8, MOST_OF_PARTS[-1] * 1.25, 84, 870, True), Axis(tics[0], tics[-1], 400, 60, True)
     parts = list(frame(across, up, [(most, str(most)) for most in MOST_OF_PARTS], [(tic, short(tic)) for tic in tics],
-                       ("N, the most requests of a part (logarithmic)", "requests per second (logarithmic)")))
+                       ("N, the most requests of a batch (logarithmic); dashed: no such batches", "requests per second (logarithmic)")))
     styles = {"--live N": STYLES[AUCTION], "--live N --log": STYLES[PHASES]}
     for words, points in served.items():
         parts += curve(across, up, [(most, row.value, row.least, row.greatest) for most, row in points], styles[words])
-    for system, style in LEVELS.items():
-        if system in rates:
-            parts.append(path([(x, up.at(rates[system].value)) for x in (across.begin, across.end)], style.colour, style.width, "6 4"))
-    entered = [*((words, styles[words]) for words in served), *((system, style._replace(corners=0)) for system, style in LEVELS.items() if system in rates)]
-    parts += entries(entered, 120, 470, 380, dashes={system: "6 4" for system in LEVELS})
-    title = "Requests per second, many at once, by the most requests of a part (one worker)"
-    about = f"A line with a log and one without over N, and level lines for {', '.join(system for system in LEVELS if system in rates)}. The table below it has the figures."
-    return picture(900, 560, title, about + bars_said(rows), parts + foot(560, place, bars_said(rows)))
+    levels = sorted((system for system in LEVELS if system in rates), key=lambda system: -rates[system].value)
+    parts += level_lines(across, up, [(up.at(rates[system].value), system) for system in levels])
+    parts += entries([(words, styles[words]) for words in served], 120, 470, 380)
+    title = "Throughput by batch size: one worker, many requests at once"
+    about = f"A line with a log and one without over N, and level lines for {', '.join(levels)}. The table below it has the figures."
+    return picture(900, 520, title, about + bars_said(rows), parts + foot(520, place, bars_said(rows)))
+
+
+def level_lines(across, up, levels):
+    """From the top: each with its name above, or below if the name of the line above is near."""
+    last = up.end
+    for y, system in levels:
+        yield path([(across.begin, y), (across.end, y)], LEVELS[system], 1.5, "6 4")
+        yield text(across.end - 6, y - 5 if y - last > 20 else y + 14, LEVEL_NAMES.get(system, system), 11.5, "end", LEVELS[system])
+        last = y
 
 
 # What draws the plot of a table, and its file's name.

@@ -68,7 +68,7 @@ def session(words, path, log):
 
 
 def whole(words, path, log):
-    """Seconds and megabytes of a whole command over a file."""
+    """What a whole command over a file took."""
     return programs.whole_of([*words, *anew(log)], path)
 
 

@@ -24,6 +24,12 @@ def decades(values):
     return [10.0 ** power for power in range(math.floor(math.log10(min(values))), math.ceil(math.log10(max(values)) + 1e-9) + 1)]
 
 
+def rounds(values):
+    """The powers of ten about some values, with twice and five times each, from the last that is not above the values to the first that is not below."""
+    found = [part * times for part in decades(values) for times in (1, 2, 5)]
+    return found[max(at for at, value in enumerate(found) if value <= min(values)) : next(at for at, value in enumerate(found) if value >= max(values)) + 1]
+
+
 def steps(most):
     """Some round steps from 0 to the first that is not below the most."""
     step = 10.0 ** math.floor(math.log10(most / 4))

@@ -1,0 +1,85 @@
+"""How bench/run writes figures: numbers with their ranges, tables, and which figures differ."""
+import math
+from typing import Iterable
+
+from figures import Figure
+
+MILLION = 1e6
+
+
+def two(value: float | None) -> str:
+    """Two digits that count; thousands with commas."""
+    if not value:
+        return "-" if value is None else "0"
+    after = 1 - math.floor(math.log10(float(f"{abs(value):.1e}")))
+    return f"{round(value, after):,.{max(0, after)}f}"
+
+
+def ranged(row: Figure | None, unit: float = 1) -> str:
+    """Two digits, with the least and the greatest try if there were several."""
+    if row is None:
+        return "-"
+    shown, least, greatest = (two(part / unit) for part in (row.value, row.least, row.greatest))
+    return f"{shown} ({least}–{greatest})" if least != greatest else shown
+
+
+def millions(row: Figure | None) -> str:
+    return ranged(row, MILLION)
+
+
+def count(value: float | None) -> str:
+    """A whole number: a count is exact."""
+    return "-" if value is None else f"{value:,.0f}"
+
+
+def in_words(value: float | None) -> str:
+    """Two digits that count, with the word for millions."""
+    if value is None:
+        return "-"
+    return f"{two(value / MILLION)} million" if value >= 995_000 else two(value)
+
+
+def in_workers(workers: int) -> str:
+    return f"{workers} worker{'s' * (workers > 1)}"
+
+
+def heads_of(columns: Iterable[tuple[str, int]]) -> list[str]:
+    """A head for each name and number of workers: the name is said in its first column."""
+    heads, last = [], None
+    for name, workers in columns:
+        heads.append(in_workers(workers) if name == last else f"{name}, {in_workers(workers)}")
+        last = name
+    return heads
+
+
+def table(heads: list[str], rows: list[list[str]]) -> str:
+    first, *others = ("| " + " | ".join(line) + " |" for line in (heads, *rows))
+    return "\n".join([first, "|" + "---|" * len(heads), *others]) + "\n"
+
+
+def values(rows: list[Figure], **wanted) -> list[Figure]:
+    return [row for row in rows if all(getattr(row, name) == value for name, value in wanted.items())]
+
+
+def figure(rows: list[Figure], **wanted) -> Figure | None:
+    return next(iter(values(rows, **wanted)), None)
+
+
+def value(rows: list[Figure], **wanted) -> float | None:
+    found = figure(rows, **wanted)
+    return found.value if found else None
+
+
+def are_apart(one: Figure, other: Figure) -> bool:
+    """Whether the tries of two figures have no value between them that both reach: only then do they differ."""
+    return one.least > other.greatest or other.least > one.greatest
+
+
+def times(own: Figure | None, one: Figure | None) -> str:
+    """A figure as a multiple of another."""
+    return two(own.value / one.value) if own and one else "-"
+
+
+def times_if_apart(own: Figure | None, one: Figure | None) -> str:
+    """The same, if their tries show that they differ."""
+    return times(own, one) if own and one and are_apart(own, one) else "-"
