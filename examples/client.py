@@ -5,9 +5,11 @@
 
 PROGRAM is rubis_auction; the options go to it, for example --log auction.rows."""
 
+import argparse
 import subprocess
-import sys
 from collections import Counter
+
+from command_line import end, parser_of
 
 # So many requests are sent before their replies are read: they fit into a pipe, so that neither side waits for the other.
 BLOCK = 300
@@ -69,11 +71,22 @@ class Auction:
             self.refuse()
 
 
-def main():
-    auction = Auction(*sys.argv[1:])
+def ask(auction):
     print(auction.one("item,0,0,Vase,10,100,1"))
     print(*auction.many([(0, "bid,1,0.0,500,3"), (0, "bid,2,0.0,700,4"), (0, "viewitem,0.0")]), sep="\n")
     auction.close()
+
+
+def main():
+    words = parser_of(__doc__)
+    words.add_argument("program", metavar="PROGRAM", help="rubis_auction")
+    words.add_argument("options", metavar="OPTION", nargs=argparse.REMAINDER, help="options of it")
+    asked = words.parse_args()
+    try:
+        ask(Auction(asked.program, *asked.options))
+    except Refused as refused:
+        said, status = refused.args
+        end(said or f"{asked.program} ended with status {status}")
 
 
 if __name__ == "__main__":

@@ -312,7 +312,7 @@ async def serve(engine):
 
 
 def arguments(text):
-    words = argparse.ArgumentParser(description=text, formatter_class=argparse.RawDescriptionHelpFormatter)
+    words = argparse.ArgumentParser(description=text, formatter_class=argparse.RawDescriptionHelpFormatter, usage=argparse.SUPPRESS)
     words.add_argument("--host", default="127.0.0.1", help="the address of the server [default: 127.0.0.1]")
     words.add_argument("--port", type=int, default=7379, help="its port, 0 for a free one [default: 7379]")
     words.add_argument("--unix", metavar="PATH", help="a socket of the file system instead")
@@ -327,7 +327,7 @@ def arguments(text):
 def main(engine):
     try:
         sys.exit(asyncio.run(serve(engine)))
-    except OSError as fault:
+    except (OSError, OverflowError) as fault:
         sys.exit(f"front: {fault}")
 
 

@@ -16,6 +16,7 @@ import asyncio
 import base64
 import json
 import os
+import shutil
 import sys
 import threading
 import time
@@ -200,6 +201,12 @@ def arguments():
     asked = words.parse_args()
     if asked.log is None:
         words.error("--log FILE is needed")
+    if shutil.which(asked.program) is None:
+        words.error(f"{asked.program}: no such program")
+    try:
+        Etcd(asked.etcd)
+    except HTTPException as fault:
+        words.error(f"--etcd {asked.etcd}: {fault}")
     return asked
 
 

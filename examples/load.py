@@ -6,13 +6,14 @@
 FILE has the requests, as rubis_load writes them; the auction has to have its rows already. Without FILE all clients bid on item 0.0.
 The load itself takes a processor: if that is busy, more clients wait longer and show nothing of the server."""
 
-import argparse
 import asyncio
 import csv
-import sys
+import os
 import time
 from collections import deque
 from pathlib import Path
+
+from command_line import end, parser_of
 
 CLOCK = time.perf_counter_ns
 
@@ -24,7 +25,12 @@ def packed(words):
 
 def commands_of(lines):
     """The requests of an input as commands."""
-    return [packed([word.encode() for word in (kind.upper(), *fields)]) for _, kind, *fields in filter(None, csv.reader(lines)) if kind[0] != "+"]
+    records = list(filter(None, csv.reader(lines)))
+    for record in records:
+        if len(record) < 2 or not record[1]:
+            end(f"no worker and kind: {','.join(record)}")
+    commands = [packed([word.encode() for word in (kind.upper(), *fields)]) for _, kind, *fields in records if kind[0] != "+"]
+    return commands or end("no requests")
 
 
 class Client(asyncio.Protocol):
@@ -85,7 +91,7 @@ def told(clients, seconds):
 
 
 def main():
-    words = argparse.ArgumentParser(description=__doc__, formatter_class=argparse.RawDescriptionHelpFormatter)
+    words = parser_of(__doc__)
     words.add_argument("file", metavar="FILE", nargs="?", type=Path, help="requests [default: bids on item 0.0]")
     words.add_argument("--host", default="127.0.0.1", help="[default: 127.0.0.1]")
     words.add_argument("--port", type=int, default=7379, help="[default: 7379]")
@@ -93,13 +99,21 @@ def main():
     words.add_argument("--pipeline", type=int, default=1, help="requests of each client under way [default: 1]")
     words.add_argument("--seconds", type=float, default=5, help="[default: 5]")
     asked = words.parse_args()
+    if min(asked.clients, asked.pipeline) < 1:
+        words.error("--clients and --pipeline are at least 1")
+    commands = commands_of(asked.file.read_text().splitlines() if asked.file else ["0,bid,1,0.0,500,*"])
+    clients = [Client(commands, number * len(commands) // asked.clients, asked) for number in range(asked.clients)]
     try:
-        commands = commands_of(asked.file.read_text().splitlines() if asked.file else ["0,bid,1,0.0,500,*"])
-        clients = [Client(commands, number * len(commands) // asked.clients, asked) for number in range(asked.clients)]
         seconds = asyncio.run(drive(clients, asked, host=asked.host, port=asked.port))
-    except OSError as fault:
-        sys.exit(f"load.py: {fault}")
+    except (OSError, OverflowError) as fault:
+        end(f"no connection to {asked.host}:{asked.port}: {words_of(fault)}")
     print(told(clients, seconds))
+
+
+def words_of(fault):
+    """What the system says of a fault: asyncio has words of its own."""
+    number = getattr(fault, "errno", None) or 0
+    return os.strerror(number) if number > 0 else getattr(fault, "strerror", None) or fault
 
 
 if __name__ == "__main__":

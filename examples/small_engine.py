@@ -6,10 +6,18 @@
 
 It commits on the first copy. With --stale it has a bug: views of items read the second copy, which is refreshed every third commit.
 """
-import argparse
 import copy
 import csv
 import random
+import re
+from pathlib import Path
+
+from command_line import end, parser_of
+
+N, ITEM = "[0-9]+", r"[0-9]+\.[0-9]+"
+# A row or a request, with tabs between its fields.
+RECORD = re.compile(rf"{N}\t(\+?(item\t{N}\t{N}\t[ -~]+(\t{N}){{3,4}}|(bid|buynow)\t{N}\t{ITEM}\t{N}\t{N}|comment\t{N}\t{N}\t{ITEM}\t-?[0-5])"
+                    rf"|view(item|bids)\t{ITEM}|view(category|user)\t{N})")
 
 
 class Auction:
@@ -84,8 +92,16 @@ class Auction:
         return self.view(kind, fields[0]) if kind.startswith("view") else self.store(worker, kind, fields)
 
 
+def records_of(path):
+    lines = csv.reader(Path(path).read_text().splitlines())
+    for record in filter(None, lines):
+        if not RECORD.fullmatch("\t".join(record)):
+            end(f"{path}, line {lines.line_num}: no row and no request")
+        yield record
+
+
 def main():
-    words = argparse.ArgumentParser(description=__doc__, formatter_class=argparse.RawDescriptionHelpFormatter)
+    words = parser_of(__doc__)
     words.add_argument("input", metavar="INPUT", help="rows and scripts, as docs/FORMATS.md has them")
     words.add_argument("seed", metavar="SEED", help="a text that gives the order")
     words.add_argument("--stale", action="store_true", help="views of items read the second copy")
@@ -93,12 +109,13 @@ def main():
     words.add_argument("--categories", type=int, default=10, help="categories of the auction [default: 10]")
     asked = words.parse_args()
     scripts, auction, picks, done = {}, Auction(asked.users, asked.categories), random.Random(asked.seed), {}
-    with open(asked.input, newline="") as text:
-        for worker, kind, *fields in filter(None, csv.reader(text)):
-            if kind.startswith("+"):
-                auction.store(int(worker), kind[1:], fields)
-            else:
-                scripts.setdefault(int(worker), []).append((kind, fields))
+    for worker, kind, *fields in records_of(asked.input):
+        if not kind.startswith("+"):
+            scripts.setdefault(int(worker), []).append((kind, fields))
+        elif reason := auction.refusal(kind[1:], fields):
+            end(f"{asked.input}: a row is refused: {reason}")
+        else:
+            auction.store(int(worker), kind[1:], fields)
     turns = [worker for worker, script in scripts.items() for _ in script]
     picks.shuffle(turns)
     for number, worker in enumerate(turns):

@@ -8,7 +8,6 @@ deferred it. FILE is the output of `rubis_auction --history`; if that of `--repo
 With --html it writes a page of the whole history for a browser instead. If the output of `rubis_check` is there too, the page marks the wrong line.
 
     rubis_check --history engine.history < INPUT | examples/timeline.py --html engine.history - > timeline.html"""
-import argparse
 import fileinput
 import json
 import re
@@ -18,6 +17,8 @@ from difflib import SequenceMatcher
 from html import escape
 from pathlib import Path
 from typing import NamedTuple
+
+from command_line import parser_of
 
 LEFT, RIGHT, TOP = 92, 16, 84
 USUAL_WIDTH, WIDEST, NARROWEST, LEAST_OF_A_PHASE = 1000, 92, 10, 104
@@ -368,7 +369,7 @@ def picture(lines, asked, name):
 
 
 def main():
-    parser = argparse.ArgumentParser(description=__doc__, formatter_class=argparse.RawDescriptionHelpFormatter)
+    parser = parser_of(__doc__)
     parser.add_argument("files", metavar="FILE", nargs="*", help="a history, and its report if there is one [default: standard input]")
     parser.add_argument("--from", dest="first", metavar="PHASE", type=int, default=0, help="the first phase that is drawn [default: 0]")
     parser.add_argument("--most", metavar="LINES", type=int, default=300, help="whole phases of at most so many lines are drawn, one at least [default: 300]")
@@ -377,11 +378,8 @@ def main():
     asked = parser.parse_args()
     name = asked.files[0].rsplit("/", 1)[-1] if asked.files else "a run"
     how = {"mode": "rb"} if asked.html else {"encoding": "utf-8", "errors": "replace"}
-    try:
-        with fileinput.input(asked.files or "-", **how) as lines:
-            drawn = page(lines, asked.split, name) if asked.html else picture(lines, asked, name)
-    except OSError as fault:
-        sys.exit(f"timeline.py: {fault.filename}: {fault.strerror}")
+    with fileinput.input(asked.files or "-", **how) as lines:
+        drawn = page(lines, asked.split, name) if asked.html else picture(lines, asked, name)
     sys.stdout.write(drawn)
 
 

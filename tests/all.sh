@@ -8,6 +8,13 @@
 # Five scripts run beside the others; what they said is printed after them.
 set -euo pipefail
 cd "$(dirname "$0")/.."
+case "$*" in
+    "" | --built) ;;
+    *)
+        echo "all.sh: takes no words but --built" >&2
+        exit 2
+        ;;
+esac
 said=$(mktemp -d)
 trap 'kill $(jobs -p) 2> /dev/null || true; rm -rf "$said"' EXIT
 

@@ -7,7 +7,6 @@ Right histories are those of the worked examples, one written by hand, and those
 What is to be found of a changed one follows from the change: the history written by hand says which reply was due.
 """
 
-import argparse
 import itertools
 import os
 import random
@@ -23,7 +22,7 @@ from checks import tell_of
 from inputs import Text, random_options
 from load_model import Plan, load_of
 from model import Options, Outcome, open_auction
-from program import BUILT, DOCUMENTS, EXAMPLES, TESTS, Tally, build_shim, built, run, run_typed
+from program import BUILT, DOCUMENTS, EXAMPLES, TESTS, Tally, build_shim, built, executable, parser_of, run, run_typed
 from records import Fault
 from refusing import Refusing
 from worked import examples_of
@@ -477,14 +476,14 @@ CHECKS = (
 
 
 def main() -> None:
-    words = argparse.ArgumentParser(description=__doc__, formatter_class=argparse.RawDescriptionHelpFormatter)
-    words.add_argument("checker", nargs="?", type=Path, default=built("rubis_check"))
-    words.add_argument("program", nargs="?", type=Path, default=BUILT)
+    words = parser_of(__doc__)
+    words.add_argument("checker", nargs="?", type=executable, default=str(built("rubis_check")))
+    words.add_argument("program", nargs="?", type=executable, default=str(BUILT))
     words.add_argument("--only", choices=[check.__name__ for check in CHECKS], help="only this check")
     options = words.parse_args()
     tally = Tally()
     with tempfile.TemporaryDirectory() as folder:
-        tester = Tester(options.checker.resolve(), options.program.resolve(), Path(folder), tally)
+        tester = Tester(options.checker, options.program, Path(folder), tally)
         for check in CHECKS:
             if options.only in (None, check.__name__):
                 tell_of(check, tester)

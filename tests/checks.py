@@ -1,6 +1,5 @@
 """What the scripts of checks have in common: running the program on an input, and one check after the other."""
 
-import argparse
 import functools
 import os
 import tempfile
@@ -11,7 +10,7 @@ from pathlib import Path
 from typing import Callable, Iterable, Iterator
 
 from model import Options, Outcome, expected
-from program import BUILT, EXAMPLES, Tally, build_shim, run
+from program import BUILT, EXAMPLES, Tally, build_shim, executable, parser_of, run
 
 VASE = b"0,item,0,0,Vase,10,100,1\n"
 VIEW = b"0,viewuser,0\n"
@@ -92,13 +91,13 @@ def with_shim(check: Check) -> Check:
 
 
 def main(description: str, checks: tuple[Check, ...]) -> None:
-    words = argparse.ArgumentParser(description=description, formatter_class=argparse.RawDescriptionHelpFormatter)
-    words.add_argument("program", nargs="?", type=Path, default=BUILT)
+    words = parser_of(description)
+    words.add_argument("program", nargs="?", type=executable, default=str(BUILT))
     words.add_argument("--only", choices=[check.__name__ for check in checks], help="only this check")
     options = words.parse_args()
     tally = Tally()
     with tempfile.TemporaryDirectory() as folder:
-        tester = Tester(options.program.resolve(), Path(folder), tally)
+        tester = Tester(options.program, Path(folder), tally)
         for check in checks:
             if options.only in (None, check.__name__):
                 tell_of(check, tester)

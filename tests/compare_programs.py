@@ -8,7 +8,6 @@ the end of what is read at a time, rows after requests, and reads that give a by
 are the same in each run. Each input on which the programs differ is written to a file in tests/out, and the command lines that show it again are printed.
 """
 
-import argparse
 import os
 import random
 import re
@@ -21,7 +20,7 @@ from pathlib import Path
 
 from inputs import Input, random_input
 from model import Options, Outcome
-from program import TESTS, Tally, build_shim, described, run
+from program import TESTS, Tally, build_shim, described, executable, parser_of, run
 
 KEPT = TESTS / "out"
 TOLD_EVERY = 100
@@ -107,16 +106,16 @@ class Session:
 
 
 def main() -> None:
-    words = argparse.ArgumentParser(description=__doc__, formatter_class=argparse.RawDescriptionHelpFormatter)
-    words.add_argument("old", type=Path)
-    words.add_argument("new", type=Path)
+    words = parser_of(__doc__)
+    words.add_argument("old", type=executable)
+    words.add_argument("new", type=executable)
     words.add_argument("--inputs", type=int, default=1000)
     words.add_argument("--seed", type=int, default=random.SystemRandom().randrange(2**32))
     options = words.parse_args()
     print(f"seed {options.seed}", flush=True)
     tally = Tally()
     with tempfile.TemporaryDirectory() as folder:
-        session = Session([options.old.resolve(), options.new.resolve()], options.seed, build_shim("refused_calls", Path(folder)), tally)
+        session = Session([options.old, options.new], options.seed, build_shim("refused_calls", Path(folder)), tally)
         for number in range(options.inputs):
             session.compare(number)
             if (number + 1) % TOLD_EVERY == 0:

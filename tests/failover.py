@@ -27,7 +27,7 @@ import postgres
 from load_model import Plan, load_of
 from model import Outcome
 from postgres import ACCEPTED, HOLD, MARKET, NUMBERED, SQL, Kept, compared, found, program_views, rows_after, wait_for
-from program import Tally, described, run, servers_folder
+from program import Tally, described, run, servers_folder, two_programs
 
 FAILOVERS = 5
 WORKERS, REQUESTS = 8, 3000
@@ -159,7 +159,7 @@ def lost(servers: Servers, _program: Path, checker: Path, rng: random.Random, ta
 
 
 def main() -> None:
-    program, checker = postgres.programs()
+    program, checker = two_programs(__doc__)
     tally = Tally()
     if postgres.tools() is None:
         tally.skip("failovers of PostgreSQL", "it is not installed")

@@ -10,7 +10,6 @@ The referee accepts their joined histories but for views of categories and users
 
 import random
 import re
-import sys
 from collections import Counter
 from concurrent.futures import ThreadPoolExecutor
 from dataclasses import replace
@@ -20,7 +19,7 @@ from typing import Iterable, NamedTuple
 
 from load_model import Plan, load_of
 from model import Outcome
-from program import BUILT, Tally, built, described, run
+from program import Tally, described, run, two_programs
 
 PROCESSES, WORKERS = 4, 16
 EACH = WORKERS // PROCESSES
@@ -138,7 +137,7 @@ def without_views_of_all(records: list[str], history: list[str]) -> tuple[list[s
 
 
 def main() -> None:
-    program, checker = (Path(word).resolve() for word in (*sys.argv[1:], *(BUILT, built("rubis_check"))[len(sys.argv) - 1 :]))
+    program, checker = two_programs(__doc__)
     tally = Tally()
     seed = random.randrange(1 << 32)
     print(f"seed {seed}", flush=True)

@@ -10,7 +10,6 @@ which tells the fault. A refused close leaves the history of the phases before. 
 showed. Between two looks for memory a view of an unknown user is answered, as the first request of a permit and as a later one.
 """
 
-import argparse
 import tempfile
 from collections import Counter
 from dataclasses import dataclass, field
@@ -18,7 +17,7 @@ from pathlib import Path
 
 from histories import Difference, require
 from model import Outcome
-from program import TESTS, Tally, build_shim, built_tests, described, run
+from program import TESTS, Tally, build_shim, built_tests, described, executable, parser_of, run
 from refusing import Refusal, Refusing
 
 PREFIX = "calls::tests::"
@@ -189,11 +188,10 @@ def try_each(programs: list[Path], tally: Tally) -> None:
 
 
 def main() -> None:
-    words = argparse.ArgumentParser(description=__doc__, formatter_class=argparse.RawDescriptionHelpFormatter)
-    words.add_argument("tests", nargs="*", type=Path, default=[built_tests(name) for name in ("engine_tests", "phase_tests", "application_tests")])
-    programs = [tests.resolve() for tests in words.parse_args().tests]
+    words = parser_of(__doc__)
+    words.add_argument("tests", nargs="*", type=executable, default=[built_tests(name) for name in ("engine_tests", "phase_tests", "application_tests")])
     tally = Tally()
-    try_each(programs, tally)
+    try_each(words.parse_args().tests, tally)
     tally.finish()
 
 

@@ -6,7 +6,6 @@ byte, and what was answered outlasts a program that is killed. The log itself is
 
 The kills are of a program under load, at random moments, and what it answered before and after is held against the model as one auction."""
 
-import argparse
 import fcntl
 import itertools
 import os
@@ -26,7 +25,7 @@ from typing import Callable, Iterator
 
 from checks import Tester, tell_of
 from model import Outcome
-from program import BUILT, EXAMPLES, Tally, built, described, in_little_memory, run, run_typed
+from program import BUILT, EXAMPLES, Tally, built, described, executable, in_little_memory, parser_of, run, run_typed
 from sessions import FIRST, ITEMS, PLAIN, SECONDS, Auction, Era, Refused, fault_of, in_use, requests, rows_of, wait_until
 
 SEEN = "user rating=0 comments=0"
@@ -341,15 +340,15 @@ CHECKS = (line_ends, terminals, clients, faulty_lines, ends_without_live, faulty
 
 
 def main() -> None:
-    words = argparse.ArgumentParser(description=__doc__, formatter_class=argparse.RawDescriptionHelpFormatter)
-    words.add_argument("program", nargs="?", type=Path, default=BUILT)
+    words = parser_of(__doc__)
+    words.add_argument("program", nargs="?", type=executable, default=str(BUILT))
     words.add_argument("--kills", type=int, default=12)
     words.add_argument("--seed", type=int, default=1)
     words.add_argument("--only", choices=[check.__name__ for check in CHECKS], help="only this check")
     options = words.parse_args()
     tally = Tally()
     with tempfile.TemporaryDirectory() as folder:
-        tester = Tester(options.program.resolve(), Path(folder), tally)
+        tester = Tester(options.program, Path(folder), tally)
         tester.kills, tester.seed = options.kills, options.seed
         for check in CHECKS:
             if options.only in (None, check.__name__):

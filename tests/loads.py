@@ -7,7 +7,6 @@ Random loads are compared byte by byte with those of a model. Of larger ones the
 categories are named, lie within five standard deviations of what the options and Zipf's law say, which is computed here in floating point.
 """
 
-import argparse
 import functools
 import os
 import random
@@ -20,7 +19,7 @@ from pathlib import Path
 import helps
 from load_model import Plan, load_of
 from model import Book, Entry, Options, Outcome, Run, choose_hot, is_put_off, is_split, open_auction, quota, report_text
-from program import EXAMPLES, Tally, build_shim, built, described, run
+from program import EXAMPLES, Tally, build_shim, built, described, executable, parser_of, run
 from refusing import Refusing
 
 PLANS = 60
@@ -236,13 +235,13 @@ def refused_memory(tester: Tester) -> None:
 
 
 def main() -> None:
-    parser = argparse.ArgumentParser(description=__doc__, formatter_class=argparse.RawDescriptionHelpFormatter)
-    parser.add_argument("--generator", type=Path, default=built("rubis_load"))
-    parser.add_argument("--auction", type=Path, default=built("rubis_auction"))
+    parser = parser_of(__doc__)
+    parser.add_argument("--generator", type=executable, default=str(built("rubis_load")))
+    parser.add_argument("--auction", type=executable, default=str(built("rubis_auction")))
     asked = parser.parse_args()
     tally = Tally()
     with tempfile.TemporaryDirectory() as folder:
-        tester = Tester(asked.generator.resolve(), asked.auction.resolve(), Path(folder), tally)
+        tester = Tester(asked.generator, asked.auction, Path(folder), tally)
         for part in (same_bytes, shares, skews, named_alike, taken, example, help_and_version, refused_words, refused_output, refused_memory):
             before = tally.passed
             part(tester)

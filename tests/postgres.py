@@ -28,7 +28,7 @@ from typing import Iterator, NamedTuple
 from inputs import PROFILES, Text
 from load_model import Plan, load_of
 from model import Options, Outcome, open_auction
-from program import BUILT, EXAMPLES, Tally, built, described, run
+from program import EXAMPLES, Tally, described, run, two_programs
 from records import BYTE_ORDER_MARK, Fault
 
 SQL = EXAMPLES / "sql"
@@ -248,12 +248,6 @@ def last_pieces(server: Server, checker: Path, tally: Tally) -> None:
     tally.check(got.status == 5 and OVERSOLD.fullmatch(got.stdout) is not None, f"without locks: {described(got)}")
 
 
-def programs() -> tuple[Path, Path]:
-    """The program and the checker that were asked for, or those that are built."""
-    asked = (*sys.argv[1:], *(BUILT, built("rubis_check"))[len(sys.argv) - 1 :])
-    return tuple(Path(word).resolve() for word in asked)
-
-
 def tools() -> Path | None:
     """The folder of the server's programs, if it is installed."""
     found_tools = sorted(Path("/usr/lib/postgresql").glob("*/bin/initdb"))
@@ -262,7 +256,7 @@ def tools() -> Path | None:
 
 
 def main() -> None:
-    program, checker = programs()
+    program, checker = two_programs(__doc__)
     tally = Tally()
     if tools() is None:
         tally.skip("the auction in PostgreSQL", "it is not installed")

@@ -17,6 +17,9 @@ CRATES = TESTS.parent / "crates"
 EXAMPLES = TESTS.parent / "examples"
 DOCUMENTS = TESTS.parent / "docs"
 
+sys.path.append(str(EXAMPLES))
+from command_line import executable, parser_of
+
 # What a program may map whose memory does not grow with its input.
 LITTLE_MEMORY = 64 << 20
 NOBODY = 65534
@@ -39,6 +42,15 @@ def built_tests(name: str) -> Path:
 
 
 BUILT = built("rubis_auction")
+
+
+def two_programs(text: str) -> tuple[Path, Path]:
+    """The program and the referee that the words of a script name, or those that are built."""
+    words = parser_of(text)
+    words.add_argument("program", nargs="?", type=executable, default=str(BUILT))
+    words.add_argument("checker", nargs="?", type=executable, default=str(built("rubis_check")))
+    asked = words.parse_args()
+    return asked.program, asked.checker
 
 
 def run(command: list, stdin=b"", **how) -> Outcome:

@@ -5,7 +5,6 @@ clients saw is judged over all of them. The machines are network namespaces, or 
     tests/quorum.py [PROGRAM] [--check REFEREE]
 """
 
-import argparse
 import asyncio
 import ctypes
 import json
@@ -23,7 +22,7 @@ from typing import Callable
 
 from checks import Tester, tell_of
 from fronts import ENDS, UNKNOWN, WORKERS, Front, load
-from program import BUILT, EXAMPLES, Tally, built, run, servers_folder
+from program import BUILT, EXAMPLES, Tally, built, executable, parser_of, run, servers_folder
 from sessions import SECONDS, wait_until
 from watched import PIPELINE, Outcome, Watcher, against_time, judge, judged_by_itself, mix, whole_lines
 
@@ -347,17 +346,17 @@ def failures(tester: Tester) -> None:
 
 
 def main() -> None:
-    words = argparse.ArgumentParser(description=__doc__, formatter_class=argparse.RawDescriptionHelpFormatter)
-    words.add_argument("program", nargs="?", type=Path, default=BUILT)
-    words.add_argument("--check", type=Path, default=built("rubis_check"), help="the referee")
+    words = parser_of(__doc__)
+    words.add_argument("program", nargs="?", type=executable, default=str(BUILT))
+    words.add_argument("--check", type=executable, default=str(built("rubis_check")), help="the referee")
     options = words.parse_args()
     tally = Tally()
     if not (shutil.which("etcd") and shutil.which("etcdctl")):
         tally.skip("several machines", "etcd is not installed")
         tally.finish()
     with servers_folder() as folder:
-        tester = Tester(options.program.resolve(), Path(folder), tally)
-        tester.referee = options.check.resolve()
+        tester = Tester(options.program, Path(folder), tally)
+        tester.referee = options.check
         try:
             tell_of(failures, tester)
         finally:

@@ -9,7 +9,6 @@ Where only the report lacks memory, what stands before it has been written whole
 failed. Without a C compiler only the system refuses.
 """
 
-import argparse
 import itertools
 import random
 import resource
@@ -21,7 +20,7 @@ from pathlib import Path
 from histories import Difference, check_printed
 from inputs import Text
 from model import Options, Outcome, expected, failed, open_auction
-from program import BUILT, EXAMPLES, TESTS, Tally, build_shim, described, fault, run
+from program import BUILT, EXAMPLES, TESTS, Tally, build_shim, described, executable, fault, parser_of, run
 from records import Fault
 from refusing import Refusing
 from worked import examples_of
@@ -227,9 +226,9 @@ def refuse_all(program: Path, tally: Tally) -> None:
 
 
 def main() -> None:
-    words = argparse.ArgumentParser(description=__doc__, formatter_class=argparse.RawDescriptionHelpFormatter)
-    words.add_argument("program", nargs="?", type=Path, default=BUILT)
-    program = words.parse_args().program.resolve()
+    words = parser_of(__doc__)
+    words.add_argument("program", nargs="?", type=executable, default=str(BUILT))
+    program = words.parse_args().program
     tally = Tally()
     refuse_all(program, tally)
     limit_address_space(program, tally)

@@ -11,7 +11,6 @@ Before all that, the checkers of histories, replies and rows have to take those 
 dropped, doubled or moved, and with any digit changed.
 """
 
-import argparse
 import random
 import re
 import shlex
@@ -26,7 +25,7 @@ from typing import Iterable, Iterator
 import histories
 from inputs import Input, random_input
 from model import Options, Outcome, expected, failed, open_auction
-from program import BUILT, EXAMPLES, TESTS, Tally, described, run
+from program import BUILT, EXAMPLES, TESTS, Tally, described, executable, parser_of, run
 from records import Fault
 
 KEPT = TESTS / "out"
@@ -204,15 +203,15 @@ class Session:
 
 
 def main() -> None:
-    words = argparse.ArgumentParser(description=__doc__, formatter_class=argparse.RawDescriptionHelpFormatter)
-    words.add_argument("program", nargs="?", type=Path, default=BUILT)
+    words = parser_of(__doc__)
+    words.add_argument("program", nargs="?", type=executable, default=str(BUILT))
     words.add_argument("--seconds", type=float, default=120)
     words.add_argument("--seed", type=int, default=random.SystemRandom().randrange(2**32))
     options = words.parse_args()
     print(f"seed {options.seed}", flush=True)
     tally = Tally()
     try_checkers(tally)
-    session = Session(options.seed, options.program.resolve(), tally)
+    session = Session(options.seed, options.program, tally)
     session.run(options.seconds)
     session.tell_kinds()
     tally.finish()

@@ -5,7 +5,6 @@ that outlasts kills of the program and of the front. What many clients saw is ju
     tests/serving.py [PROGRAM] [--check REFEREE] [--kills 5] [--only CHECK]
 """
 
-import argparse
 import fcntl
 import os
 import random
@@ -30,7 +29,7 @@ from front_bounds import bounds
 from front_clients import loads, other_clients, shown
 from fronts import ENDS, FRONT, MEGABYTES, SEEN, UNKNOWN, UNKNOWN_COMMAND, Client, Front, packed
 from misbehaving import hang_up, keep_asking, read_nothing, send_rubbish
-from program import BUILT, EXAMPLES, Tally, built, run
+from program import BUILT, EXAMPLES, Tally, built, executable, parser_of, run
 from sessions import SECONDS, wait_until
 from watched import MIX, Outcome, Seen, Start, against_time, judge, judged_by_itself, log_is_exact, mix, referee, seen_otherwise, watched, whole_lines
 
@@ -403,16 +402,16 @@ CHECKS = (commands, pipelines, other_clients, loads, shown, bounds, misbehaving,
 
 
 def main() -> None:
-    words = argparse.ArgumentParser(description=__doc__, formatter_class=argparse.RawDescriptionHelpFormatter)
-    words.add_argument("program", nargs="?", type=Path, default=BUILT)
-    words.add_argument("--check", type=Path, default=built("rubis_check"), help="the referee")
+    words = parser_of(__doc__)
+    words.add_argument("program", nargs="?", type=executable, default=str(BUILT))
+    words.add_argument("--check", type=executable, default=str(built("rubis_check")), help="the referee")
     words.add_argument("--kills", type=int, default=5, help="of the program, and of the front")
     words.add_argument("--only", choices=[check.__name__ for check in CHECKS], help="only this check")
     options = words.parse_args()
     tally = Tally()
     with tempfile.TemporaryDirectory() as folder:
-        tester = Tester(options.program.resolve(), Path(folder), tally)
-        tester.referee, tester.kills = options.check.resolve(), options.kills
+        tester = Tester(options.program, Path(folder), tally)
+        tester.referee, tester.kills = options.check, options.kills
         try:
             for check in CHECKS:
                 if options.only in (None, check.__name__):

@@ -6,7 +6,6 @@ and a search show.
     tests/timeline.py [CHECKER [PROGRAM]]
 """
 
-import argparse
 import functools
 import json
 import os
@@ -19,7 +18,7 @@ from tempfile import TemporaryDirectory
 from xml.etree import ElementTree
 
 from browser import Browser, Document, Element
-from program import BUILT, EXAMPLES, TESTS, Tally, built, described, run
+from program import BUILT, EXAMPLES, TESTS, Tally, built, described, executable, parser_of, run
 
 TIMELINE = EXAMPLES / "timeline.py"
 CONTENDED = (EXAMPLES / "contended.history").read_bytes()
@@ -401,16 +400,16 @@ def drawn_large(make: Maker, browser: Browser, page: str) -> None:
 
 
 def main() -> None:
-    parser = argparse.ArgumentParser(description=__doc__, formatter_class=argparse.RawDescriptionHelpFormatter)
-    parser.add_argument("checker", type=Path, nargs="?", default=built("rubis_check"))
-    parser.add_argument("program", type=Path, nargs="?", default=BUILT)
+    parser = parser_of(__doc__)
+    parser.add_argument("checker", type=executable, nargs="?", default=str(built("rubis_check")))
+    parser.add_argument("program", type=executable, nargs="?", default=str(BUILT))
     options = parser.parse_args()
     tally = Tally()
     with TemporaryDirectory(ignore_cleanup_errors=True) as folder:
-        make = Maker(tally, options.checker.resolve(), Path(folder))
+        make = Maker(tally, options.checker, Path(folder))
         for check in (pictures, whole_pages, readable_by_all, verdicts, refused, hostile_pages, large_pages, in_a_browser):
             passed, started = tally.passed, time.monotonic()
-            check(make, options.program.resolve())
+            check(make, options.program)
             print(f"{tally.passed - passed:6} passed in {time.monotonic() - started:5.1f} s: {check.__doc__}", flush=True)
     tally.finish()
 

@@ -1,25 +1,100 @@
 #!/usr/bin/env python3
-"""Tests what helps to use the auction: bench/tune, whose command has to run, bench/starts, and the help of example_watch.
+"""Shows that the tools do as they say: bench/tune, whose command has to run, bench/starts, the help of example_watch, man pages, and what each script says of
+wrong words, of what is not there, and of an interruption.
 
     tests/tools.py [PROGRAM]
 """
 
-import argparse
+import os
 import re
+import shutil
+import signal
 import sys
+import time
+from concurrent.futures import ThreadPoolExecutor
+from contextlib import suppress
 from pathlib import Path
+from subprocess import PIPE, Popen, TimeoutExpired
+from tempfile import TemporaryDirectory
+from typing import BinaryIO
 
 import helps
 from model import Outcome
-from program import BUILT, EXAMPLES, TESTS, Tally, built, described, run
+from program import BUILT, DOCUMENTS, EXAMPLES, SECONDS, TESTS, Tally, built, described, executable, parser_of, run
 
-TUNE, STARTS = (TESTS.parent / "bench" / name for name in ("tune", "starts"))
+BENCH, PYTHON = TESTS.parent / "bench", [sys.executable, "-B"]
+RUN, TUNE, STARTS = (BENCH / name for name in ("run", "tune", "starts"))
+THREE, MAN_PAGES = EXAMPLES / "sql" / "three.sh", DOCUMENTS / "man_pages.py"
 SKEWED = EXAMPLES / "skewed.csv"
 NEEDED = ["--workers", "4", "--users", "6", "--categories", "3"]
 
+# What is not there, as a file, as a folder and as a program.
+NONE = str(TESTS / "none")
+# Scripts that take a program first, and those that take words.
+OF_A_PROGRAM = [TESTS / f"{name}.py" for name in ("checking", "ends", "failover", "joined", "lasting", "library_calls", "limits", "live", "logs", "postgres",
+                                                  "quorum", "refused_memory", "second_opinion", "serving", "timeline", "tools", "worked")]
+OF_EXAMPLES = [EXAMPLES / f"{name}.py" for name in ("client", "front", "front_quorum", "load", "small_engine", "timeline", "sql/load", "sql/perform")]
+OF_WORDS = [*OF_A_PROGRAM, TESTS / "compare_programs.py", TESTS / "loads.py", *OF_EXAMPLES, MAN_PAGES, RUN, TUNE, STARTS]
+CLIENT, FRONT, QUORUM, LOAD, SMALL_ENGINE, TIMELINE, _, PERFORM = OF_EXAMPLES
+
+# Stands for the program under test.
+PROGRAM = "PROGRAM"
+# Words of a script, its status, and what its line names.
+ANSWERS = [
+    *(([script, "--none"], 2, "") for script in OF_WORDS),
+    *(([script, NONE], 2, NONE) for script in OF_A_PROGRAM),
+    *(([script, "--program", NONE], 2, NONE) for script in (RUN, STARTS, TUNE)),
+    ([TESTS / "compare_programs.py", PROGRAM, NONE], 2, NONE),
+    ([TESTS / "loads.py", "--generator", NONE], 2, NONE),
+    ([CLIENT, NONE], 1, NONE),
+    ([CLIENT, PROGRAM, "--none"], 1, "'--none'"),
+    ([CLIENT, "/bin/false"], 1, "/bin/false ended with status 1"),
+    ([FRONT, "--port", "0", NONE], 1, NONE),
+    ([FRONT, "--port", "65536", PROGRAM], 1, "0-65535"),
+    ([QUORUM, "--log", NONE, NONE], 2, NONE),
+    ([QUORUM, "--log", NONE, "--etcd", "one:two", PROGRAM], 2, "one:two"),
+    ([QUORUM, PROGRAM], 2, "--log"),
+    ([LOAD, NONE], 1, NONE),
+    ([LOAD, PROGRAM], 1, "UTF-8"),
+    ([LOAD, TESTS / "README.md"], 1, "# Tests"),
+    ([LOAD, "/dev/null"], 1, "no requests"),
+    ([LOAD, "--port", "1"], 1, "127.0.0.1:1: Connection refused"),
+    ([LOAD, "--port", "99999"], 1, "0-65535"),
+    ([LOAD, "--pipeline", "0"], 2, "--pipeline"),
+    ([SMALL_ENGINE, NONE, "1"], 1, NONE),
+    ([SMALL_ENGINE, TESTS, "1"], 1, "Is a directory"),
+    ([SMALL_ENGINE, TESTS / "README.md", "1"], 1, "line 1"),
+    ([TIMELINE, NONE], 1, NONE),
+    *([([PERFORM, "--database", "host=/none"], 1, "/none")] if shutil.which("psql") else []),
+    ([MAN_PAGES, NONE], 1, NONE),
+    ([MAN_PAGES, TESTS, NONE], 2, NONE),
+    ([RUN, "--only", "none"], 2, "none is none of workers"),
+    ([RUN, "--skip", "none"], 2, "none is none of sqlite"),
+    ([STARTS, "--rows", "9"], 2, "10000"),
+    ([STARTS, "--tries", "0"], 2, "--tries"),
+    ([STARTS, "--program", "/bin/false", "--rows", "10000"], 1, "no reply"),
+    ([TUNE, NONE], 1, NONE),
+    ([TUNE, TESTS], 1, "Is a directory"),
+    ([TUNE, TESTS / "README.md"], 1, "no record"),
+    ([TUNE, "--program", "/bin/false", "/dev/null"], 1, "no record"),
+    ([TUNE, "--program", PROGRAM, SKEWED, "--", "--workers", "x"], 1, "'--workers <N>'"),
+    ([TUNE, "--program", PROGRAM, SKEWED, "--", "--workers", "1"], 1, "record 2"),
+    ([TUNE, SKEWED, "--", *NEEDED, "--split=8"], 2, "--split=8"),
+    ([TUNE, SKEWED, "--", "--fast"], 2, "--fast"),
+    ([TUNE, "--tries", "0", SKEWED], 2, "--tries"),
+    ([THREE, "kill", NONE], 1, NONE),
+    ([THREE, "none", NONE], 1, "FOLDER"),
+]
+# What makes a program where `rt run` would, and tells that it was called.
+BUILDS = """#!/bin/sh
+echo "$*" > "{folder}/called"
+/bin/mkdir -p out
+/bin/cp {program} out/rubis_auction
+"""
+
 
 def tuned(tally: Tally, program: Path) -> None:
-    """commands that bench/tune prints, and what it refuses"""
+    """commands that bench/tune prints"""
     wanted = len(run([program, *NEEDED], SKEWED.read_bytes()).stdout.splitlines())
     got = run([TUNE, "--tries", "2", "--program", program, SKEWED, "--", *NEEDED])
     lines = got.stdout.decode().splitlines()
@@ -27,10 +102,10 @@ def tuned(tally: Tally, program: Path) -> None:
     tally.check(len({line.split("  ")[-1] for line in lines[1:-2]}) == 12, f"bench/tune: other settings than 12: {lines}")
     used = run(["sh", "-c", lines[-1] if lines else "false"])
     tally.check(used.status == 0 and len(used.stdout.splitlines()) == wanted, f"{lines[-1:]}: {described(used)}")
-    refused = ((2, [SKEWED, "--", *NEEDED, "--split=8"]), (2, [SKEWED, "--", "--fast"]), (2, ["--tries", "0", SKEWED]), (1, [SKEWED, "--", "--workers", "1"]), (1, [TESTS / "none.csv"]))
-    for status, words in refused:
-        got = run([TUNE, "--program", program, *words])
-        tally.check(got.status == status and not got.stdout and got.stderr and b"Traceback" not in got.stderr, f"bench/tune {words}: {described(got)}")
+    got = run([TUNE, "--tries", "1", "--program", "/bin/true", SKEWED])
+    first, *told = got.stderr.decode().splitlines()
+    is_told = got.status == 1 and first == "try 1 of 1" and len(told) == 1 and told[0].startswith("tune: ") and "does not read all" in told[0]
+    tally.check(is_told, f"bench/tune over what reads nothing: {described(got)}")
 
 
 def starts(tally: Tally, program: Path) -> None:
@@ -48,12 +123,107 @@ def helps_of_windows(tally: Tally, program: Path) -> None:
         tally.same(f"example_watch {words}", run([watch, *words]), Outcome(1, b"", said.encode()))
 
 
+def answers(tally: Tally, program: Path) -> None:
+    """wrong words, and files and programs that are not there: a line each"""
+    with ThreadPoolExecutor(4) as threads:
+        outcomes = threads.map(run, (command(words, program) for words, *_ in ANSWERS))
+        for ((script, *words), status, named), got in zip(ANSWERS, outcomes):
+            is_told = got.status == status and not got.stdout and is_line(got.stderr, script) and named.encode() in got.stderr
+            tally.check(is_told, f"{script.name} {words}, of {named}: {described(got)}")
+    got = run([*PYTHON, PERFORM], env=os.environ | {"PATH": NONE})
+    tally.same("perform.py without psql", got, Outcome(1, b"", b"perform.py: psql is not installed; Debian has it in postgresql-client\n"))
+
+
+def command(words: list, program: Path) -> list:
+    return [*(PYTHON if words[0].suffix == ".py" else []), *(program if word == PROGRAM else word for word in words)]
+
+
+def is_line(told: bytes, script: Path) -> bool:
+    return told.startswith(script.stem.encode()) and told.count(b"\n") == 1 and told.endswith(b"\n")
+
+
+def interruptions(tally: Tally, _: Path) -> None:
+    """interruptions: a line"""
+    with TemporaryDirectory() as folder:
+        pipe = f"{folder}/pipe"
+        os.mkfifo(pipe)
+        for script, *words in ([TIMELINE, pipe], [SMALL_ENGINE, pipe, "1"], [LOAD, pipe]):
+            # A shell may have told its children to ignore interruptions.
+            with Popen([*PYTHON, script, *words], stdout=PIPE, stderr=PIPE, preexec_fn=lambda: signal.signal(signal.SIGINT, signal.SIG_DFL)) as process:
+                with writer(pipe, process):
+                    process.send_signal(signal.SIGINT)
+                    stdout, stderr = told_by(process)
+            wanted = Outcome(-signal.SIGINT, b"", f"{script.name}: interrupted\n".encode())
+            tally.same(f"{script.name}, interrupted", Outcome(process.returncode, stdout, stderr), wanted)
+
+
+def told_by(process: Popen) -> tuple[bytes, bytes]:
+    """The output and the errors of a process, which is killed if it hangs."""
+    try:
+        return process.communicate(timeout=SECONDS)
+    except TimeoutExpired:
+        process.kill()
+        return process.communicate()
+
+
+def writer(pipe: str, process: Popen) -> BinaryIO:
+    """A pipe's end for writing, once a process reads it; if it has ended, nobody does."""
+    while process.poll() is None:
+        with suppress(OSError):
+            return os.fdopen(os.open(pipe, os.O_WRONLY | os.O_NONBLOCK), "wb")
+        time.sleep(0.01)
+    return open(os.devnull, "wb")
+
+
+def builds(tally: Tally, program: Path) -> None:
+    """what bench/tune and bench/starts build: nothing, unless --build asks for it, after a look at the input"""
+    with TemporaryDirectory() as name:
+        folder = Path(name)
+        shutil.copytree(BENCH, folder / "bench", ignore=shutil.ignore_patterns("out"))
+        shutil.copytree(EXAMPLES, folder / "examples")
+        (folder / "crates" / "rubis_auction").mkdir(parents=True)
+        rt, called = folder / "rt", folder / "called"
+        rt.write_text(BUILDS.format(folder=folder, program=program))
+        rt.chmod(0o755)
+        tune, few_starts = [folder / "bench" / "tune", "--tries", "1"], [folder / "bench" / "starts", "--rows", "10000"]
+        env = os.environ | {"PATH": name}
+        for words in ([*tune, SKEWED, "--", *NEEDED], few_starts, [*tune, "--build", NONE]):
+            got = run([*PYTHON, *words], env=env)
+            tally.check(got.status == 1 and is_line(got.stderr, words[0]) and not called.exists(), f"{words}, not built: {described(got)}")
+        got = run([*PYTHON, *tune, "--build", SKEWED, "--", *NEEDED], env=env)
+        tally.check(got.status == 0 and called.exists() and called.read_text().startswith("run "), f"bench/tune --build: {described(got)}")
+
+
+def man_pages(tally: Tally, program: Path) -> None:
+    """man pages: each has what help says, and no warning of groff"""
+    programs = {"rubis_auction": program, "rubis_check": built("rubis_check"), "rubis_load": built("rubis_load")}
+    if shutil.which("groff") is None:
+        return tally.skip("man pages", "groff is not installed")
+    with TemporaryDirectory() as folder:
+        got = run([*PYTHON, MAN_PAGES, folder, *programs.values()])
+        tally.same("docs/man_pages.py", got, Outcome(0, b"", b""))
+        for name, path in programs.items():
+            got = run(["groff", "-man", "-Tascii", "-ww", "-P-cbou", f"{folder}/{name}.1"])
+            tally.check(got.status == 0 and not got.stderr, f"{name}.1: {got.stderr!r}")
+            shown = " ".join(got.stdout.decode().split())
+            for line in lines_of_help(run([path, "--help"]).stderr.decode()):
+                tally.check(line in shown, f"{name}.1 has {line!r}")
+            for title in ("NAME", "SYNOPSIS", "DESCRIPTION", "OPTIONS", "EXIT STATUS 0 ", "EXAMPLES", "SEE ALSO rubis_"):
+                tally.check(f" {title}" in shown, f"{name}.1 has {title}")
+
+
+def lines_of_help(said: str) -> list[str]:
+    """Lines of help without titles and statuses, and with single spaces."""
+    words = re.sub(r"(?s)Status: .*?\.\n|\n\w+:\n|Usage: ", "\n", said)
+    return [" ".join(line.split()) for line in words.splitlines() if line]
+
+
 def main() -> None:
-    parser = argparse.ArgumentParser(description=__doc__, formatter_class=argparse.RawDescriptionHelpFormatter)
-    parser.add_argument("program", type=Path, nargs="?", default=BUILT)
-    program = parser.parse_args().program.resolve()
+    parser = parser_of(__doc__)
+    parser.add_argument("program", type=executable, nargs="?", default=str(BUILT))
+    program = parser.parse_args().program
     tally = Tally()
-    for check in (tuned, starts, helps_of_windows):
+    for check in (tuned, starts, helps_of_windows, answers, interruptions, builds, man_pages):
         passed = tally.passed
         check(tally, program)
         print(f"{tally.passed - passed:6} passed: {check.__doc__}")

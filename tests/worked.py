@@ -10,12 +10,11 @@ docs/FORMATS.md and docs/DEFINITIONS.md by hand.
 """
 
 import re
-import sys
 from dataclasses import dataclass, field
 from pathlib import Path
 
 from model import Outcome
-from program import BUILT, TESTS, Tally, described, run
+from program import BUILT, TESTS, Tally, described, executable, parser_of, run
 
 
 @dataclass
@@ -70,7 +69,9 @@ def examples_of(path: Path) -> list[Example]:
 
 
 def main() -> None:
-    program = Path(sys.argv[1]).resolve() if len(sys.argv) > 1 else BUILT
+    words = parser_of(__doc__)
+    words.add_argument("program", nargs="?", type=executable, default=str(BUILT))
+    program = words.parse_args().program
     tally = Tally()
     for path in sorted((TESTS / "worked").glob("*.txt")):
         examples = examples_of(path)

@@ -6,11 +6,14 @@
 It reads standard input, keeps all rows in memory, and writes SQL for psql. Serials are counted by worker and kind, as the auction does.
 """
 
-import argparse
 import csv
 import sys
 from collections import Counter, defaultdict
+from pathlib import Path
 from typing import Iterable, Iterator
+
+sys.path.append(str(Path(__file__).resolve().parents[1]))
+from command_line import parser_of
 
 TABLES = {"item": "items", "bid": "bids", "comment": "comments", "buynow": "purchases"}
 
@@ -67,7 +70,7 @@ def filling(records: Iterable[list[str]], users: int, categories: int) -> Iterat
 
 
 def main() -> None:
-    words = argparse.ArgumentParser(description=__doc__, formatter_class=argparse.RawDescriptionHelpFormatter)
+    words = parser_of(__doc__)
     words.add_argument("--users", type=int, default=100, help="users of the auction [default: 100]")
     words.add_argument("--categories", type=int, default=10, help="categories of the auction [default: 10]")
     asked = words.parse_args()

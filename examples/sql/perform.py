@@ -28,6 +28,9 @@ from typing import Callable, NamedTuple, TypeVar
 
 from load import ITEM_FIELD, filling, values
 
+# load.py has put its folder on the path.
+from command_line import end, installed, parser_of
+
 SQL = Path(__file__).resolve().parent
 
 # Of each kind of request its function, and which fields name a category or a user that it touches.
@@ -189,14 +192,16 @@ def open_auction(rows: list[list[str]], asked: argparse.Namespace) -> None:
 
 
 def options() -> argparse.Namespace:
-    words = argparse.ArgumentParser(description=__doc__, formatter_class=argparse.RawDescriptionHelpFormatter)
+    words = parser_of(__doc__)
     words.add_argument("--database", help="an empty database [default: psql's]")
     words.add_argument("--users", type=int, default=100, help="users of the auction [default: 100]")
     words.add_argument("--categories", type=int, default=10, help="categories of the auction [default: 10]")
     one_of = words.add_mutually_exclusive_group()
     one_of.add_argument("--keep", action="store_true", help="keep the history in a table, and go on after a broken connection")
     one_of.add_argument("--unlocked", action="store_true", help="lock nothing")
-    return words.parse_args()
+    asked = words.parse_args()
+    installed("psql", "postgresql-client")
+    return asked
 
 
 def main() -> None:
@@ -206,7 +211,10 @@ def main() -> None:
     scripts: list[list[list[str]]] = [[] for _ in range(1 + max((int(record[0]) for record in records), default=0))]
     for worker, *request in records[len(rows) :]:
         scripts[int(worker)].append(request)
-    open_auction(rows, asked)
+    try:
+        open_auction(rows, asked)
+    except ConnectionError as fault:
+        end(str(fault))
     workers = [Worker(number, script, asked) for number, script in enumerate(scripts)]
     with ThreadPoolExecutor(len(workers)) as threads:
         lines = {line for lines in threads.map(Worker.perform, workers) for line in lines}

@@ -153,16 +153,21 @@ stop() {
     done
 }
 
+case $command in
+    start | address | kill | promote | rejoin | async | sync | stop) ;;
+    *) fail "$USAGE" ;;
+esac
 if [ "$command" = start ]; then
     port=${3:-6401}
 else
+    [ -f "$folder/port" ] || fail "$folder has no servers"
     port=$(cat "$folder/port")
 fi
+command -v initdb > /dev/null || fail "initdb is not installed; Debian has it in postgresql"
 case $command in
     start | promote | rejoin | stop) "$command" ;;
     address) echo "host=127.0.0.1,127.0.0.1,127.0.0.1 port=$port,$((port + 1)),$((port + 2)) user=auction dbname=postgres target_session_attrs=read-write connect_timeout=10" ;;
     kill) kill_primary ;;
     async) wait_for "" ;;
     sync) wait_for "$ANY_ONE" ;;
-    *) fail "$USAGE" ;;
 esac
