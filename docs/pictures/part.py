@@ -1,5 +1,5 @@
 #!/usr/bin/env python3
-"""Draws docs/pictures/part.svg: the way of two parts through the program, read, run, log, reply, and what a crash leaves at each moment.
+"""Draws docs/pictures/part.svg: how two parts go through the program, read, run, log, reply, and what a crash leaves at each moment.
 
     docs/pictures/part.py           writes the picture beside this script
     docs/pictures/part.py --print   writes it to standard output
@@ -12,11 +12,11 @@ from phases import GREY, GROUND, INK, OTHER, SHARD, SLICE, line, text
 WIDTH, HEIGHT = 1000, 400
 CLIENT, PROGRAM, LOG, CRASH = 84, 168, 252, 316
 # Where each part begins, its steps with their widths, and where the picture ends.
-PARTS = ((150, "first part: 3 requests"), (560, "second part: what came meanwhile, 5 requests"))
+PARTS = ((150, "first part: 3 requests"), (560, "second part: 5 requests that arrived meanwhile"))
 STEPS = (("read", 60, OTHER), ("run", 90, OTHER), ("log", 140, SHARD), ("reply", 70, OTHER))
 GAP, END = 6, 984
 
-TITLE = "The way of a part"
+TITLE = "How a part is processed"
 DESCRIPTION = (
     "Time runs to the right, in three lanes: client, program and log. The client sends three requests. The program reads them as a part, runs it, adds its rows to "
     "the log and waits for the sync, and then writes the replies. What the client sent meanwhile is the second part. A crash before the sync of a part ends "
@@ -83,17 +83,17 @@ def clients():
 
 
 def crashes():
-    for begin, _ in PARTS:
-        read, _, log, reply, end = ends(begin)
-        synced = log + 114
+    for at, (begin, _) in enumerate(PARTS):
+        read, _, log, _, end = ends(begin)
+        synced, until = log + 114, min([end + 38, *(later for later, _ in PARTS[at + 1 :])])
         yield f'<rect x="{read}" y="{CRASH - 14}" width="{synced - read}" height="42" fill="{GROUND}"/>'
         yield text((read + synced) / 2, CRASH + 3, "none, some or all rows of this part:", 12)
         yield text((read + synced) / 2, CRASH + 19, "no reply was sent", 12)
-        yield f'<rect x="{synced}" y="{CRASH - 14}" width="{end + 38 - synced}" height="42" fill="{SLICE}"/>'
-        yield text((synced + end + 38) / 2, CRASH + 3, "all rows of", 12)
-        yield text((synced + end + 38) / 2, CRASH + 19, "this part", 12)
+        yield f'<rect x="{synced}" y="{CRASH - 14}" width="{until - synced}" height="42" fill="{SLICE}"/>'
+        yield text((synced + until) / 2, CRASH + 3, "all rows of", 12)
+        yield text((synced + until) / 2, CRASH + 19, "this part", 12)
         yield line(synced, PROGRAM + 18, synced, CRASH + 28, SHARD, 1.2, "2 3")
-    yield text(150, 376, "At the next start a last line that is cut is taken off the log, and its rows open the auction.", 12, "start", "#555555")
+    yield text(150, 376, "At the next start an incomplete last line is removed; the remaining rows restore the auction.", 12, "start", "#555555")
 
 
 def picture():
