@@ -198,11 +198,6 @@ IsUnused key = (shard : ℕ) → (holds_at key shard ≡ false) × (lines_at key
 abbrev pub no_counters : Counters
 no_counters = record { items = 0; bids = 0; comments = 0; buys = 0; commits = 0 }
 
--- with what a worker began: the one pair of a log
-unfoldable pub begun_of : List (Counters × ℕ) → Counters × ℕ
-begun_of [] = (no_counters, 0)
-begun_of (begun ∷ more) = begun
-
 -- With this a worker can start a phase.
 pub record CanStart (w : WorkerState) : Type 0 where
   -- its key holds no shard, and put no line

@@ -37,7 +37,7 @@ returns-clause-after g c =
     let tried = c.try_bid-refused in
     let clocked = c.set_clock.ensures in
     let acts = c.of-3.ensures ∙ c.bid_acts-acts.ensures in
-    let line = line_of c.of.result c.of-2.result c.of-3.result c.of-found.result in
+    let line = line_of c.of.result.value c.of-2.result.value c.of-3.result.value c.of-found.result.value in
     subst (λ (h : HeldState). state_of new ≡ after_line (state_of h.shard) line) c.self.view_is
     (line_done old c.args.number c.args.index (bid_acts c.args.item c.args.bid tried.result) line
     (λ i. line_of (c.of.ensures i) (c.of-2.ensures i) (acts i) (c.of-found.ensures i))
