@@ -9,8 +9,8 @@ use Rattle.record_reading.specs.declared.record.Record.{Record}
 use Rattle.record_reading.specs.declared.inputs.TheConstants.{MOST_RECORDS}
 use Rattle.record_reading.specs.Asking.{Asked, as_row, nothing_asked, with_record}
 use Rattle.auction_reading.specs.declared.plain_text.Progress.{Progress}
-use Rattle.auction_reading.specs.Said.{CanFollow, HasRead, WasRead, begun_after, read_by, with_records}
-use Rattle.auction_reading.specs.Parcels.{CanJoin, joined, nothing_read, read_with, scripts_joined}
+use Rattle.auction_reading.specs.inner.Said.{CanFollow, HasRead, WasRead, begun_after, read_by, with_records}
+use Rattle.auction_reading.specs.inner.Parcels.{CanJoin, joined, nothing_read, read_with, scripts_joined}
 
 -- one record more changes no number of scripts
 count_more : (first : Record) (asked : Asked) → length (with_record first asked).scripts ≡ length asked.scripts

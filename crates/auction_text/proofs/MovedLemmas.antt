@@ -16,7 +16,7 @@ use Rattle.worker_journals.specs.Journals.{entry_worker}
 use Rattle.auction_text.specs.Moved.{Gone, all_moved, line_after, moved}
 use Rattle.auction_text.specs.Order.{comes_before, in_order, put_in, sorted}
 use Rattle.auction_text.specs.Replies.{lines, reply_line}
-use Rattle.auction_text.specs.Workers.{replies_of}
+use Rattle.auction_text.specs.inner.Workers.{replies_of}
 
 more_alike : (k i j : ℕ) → nat_cmp (k + i) (k + j) ≡ nat_cmp i j
 more_alike k i j = elim (cases_order i j) [

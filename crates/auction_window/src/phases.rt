@@ -5,7 +5,7 @@ ghost use mathlib.Core.List.{IsPrefix};
 ghost use Rattle.std.specs.Prelude.{◌≡◌, [], ◌+◌, ◌==◌, ◌<◌, ◌++◌, ◌∷◌, ◌⊎◌, length, MatchBool, IfOk, OnOk, option_to_list};
 ghost use Rattle.auction_rows.specs.History.{rows_of};
 ghost use Rattle.worker_journals.specs.Merged.{merged};
-ghost use Rattle.auction_window.specs.PhaseRule.{head_of};
+ghost use Rattle.auction_window.specs.inner.PhaseRule.{head_of};
 ghost use Rattle.auction_window.specs.Published.{AreComparable};
 
 use auction_rows::{Entry, Row, row_of};
@@ -50,7 +50,7 @@ pub(crate) struct PhaseRule;
 impl Rule<Rows, u64> for PhaseRule {
     ghost use Rattle.std.specs.Prelude.{[]};
     ghost use base.Fml.{ftrue};
-    ghost use Rattle.auction_window.specs.PhaseRule.{IsKept};
+    ghost use Rattle.auction_window.specs.inner.PhaseRule.{IsKept};
 
     ghost holds = { λ cells log. IsKept cells log };
 
@@ -78,7 +78,7 @@ impl Gain<Rows, u64> for NoGain {
 pub(crate) struct Add;
 
 impl Play<Rows, u64> for Add {
-    ghost use Rattle.auction_window.specs.PhaseRule.{Adds};
+    ghost use Rattle.auction_window.specs.inner.PhaseRule.{Adds};
 
     ghost then = { Adds };
 }
@@ -98,7 +98,7 @@ impl Model for PhaseLog {
 
     ghost coded = { book_coded };
 
-    ghost use Rattle.auction_window.specs.PhaseRule.{head_of};
+    ghost use Rattle.auction_window.specs.inner.PhaseRule.{head_of};
 
     ghost view = { λ l. l.seen.book };
 

@@ -22,7 +22,7 @@ use Rattle.run_laws.proofs.CountLemmas.{how_many, how_many-is, count-append}
 use Rattle.worker_journals.specs.Journals.{JournalView}
 use Rattle.worker_journals.specs.Merged.{merged}
 use Rattle.worker_journals.proofs.MergedLemmas.{all_entries, merged_permutes}
-use Rattle.hot_choice.specs.Ranking.{AreWritten, HasHeats, bucket_of, heat_shown, how_often, if_enough}
+use Rattle.hot_choice.specs.inner.Ranking.{AreWritten, HasHeats, bucket_of, heat_shown, how_often, if_enough}
 
 -- ---- the objects that entries write
 

@@ -10,7 +10,7 @@ use Rattle.auction_rows.specs.declared.requests.Object.TheVariants.{Item, User, 
 use Rattle.auction_rows.specs.Orders.{object_cmp}
 use Rattle.hot_choice.specs.contracts.choice.CandidateOrd.TheImpl.{cmp-value as candidate_order}
 use Rattle.hot_choice.specs.declared.choice.Candidate.{Candidate}
-use Rattle.hot_choice.specs.Ranking.{candidate_cmp}
+use Rattle.hot_choice.specs.inner.Ranking.{candidate_cmp}
 
 and_then_equal : (r : Ordering) → r ≡ ordering_then r Equal
 and_then_equal Less = refl

@@ -16,7 +16,7 @@ use Rattle.phase_transactions.specs.Performing.{HasCommitted, HasFailed, HasPerf
 use Rattle.worker_slices.specs.Slicing.{hot_objects, stocks_of, slices_of, slices_after_acts}
 use Rattle.phase_transactions.specs.Txns.{Setting, is_put_off}
 use Rattle.phase_transactions.specs.Workers.{WorkerState, IsEmptyIf, CanStart, IsExplained, setting_of, txn_of, work_of, after_putting_off, with_first_unstashed, with_try}
-use Rattle.phase_permits.specs.Permits.{IsPermit}
+use Rattle.phase_permits.specs.inner.Permits.{IsPermit}
 use Rattle.phase_transactions.specs.Works.{Work, IsWorkOf, with_txn}
 use Rattle.worker_slices.proofs.StockLemmas.{stocks-acts}
 use Rattle.phase_permits.proofs.Keeping.{commit_keeps}

@@ -33,10 +33,10 @@ use Rattle.worker_slices.specs.declared.homes.Homes.{Homes}
 use Rattle.phase_transactions.specs.declared.homes.Taken.{Taken}
 use Rattle.phase_transactions.specs.declared.homes.Taken.TheVariants as taken
 use Rattle.worker_slices.specs.declared.slices.Hot.{Hot}
-use Rattle.phase_transactions.specs.Begun.{IsRefusedBy}
-use Rattle.phase_transactions.specs.Deeds.{IsReplyBy, IsReplyUnless, stock_on, stock_taken}
+use Rattle.phase_transactions.specs.inner.Begun.{IsRefusedBy}
+use Rattle.phase_transactions.specs.inner.Deeds.{IsReplyBy, IsReplyUnless, stock_on, stock_taken}
 use Rattle.worker_slices.specs.Homes.{IsHomeOf, IsWrittenAt, shard_at}
-use Rattle.phase_transactions.specs.Homes.{AreHomesOf, HasHomes}
+use Rattle.phase_transactions.specs.inner.Homes.{AreHomesOf, HasHomes}
 use Rattle.phase_transactions.specs.Performing.{HasStoredOrIsFull, HasStoredSome}
 use Rattle.worker_slices.specs.Slicing.{hot_objects, stocks_of, stock_of, slices_after_acts}
 use Rattle.phase_transactions.specs.Txns.{refusal_by, refusal_seen, reason_seen, stock_seen, is_put_off, IsReplyTo, IsAnswered, ReadSet}

@@ -14,8 +14,8 @@ use Rattle.auction_rows.specs.declared.requests.Request.TheVariants.{StoreBid, S
 use Rattle.item_shards.specs.Events.{Bid, Comment, Buy, Look}
 use Rattle.item_shards.specs.Shown as shown
 use Rattle.shard_boxes.specs.Helds.{HeldState}
-use Rattle.phase_transactions.specs.Begun.{IsAnsweredOn, Step}
-use Rattle.phase_transactions.specs.Deeds.{AreGoodOn}
+use Rattle.phase_transactions.specs.inner.Begun.{IsAnsweredOn, Step}
+use Rattle.phase_transactions.specs.inner.Deeds.{AreGoodOn}
 use Rattle.worker_slices.specs.Homes.{shard_at}
 use Rattle.phase_transactions.specs.Workers.{WorkerState}
 use Rattle.phase_transactions.proofs.GoodLemmas.{bid_good, buy_good, comment_good}

@@ -25,13 +25,13 @@ use Rattle.worker_slices.specs.declared.homes.Home.{Home}
 use Rattle.worker_slices.specs.declared.homes.Home.TheVariants as home
 use Rattle.worker_slices.specs.declared.slices.Hot.{Hot}
 use Rattle.phase_transactions.specs.declared.homes.Begun.{Begun}
-use Rattle.phase_transactions.specs.Begun.{Step, FirstHas, HasBegun, HasFirst, HasRoomFor, IsAnsweredOn, IsSeen}
-use Rattle.phase_transactions.specs.Deeds.{IsReplyBy, IsNextIf, AreDeedsOf, AreGoodOn, acts_for, event_with, found_on, written_of, footprint_on}
+use Rattle.phase_transactions.specs.inner.Begun.{Step, FirstHas, HasBegun, HasFirst, HasRoomFor, IsAnsweredOn, IsSeen}
+use Rattle.phase_transactions.specs.inner.Deeds.{IsReplyBy, IsNextIf, AreDeedsOf, AreGoodOn, acts_for, event_with, found_on, written_of, footprint_on}
 use Rattle.worker_slices.specs.Homes.{IsHomeOf, shard_at}
 use Rattle.phase_transactions.specs.Performing.{HasCommitted, HasFailed, HaveOpening, StoresItem}
 use Rattle.worker_slices.specs.Slicing.{hot_objects, stocks_of, stock_of}
 use Rattle.phase_transactions.specs.Putting.{written_acts, HasPutAll, IsAsTaken}
-use Rattle.phase_transactions.specs.Takens.{footprint_of, held_in, numbers_of, is_one_of, dealt, line_among, CanBeDoneOnAll, AreBack}
+use Rattle.phase_transactions.specs.inner.Takens.{footprint_of, held_in, numbers_of, is_one_of, dealt, line_among, CanBeDoneOnAll, AreBack}
 use Rattle.phase_transactions.specs.Txns.{IsReplyTo, IsAnswered, refusal_by, ReadSet}
 use Rattle.phase_transactions.specs.Workers.{WorkerState, IsLawfulWorker, setting_of, next_item, txn_of, after_commit}
 use Rattle.phase_transactions.proofs.AnswerLemmas.{in_setting, item_home, store_answered}

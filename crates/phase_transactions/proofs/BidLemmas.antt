@@ -29,12 +29,12 @@ use Rattle.worker_slices.specs.declared.homes.Home.{Home}
 use Rattle.worker_slices.specs.declared.homes.Home.TheVariants as home
 use Rattle.phase_transactions.specs.declared.homes.Taken.TheVariants as taken
 use Rattle.worker_slices.specs.declared.slices.Hot.{Hot}
-use Rattle.phase_transactions.specs.Begun.{Step, HasBegun, IsAnsweredOn, IsSeen}
-use Rattle.phase_transactions.specs.Deeds.{IsReplyBy, IsReplyUnless, AreDeedsOf, AreGoodOn, acts_for, deeds_on, event_with, is_at}
+use Rattle.phase_transactions.specs.inner.Begun.{Step, HasBegun, IsAnsweredOn, IsSeen}
+use Rattle.phase_transactions.specs.inner.Deeds.{IsReplyBy, IsReplyUnless, AreDeedsOf, AreGoodOn, acts_for, deeds_on, event_with, is_at}
 use Rattle.phase_transactions.specs.Performing.{HasCommitted, HaveOpening}
 use Rattle.phase_transactions.specs.Putting.{IsAsTaken, IsHeldFor, IsPutWith}
 use Rattle.worker_slices.specs.Slicing.{hot_objects}
-use Rattle.phase_transactions.specs.Takens.{each_once, footprint_of, held_in}
+use Rattle.phase_transactions.specs.inner.Takens.{each_once, footprint_of, held_in}
 use Rattle.worker_slices.specs.Homes.{shard_at}
 use Rattle.worker_slices.specs.Counting.{IsOwn}
 use Rattle.phase_transactions.specs.Workers.{WorkerState, next_bid, after_commit}

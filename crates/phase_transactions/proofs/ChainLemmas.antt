@@ -21,12 +21,12 @@ use Rattle.phase_transactions.specs.declared.transaction.PermitFault.{PermitFaul
 use Rattle.phase_transactions.specs.declared.transaction.PermitFault.TheVariants.{Memory, NumberFull}
 use Rattle.worker_slices.specs.declared.homes.Homes.{Homes}
 use Rattle.phase_transactions.specs.declared.homes.Taken.{Taken}
-use Rattle.phase_transactions.specs.Deeds.{first_dealt, second_dealt, clocks_of, found_on, acts_for, event_with, AreDeedsOf, AreGoodOn, footprint_on}
+use Rattle.phase_transactions.specs.inner.Deeds.{first_dealt, second_dealt, clocks_of, found_on, acts_for, event_with, AreDeedsOf, AreGoodOn, footprint_on}
 use Rattle.phase_transactions.specs.Performing.{HasCommitted, HasFailed, IsCause, StoresItem, asks, shards_asked, greatest_seen}
 use Rattle.phase_transactions.specs.Putting.{clock_seen, HasPutAll, IsAsTaken}
 use Rattle.worker_slices.specs.Slicing.{hot_objects}
 use Rattle.worker_slices.specs.Homes.{shard_at}
-use Rattle.phase_transactions.specs.Takens.{footprint_of, greatest_held, held_in, numbers_of, is_one_of, dealt, line_among, HasTakenAll, AreBack}
+use Rattle.phase_transactions.specs.inner.Takens.{footprint_of, greatest_held, held_in, numbers_of, is_one_of, dealt, line_among, HasTakenAll, AreBack}
 use Rattle.phase_transactions.specs.Txns.{Setting, Txn, hot_of, takes, line_on, greatest_clock, clock_found, clock_in, is_put_off, IsAnswered, ReadSet}
 use Rattle.phase_transactions.specs.Workers.{WorkerState, setting_of, next_item, txn_of, after_commit}
 use Rattle.phase_transactions.proofs.WrittenLemmas.{events_among, dealt_on, line_is, greatest_same, greatest_taken}

@@ -19,7 +19,7 @@ use Rattle.worker_slices.specs.declared.homes.Home.TheVariants as home
 use Rattle.worker_slices.specs.declared.slices.Hot.{Hot}
 use Rattle.worker_slices.specs.Homes.{IsHomeOf}
 use Rattle.worker_slices.specs.Slicing.{hot_objects}
-use Rattle.phase_transactions.specs.Deeds.{is_at, deeds_on, event_with}
+use Rattle.phase_transactions.specs.inner.Deeds.{is_at, deeds_on, event_with}
 
 module _ (hots : List (Object × Hot)) (shards t : ℕ) where
   abbrev Done : Event → Bool

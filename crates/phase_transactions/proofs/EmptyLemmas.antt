@@ -22,7 +22,7 @@ use Rattle.worker_slices.specs.Homes.{IsHotStore, shard_at}
 use Rattle.phase_transactions.specs.Performing.{HasCommitted, HasCommittedSome, HasFailed, HasPerformed, HasStored, HasStoredOrIsFull, HasStoredSome, asks}
 use Rattle.worker_slices.specs.Slicing.{hot_objects, stocks_of}
 use Rattle.phase_transactions.specs.Putting.{HasPutAll}
-use Rattle.phase_transactions.specs.Takens.{each_once, footprint_of, is_one_of, no_line}
+use Rattle.phase_transactions.specs.inner.Takens.{each_once, footprint_of, is_one_of, no_line}
 use Rattle.phase_transactions.specs.Txns.{clock_found, hot_of, takes, greatest_clock, is_put_off}
 use Rattle.phase_transactions.specs.Workers.{WorkerState, IsIdle, setting_of, hot_txn, nothing, after_commit}
 use Rattle.phase_transactions.proofs.AnswerLemmas.{in_setting}

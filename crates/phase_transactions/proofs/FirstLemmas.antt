@@ -20,11 +20,11 @@ use Rattle.worker_slices.specs.declared.slices.Hot.{Hot}
 use Rattle.phase_transactions.specs.declared.homes.Begun.{Begun}
 use Rattle.phase_transactions.specs.declared.homes.Taken.{Taken}
 use Rattle.phase_transactions.specs.declared.homes.Taken.TheVariants as taken
-use Rattle.phase_transactions.specs.Begun.{HasBegun, Step, FirstHas, FirstHasRoom, states_in}
-use Rattle.phase_transactions.specs.Deeds.{stock_on}
+use Rattle.phase_transactions.specs.inner.Begun.{HasBegun, Step, FirstHas, FirstHasRoom, states_in}
+use Rattle.phase_transactions.specs.inner.Deeds.{stock_on}
 use Rattle.worker_slices.specs.Homes.{IsHomeOf, shard_at}
 use Rattle.phase_transactions.specs.Putting.{IsAsTaken}
-use Rattle.phase_transactions.specs.Takens.{each_once, held_in, numbers_of, is_one_of, AreApart}
+use Rattle.phase_transactions.specs.inner.Takens.{each_once, held_in, numbers_of, is_one_of, AreApart}
 use Rattle.phase_transactions.specs.Workers.{WorkerState}
 use Rattle.phase_transactions.proofs.WrittenLemmas.{LieInOne, in_one, in_two}
 use Rattle.phase_transactions.proofs.GoodLemmas.{home_number}

@@ -29,7 +29,7 @@ use Rattle.shard_boxes.proofs.LimitLemmas.{two_fit}
 use Rattle.worker_slices.specs.declared.homes.Home.{Home}
 use Rattle.worker_slices.specs.declared.homes.Home.TheVariants as home
 use Rattle.worker_slices.specs.declared.slices.Hot.{Hot}
-use Rattle.phase_transactions.specs.Deeds.{AreGoodOn, IsGood}
+use Rattle.phase_transactions.specs.inner.Deeds.{AreGoodOn, IsGood}
 use Rattle.worker_slices.specs.Homes.{IsHomeOf, shard_at}
 use Rattle.phase_transactions.specs.Putting.{IsAsTaken}
 use Rattle.phase_transactions.specs.Performing.{HaveOpening}

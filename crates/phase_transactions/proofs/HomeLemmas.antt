@@ -15,7 +15,7 @@ use Rattle.worker_slices.specs.declared.homes.Home.TheVariants as home
 use Rattle.worker_slices.specs.declared.slices.Hot.{Hot}
 use Rattle.worker_slices.specs.Homes.{IsHomeOf, shard_at}
 use Rattle.worker_slices.specs.Slicing.{hot_objects, stocks_of}
-use Rattle.phase_transactions.specs.Takens.{each_once, is_one_of}
+use Rattle.phase_transactions.specs.inner.Takens.{each_once, is_one_of}
 
 -- the hot objects are those of what is fixed
 pub same_objects_of : (hots : List (Object × Hot)) → hot_objects (stocks_of hots) ≡ hot_objects hots

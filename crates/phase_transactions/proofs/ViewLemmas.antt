@@ -36,16 +36,16 @@ use Rattle.worker_slices.specs.declared.slices.Hot.{Hot}
 use Rattle.phase_transactions.specs.declared.homes.Begun.{Begun}
 use Rattle.phase_transactions.specs.declared.homes.Taken.{Taken}
 use Rattle.phase_transactions.specs.declared.homes.Taken.TheVariants as taken
-use Rattle.phase_transactions.specs.Begun.{Step, HasBegun, IsOnOne, look_for, viewed}
-use Rattle.phase_transactions.specs.Deeds.{AreDeedsOf, AreGoodOn, acts_for, found_on, event_with, first_dealt, second_dealt, shown_with}
+use Rattle.phase_transactions.specs.inner.Begun.{Step, HasBegun, IsOnOne, look_for, viewed}
+use Rattle.phase_transactions.specs.inner.Deeds.{AreDeedsOf, AreGoodOn, acts_for, found_on, event_with, first_dealt, second_dealt, shown_with}
 use Rattle.worker_slices.specs.Homes.{IsHomeOf, shard_at}
-use Rattle.phase_transactions.specs.Homes.{AreHomesOf}
+use Rattle.phase_transactions.specs.inner.Homes.{AreHomesOf}
 use Rattle.phase_transactions.specs.Performing.{HasCommittedSome, HaveOpening}
 use Rattle.worker_slices.specs.Slicing.{hot_objects}
 use Rattle.phase_transactions.specs.Putting.{HasPutAll, IsAsTaken}
-use Rattle.phase_transactions.specs.Takens.{each_once, footprint_of, held_in, numbers_of, is_one_of, dealt, line_among}
+use Rattle.phase_transactions.specs.inner.Takens.{each_once, footprint_of, held_in, numbers_of, is_one_of, dealt, line_among}
 use Rattle.phase_transactions.specs.Txns.{IsReplyTo, IsAnswered, is_put_off, reason_seen, refusal_seen, ReadSet}
-use Rattle.phase_transactions.specs.Viewing.{IsShownBy}
+use Rattle.phase_transactions.specs.inner.Viewing.{IsShownBy}
 use Rattle.phase_transactions.specs.Workers.{WorkerState, setting_of, txn_of, with_entry, after_commit}
 use Rattle.phase_transactions.proofs.BegunLemmas.{begun_commits}
 use Rattle.phase_transactions.proofs.DeedLemmas.{done_is, one_owed}

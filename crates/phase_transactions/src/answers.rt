@@ -10,13 +10,13 @@ ghost use Rattle.item_shards.specs.declared.shard.acts.Look.TheVariants as look;
 ghost use Rattle.item_shards.specs.Looking.{IsTrueOf};
 ghost use Rattle.item_shards.specs.ShardContents.{contents};
 ghost use Rattle.worker_slices.specs.declared.counters.Counters.{Counters as CountersValue};
-ghost use Rattle.phase_transactions.specs.Begun.{CanView, FirstHas, IsOnOne, IsRefusedBy, look_for};
-ghost use Rattle.phase_transactions.specs.Deeds.{IsReplyUnless, shown_with};
-ghost use Rattle.phase_transactions.specs.Homes.{HasHomes};
+ghost use Rattle.phase_transactions.specs.inner.Begun.{CanView, FirstHas, IsOnOne, IsRefusedBy, look_for};
+ghost use Rattle.phase_transactions.specs.inner.Deeds.{IsReplyUnless, shown_with};
+ghost use Rattle.phase_transactions.specs.inner.Homes.{HasHomes};
 ghost use Rattle.worker_slices.specs.Homes.{IsHomeOf, shard_at};
 ghost use Rattle.worker_slices.specs.Slicing.{stocks_of, stock_of};
 ghost use Rattle.phase_transactions.specs.Txns.{IsReplyTo};
-ghost use Rattle.phase_transactions.specs.Viewing.{IsShownBy};
+ghost use Rattle.phase_transactions.specs.inner.Viewing.{IsShownBy};
 
 use crate::homes::{Taken, refusal_in};
 use crate::worker::Worker;

@@ -3,8 +3,8 @@ ghost use Rattle.std.specs.Prelude.{◌≡◌, ℕ, false, Option};
 ghost use Rattle.auction_rows.specs.declared.requests.Facts.{Facts as FactsValue};
 ghost use Rattle.auction_rows.specs.Requests.{is_view};
 ghost use Rattle.auction_rows.specs.StoreReplies.{reply_of};
-ghost use Rattle.phase_transactions.specs.Begun.{AreGoodFor, AreOwedBy, HaveFootprint};
-ghost use Rattle.phase_transactions.specs.Deeds.{written_of};
+ghost use Rattle.phase_transactions.specs.inner.Begun.{AreGoodFor, AreOwedBy, HaveFootprint};
+ghost use Rattle.phase_transactions.specs.inner.Deeds.{written_of};
 ghost use Rattle.phase_transactions.specs.Putting.{CanDo, written_acts, line_of, IsHeldFor, IsPutWith};
 ghost use Rattle.phase_transactions.specs.Txns.{IsBid};
 

@@ -9,11 +9,11 @@ ghost use Rattle.item_shards.specs.Answering.{refusal_with};
 ghost use Rattle.item_shards.specs.CommitNumbers.{last_number};
 ghost use Rattle.worker_slices.specs.declared.slices.Hot.{Hot};
 ghost use Rattle.worker_slices.specs.Homes.{IsHomeOf, shard_at};
-ghost use Rattle.phase_transactions.specs.Homes.{AreHomesOf};
-ghost use Rattle.phase_transactions.specs.Takens.{each_once, footprint_of, is_one_of, greatest_held, held_in, numbers_of, dealt, line_among, HasTakenAll, AreHeldAll, AreBack, CanBeDoneOnAll, IsReady};
+ghost use Rattle.phase_transactions.specs.inner.Homes.{AreHomesOf};
+ghost use Rattle.phase_transactions.specs.inner.Takens.{each_once, footprint_of, is_one_of, greatest_held, held_in, numbers_of, dealt, line_among, HasTakenAll, AreHeldAll, AreBack, CanBeDoneOnAll, IsReady};
 ghost use Rattle.worker_slices.specs.Slicing.{hot_objects};
-ghost use Rattle.phase_transactions.specs.Begun.{states_in, FirstHas, FirstHasRoom};
-ghost use Rattle.phase_transactions.specs.Deeds.{stock_taken};
+ghost use Rattle.phase_transactions.specs.inner.Begun.{states_in, FirstHas, FirstHasRoom};
+ghost use Rattle.phase_transactions.specs.inner.Deeds.{stock_taken};
 ghost use Rattle.phase_transactions.specs.Putting.{HasPutAll, written_acts};
 
 use crate::deeds::{Written, put_with_line};

@@ -45,14 +45,14 @@ pub enum Done {
 
 impl<N: PhaseName> Worker<N> {
     ghost use Rattle.worker_slices.specs.declared.homes.Homes.{Homes as HomesValue};
-    ghost use Rattle.phase_transactions.specs.Begun.{step_of, HasBegun, HasFirst, HasRoomFor, IsAnsweredBy, states_in};
-    ghost use Rattle.phase_transactions.specs.Homes.{AreHomesOf, HasHomes};
+    ghost use Rattle.phase_transactions.specs.inner.Begun.{step_of, HasBegun, HasFirst, HasRoomFor, IsAnsweredBy, states_in};
+    ghost use Rattle.phase_transactions.specs.inner.Homes.{AreHomesOf, HasHomes};
     ghost use Rattle.worker_slices.specs.Homes.{IsHotStore, shard_at};
     ghost use Rattle.phase_transactions.specs.Performing.{asks, CanTransact, HasCommitted, HasCommittedSome, HasFailed, HasPerformed, HasStoredOrIsFull, HasStoredSome, HaveOpening, StoresItem};
     ghost use Rattle.worker_slices.specs.Slicing.{hot_objects};
-    ghost use Rattle.phase_transactions.specs.Takens.{footprint_of, is_one_of, IsReady};
+    ghost use Rattle.phase_transactions.specs.inner.Takens.{footprint_of, is_one_of, IsReady};
     ghost use Rattle.phase_transactions.specs.Txns.{is_put_off};
-    ghost use Rattle.phase_transactions.specs.Viewing.{IsShownBy};
+    ghost use Rattle.phase_transactions.specs.inner.Viewing.{IsShownBy};
     ghost use Rattle.phase_transactions.specs.Workers.{next_bid};
 
     /// Performs a request of the quota that is not put off. After a fault nothing has changed but

@@ -36,9 +36,9 @@ use Rattle.phase_floor.specs.Begins.{IsTooLong, empty_stash}
 use Rattle.phase_floor.specs.Closings.{AreReceiptsOf, Leaves, stash_of}
 use Rattle.phase_floor.specs.Floors.{FloorState, IsNewPermit, stash_at}
 use Rattle.phase_floor.specs.States.{JoinedState, states_of, StandsFor}
-use Rattle.run_phases.specs.Closed.{HasClosedPhase}
+use Rattle.run_phases.specs.inner.Closed.{HasClosedPhase}
 use Rattle.run_phases.specs.Phases.{told, IsMet, MayPerform, waiting_in, quota_of}
-use Rattle.run_phases.specs.Serving.{CanPerform, HasBegunPhase, HasEnded}
+use Rattle.run_phases.specs.inner.Serving.{CanPerform, HasBegunPhase, HasEnded}
 use Rattle.phase_workers.specs.declared.round.ServingFault.{ServingFault}
 use Rattle.phase_workers.specs.declared.round.ServingFault.TheVariants as serving
 use Rattle.phase_workers.specs.Tasks.{Task, task, tasks, to_do, calls_for, CanBeDone, HasDoneTask, IsFaultBy, IsFirstFault}

@@ -33,10 +33,10 @@ use Rattle.run_laws.proofs.StepLemmas.{run_begins, phase_runs}
 use Rattle.run_laws.proofs.ScriptLemmas.{past_end}
 use Rattle.run_phases.specs.declared.phase.Running.{Running}
 use Rattle.run_phases.specs.Beginning.{HasQuotas, AreShortFor}
-use Rattle.run_phases.specs.Closed.{HasClosedPhase}
+use Rattle.run_phases.specs.inner.Closed.{HasClosedPhase}
 use Rattle.run_phases.specs.Outcomes.{IsOutcome}
 use Rattle.run_phases.specs.Phases.{hot_sets, waiting_in, quota_of, MayPerform}
-use Rattle.run_phases.specs.Running.{IsRunning, CanGoOn}
+use Rattle.run_phases.specs.inner.Running.{IsRunning, CanGoOn}
 use Rattle.run_phases.proofs.HotThere.{chosen_exist}
 
 -- ---- what a worker committed, and what waits, after one phase more

@@ -15,7 +15,7 @@ ghost use Rattle.run_phases.specs.Beginning.{BeginsWith, CannotBegin, CanShowRun
 ghost use Rattle.run_phases.specs.Boards.{CanShow, HasShownAfter};
 ghost use Rattle.run_phases.specs.Outcomes.{HasShownFirstAfter, IsOutcome};
 ghost use Rattle.run_phases.specs.Phases.{waiting_in, IsPlanOf, IsMet};
-ghost use Rattle.run_phases.specs.Running.{IsRunning, CanGoOn};
+ghost use Rattle.run_phases.specs.inner.Running.{IsRunning, CanGoOn};
 
 use crate::board::Board;
 use crate::faults::RunFault;

@@ -40,7 +40,7 @@ struct Numeral {
 
 impl Model for Numeral {
     ghost use Rattle.std.specs.Prelude.{ℕ};
-    ghost use Rattle.auction_text.specs.Numerals.{HasDigits};
+    ghost use Rattle.auction_text.specs.inner.Numerals.{HasDigits};
 
     ghost Value = { ℕ };
 

@@ -5,7 +5,7 @@ use Rattle.auction_rows.specs.declared.requests.Object.TheVariants.{Item, User, 
 use Rattle.item_shards.specs.ShardContents.{contents}
 use Rattle.item_shards.specs.Values.{Value}
 use Rattle.item_shards.specs.Views.{item_view, bids_view}
-use Rattle.phase_transactions.specs.Begun.{viewed}
+use Rattle.phase_transactions.specs.inner.Begun.{viewed}
 use Rattle.phase_transactions.specs.Txns.{SuitsBids, SuitsItem}
 use Rattle.phase_transactions.proofs.answers.view.Goals as goal
 

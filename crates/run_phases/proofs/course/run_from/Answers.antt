@@ -10,7 +10,7 @@ use Rattle.run_phases.specs.Beginning.{HasShards, HasQuotas, BeginsWith}
 use Rattle.run_phases.specs.Boards.{HasShownAfter}
 use Rattle.run_phases.specs.Outcomes.{HasShownFirstAfter}
 use Rattle.run_phases.specs.Phases.{waiting_in, IsMet}
-use Rattle.run_phases.specs.Running.{IsRunning}
+use Rattle.run_phases.specs.inner.Running.{IsRunning}
 use Rattle.run_phases.proofs.BoardLemmas.{begins_shown, can_show, first_shown, has_shown, next_runs, none_shown, not_shown}
 use Rattle.run_phases.proofs.CourseLemmas.{few_phases_now, phase_now, stashes_now, still_goes_on}
 use Rattle.run_phases.proofs.RunLemmas.{some_given, few_of, left_over, ended, phases_counted}

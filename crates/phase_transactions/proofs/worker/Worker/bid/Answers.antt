@@ -8,8 +8,8 @@ use Rattle.shard_boxes.specs.Helds.{MayPut, taken_at}
 use Rattle.shard_boxes.specs.Keys.{holds_at, putting}
 use Rattle.shard_boxes.specs.Lines.{bid_acts, line_of}
 use Rattle.shard_boxes.specs.States.{state_of}
-use Rattle.phase_transactions.specs.Begun.{step_of}
-use Rattle.phase_transactions.specs.Deeds.{IsReplyUnless}
+use Rattle.phase_transactions.specs.inner.Begun.{step_of}
+use Rattle.phase_transactions.specs.inner.Deeds.{IsReplyUnless}
 use Rattle.worker_slices.specs.Homes.{IsWrittenAt, shard_at}
 use Rattle.phase_transactions.specs.Performing.{HasCommitted, HaveOpening}
 use Rattle.worker_slices.specs.Counting.{IsOwn}

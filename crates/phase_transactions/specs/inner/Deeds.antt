@@ -6,7 +6,7 @@ use Rattle.auction_rows.specs.Replies.{row_of}
 use Rattle.shard_boxes.specs.Helds.{HeldState}
 use Rattle.phase_transactions.specs.declared.deeds.Deeds.{Deeds}
 use Rattle.worker_slices.specs.declared.slices.Hot.{Hot}
-use Rattle.phase_transactions.specs.Takens.{each_once}
+use Rattle.phase_transactions.specs.inner.Takens.{each_once}
 use Rattle.worker_slices.specs.Homes.{shard_at}
 use Rattle.auction_rows.specs.declared.requests.Object.TheVariants.{Item}
 use Rattle.auction_rows.specs.declared.replies.Refusal.{Refusal}

@@ -7,7 +7,7 @@ use Rattle.split_engine.specs.Rules.{Rules, most_acts, index_end}
 use Rattle.split_engine.specs.Serial.{IsWithin}
 use Rattle.split_engine.specs.Splitting.{slices_of, all_merged, joined}
 use Rattle.split_engine.specs.Serving.{calls_before}
-use Rattle.split_engine.specs.Phases.{IsUnused, HasPerformedOnSlices}
+use Rattle.split_engine.specs.inner.Phases.{IsUnused, HasPerformedOnSlices}
 
 -- the table as the phase opened, its hot keys, and a worker, its script, its quota and where it
 -- stands

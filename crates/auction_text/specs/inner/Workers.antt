@@ -6,7 +6,7 @@ use Rattle.auction_rows.specs.declared.rows.Entry.{Entry}
 use Rattle.worker_journals.specs.Journals.{entry_worker}
 use Rattle.auction_text.specs.Order.{comes_before, in_order}
 use Rattle.auction_text.specs.Replies.{lines, reply_line}
-use Rattle.auction_text.specs.Turns.{late}
+use Rattle.auction_text.specs.inner.Turns.{late}
 
 -- a worker's entries that are late, in order
 abbrev pub late_of : List Entry → ℕ → List Entry

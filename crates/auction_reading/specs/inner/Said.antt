@@ -5,7 +5,7 @@ use Rattle.auction_reading.specs.declared.plain_text.Progress.{Progress}
 use Rattle.record_reading.specs.declared.record.Record.{Record}
 use Rattle.record_reading.specs.declared.inputs.TheConstants.{MOST_RECORDS}
 use Rattle.record_reading.specs.Asking.{Asked, asked_of, with_record}
-use Rattle.auction_reading.specs.Progress.{SoFar, unmarked}
+use Rattle.auction_reading.specs.inner.Progress.{SoFar, unmarked}
 use Rattle.auction_reading.specs.Scripts.{records_of}
 
 -- what is asked after these records

@@ -3,7 +3,7 @@ use Rattle.std.specs.Prelude.{ℕ, ◌≡◌, ◌≤◌, ◌<◌, ◌+◌, ◌||
 use Rattle.record_reading.specs.declared.inputs.TheConstants.{MOST_RECORDS}
 use Rattle.auction_rows.specs.declared.requests.Request.{Request}
 use Rattle.record_reading.specs.Asking.{Asked, nothing_asked}
-use Rattle.auction_reading.specs.Said.{HasRead, WasRead, read_by}
+use Rattle.auction_reading.specs.inner.Said.{HasRead, WasRead, read_by}
 use Rattle.auction_reading.specs.declared.parcels.Parcel.{Parcel}
 
 -- of two lists of scripts, each script of the first with that of the second after it

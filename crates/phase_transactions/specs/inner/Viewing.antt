@@ -8,9 +8,9 @@ use Rattle.item_shards.specs.Looking.{IsTrueOf}
 use Rattle.item_shards.specs.ShardContents.{contents}
 use Rattle.worker_slices.specs.declared.counters.Counters.{Counters}
 use Rattle.phase_transactions.specs.declared.homes.Taken.{Taken}
-use Rattle.phase_transactions.specs.Begun.{look_for}
-use Rattle.phase_transactions.specs.Deeds.{shown_with}
-use Rattle.phase_transactions.specs.Takens.{held_in}
+use Rattle.phase_transactions.specs.inner.Begun.{look_for}
+use Rattle.phase_transactions.specs.inner.Deeds.{shown_with}
+use Rattle.phase_transactions.specs.inner.Takens.{held_in}
 use Rattle.phase_transactions.specs.Txns.{IsReplyTo}
 
 -- the shards that were taken show a reply to a view

@@ -25,13 +25,13 @@ use Rattle.worker_slices.specs.declared.homes.Homes.{Homes}
 use Rattle.phase_transactions.specs.declared.homes.Begun.{Begun}
 use Rattle.phase_transactions.specs.declared.homes.Taken.{Taken}
 use Rattle.phase_transactions.specs.declared.homes.Taken.TheVariants as taken
-use Rattle.phase_transactions.specs.Deeds.{IsReplyBy, IsNextIf, AreDeedsOf, AreGoodOn, acts_for, event_with, footprint_on, stock_on}
-use Rattle.phase_transactions.specs.Homes.{AreHomesOf}
+use Rattle.phase_transactions.specs.inner.Deeds.{IsReplyBy, IsNextIf, AreDeedsOf, AreGoodOn, acts_for, event_with, footprint_on, stock_on}
+use Rattle.phase_transactions.specs.inner.Homes.{AreHomesOf}
 use Rattle.phase_transactions.specs.Putting.{IsAsTaken}
 use Rattle.phase_transactions.specs.Performing.{HaveOpening, StoresItem, asks}
 use Rattle.worker_slices.specs.Slicing.{hot_objects, stocks_of, stock_of}
 use Rattle.worker_slices.specs.Homes.{shard_at}
-use Rattle.phase_transactions.specs.Takens.{footprint_of, greatest_held, held_in, is_one_of, HasTakenAll, AreHeldAll}
+use Rattle.phase_transactions.specs.inner.Takens.{footprint_of, greatest_held, held_in, is_one_of, HasTakenAll, AreHeldAll}
 use Rattle.worker_slices.specs.Counting.{IsOwn}
 use Rattle.phase_transactions.specs.Txns.{is_put_off}
 use Rattle.phase_transactions.specs.Workers.{WorkerState, next_item}
