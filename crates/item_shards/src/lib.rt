@@ -14,6 +14,6 @@ pub use laws::{
 pub use openings::{Opened, OpeningBook, ResumeFault};
 pub use serial::SerialAuction;
 pub use shard::acts::{Act, Look};
-pub use shard::answers::refusal_with;
+pub use shard::items::refusal_with;
 pub use shard::slices::{CategorySlice, ItemSlice, Slice, UserSlice};
 pub use shard::{LAST_NUMBER, Shard, next_number};

@@ -8,7 +8,7 @@ ghost use Rattle.item_shards.specs.ShardContents.{LiesIn};
 
 use crate::openings::StoreCounts;
 use crate::shard::Shard;
-use crate::shard::answers::refusal_with;
+use crate::shard::items::refusal_with;
 use auction_rows::{
     BidEntry, BidId, BuyId, CommentId, ItemId, MOST_WORKERS, Opening, Refusal, Reply, Request, Row,
     StoreReply, is_view, item_of, number_refusal, row_of, row_of_store,

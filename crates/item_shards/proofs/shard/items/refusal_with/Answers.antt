@@ -1,7 +1,7 @@
 use Rattle.std.proofs.Common.{◌≡◌, Some, sym, ap, ◌∙◌}
 use Rattle.auction_rows.specs.Refusals.{item_refusal}
 use Rattle.item_shards.specs.Answering.{refusal_with}
-use Rattle.item_shards.proofs.shard.answers.refusal_with.Goals as goal
+use Rattle.item_shards.proofs.shard.items.refusal_with.Goals as goal
 
 pub returns-in-Some : goal.returns-in-Some
 returns-in-Some c =

@@ -1,4 +1,5 @@
-//! The items of a shard, and the bids and purchases, which the shard of their item answers.
+//! The items of a shard: room for one, what is known of it, why it refuses a request, its bids and
+//! purchases.
 ghost use Rattle.std.specs.Prelude.{◌≡◌, ◌+◌, ◌<◌, ◌^◌, IfSome, IfNone, OnOk, OnErr};
 ghost use Rattle.item_shards.specs.Answering.{bid_request, refusal_with, stock_needed, HasItemOf};
 
