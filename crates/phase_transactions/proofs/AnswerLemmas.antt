@@ -30,8 +30,8 @@ use Rattle.phase_transactions.specs.declared.transaction.PermitFault.TheVariants
 use Rattle.worker_slices.specs.declared.homes.Home.{Home}
 use Rattle.worker_slices.specs.declared.homes.Home.TheVariants as home
 use Rattle.worker_slices.specs.declared.homes.Homes.{Homes}
-use Rattle.phase_transactions.specs.declared.homes.Taken.{Taken}
-use Rattle.phase_transactions.specs.declared.homes.Taken.TheVariants as taken
+use Rattle.phase_transactions.specs.declared.taken.Taken.{Taken}
+use Rattle.phase_transactions.specs.declared.taken.Taken.TheVariants as taken
 use Rattle.worker_slices.specs.declared.slices.Hot.{Hot}
 use Rattle.phase_transactions.specs.inner.Begun.{IsRefusedBy}
 use Rattle.phase_transactions.specs.inner.Deeds.{IsReplyBy, IsReplyUnless, stock_on, stock_taken}

@@ -24,7 +24,7 @@ use Rattle.phase_transactions.specs.declared.transaction.PermitFault.TheVariants
 use Rattle.worker_slices.specs.declared.homes.Home.{Home}
 use Rattle.worker_slices.specs.declared.homes.Home.TheVariants as home
 use Rattle.worker_slices.specs.declared.slices.Hot.{Hot}
-use Rattle.phase_transactions.specs.declared.homes.Begun.{Begun}
+use Rattle.phase_transactions.specs.declared.taken.Begun.{Begun}
 use Rattle.phase_transactions.specs.inner.Begun.{Step, FirstHas, HasBegun, HasFirst, HasRoomFor, IsAnsweredOn, IsSeen}
 use Rattle.phase_transactions.specs.inner.Deeds.{IsReplyBy, IsNextIf, AreDeedsOf, AreGoodOn, acts_for, event_with, found_on, written_of, footprint_on}
 use Rattle.worker_slices.specs.Homes.{IsHomeOf, shard_at}

@@ -24,10 +24,10 @@ use Rattle.item_shards.specs.declared.shard.acts.Look.TheVariants as look
 use Rattle.shard_boxes.specs.Helds.{HeldState}
 use Rattle.shard_boxes.specs.Lines.{bid_act, bid_acts, line_of}
 use Rattle.phase_transactions.specs.declared.deeds.Deeds.{Deeds}
-use Rattle.phase_transactions.specs.declared.homes.Begun.{Begun}
+use Rattle.phase_transactions.specs.declared.taken.Begun.{Begun}
 use Rattle.worker_slices.specs.declared.homes.Home.{Home}
 use Rattle.worker_slices.specs.declared.homes.Home.TheVariants as home
-use Rattle.phase_transactions.specs.declared.homes.Taken.TheVariants as taken
+use Rattle.phase_transactions.specs.declared.taken.Taken.TheVariants as taken
 use Rattle.worker_slices.specs.declared.slices.Hot.{Hot}
 use Rattle.phase_transactions.specs.inner.Begun.{Step, HasBegun, IsAnsweredOn, IsSeen}
 use Rattle.phase_transactions.specs.inner.Deeds.{IsReplyBy, IsReplyUnless, AreDeedsOf, AreGoodOn, acts_for, deeds_on, event_with, is_at}

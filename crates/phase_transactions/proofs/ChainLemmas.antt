@@ -20,7 +20,7 @@ use Rattle.phase_transactions.specs.declared.deeds.Deeds.{Deeds}
 use Rattle.phase_transactions.specs.declared.transaction.PermitFault.{PermitFault}
 use Rattle.phase_transactions.specs.declared.transaction.PermitFault.TheVariants.{Memory, NumberFull}
 use Rattle.worker_slices.specs.declared.homes.Homes.{Homes}
-use Rattle.phase_transactions.specs.declared.homes.Taken.{Taken}
+use Rattle.phase_transactions.specs.declared.taken.Taken.{Taken}
 use Rattle.phase_transactions.specs.inner.Deeds.{first_dealt, second_dealt, clocks_of, found_on, acts_for, event_with, AreDeedsOf, AreGoodOn, footprint_on}
 use Rattle.phase_transactions.specs.Performing.{HasCommitted, HasFailed, IsCause, StoresItem, asks, shards_asked, greatest_seen}
 use Rattle.phase_transactions.specs.Putting.{clock_seen, HasPutAll, IsAsTaken}

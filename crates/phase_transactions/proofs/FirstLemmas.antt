@@ -17,9 +17,9 @@ use Rattle.shard_boxes.specs.Lines.{IsShardHistory}
 use Rattle.shard_boxes.specs.States.{ShardState, state_of}
 use Rattle.worker_slices.specs.declared.homes.Home.{Home}
 use Rattle.worker_slices.specs.declared.slices.Hot.{Hot}
-use Rattle.phase_transactions.specs.declared.homes.Begun.{Begun}
-use Rattle.phase_transactions.specs.declared.homes.Taken.{Taken}
-use Rattle.phase_transactions.specs.declared.homes.Taken.TheVariants as taken
+use Rattle.phase_transactions.specs.declared.taken.Begun.{Begun}
+use Rattle.phase_transactions.specs.declared.taken.Taken.{Taken}
+use Rattle.phase_transactions.specs.declared.taken.Taken.TheVariants as taken
 use Rattle.phase_transactions.specs.inner.Begun.{HasBegun, Step, FirstHas, FirstHasRoom, states_in}
 use Rattle.phase_transactions.specs.inner.Deeds.{stock_on}
 use Rattle.worker_slices.specs.Homes.{IsHomeOf, shard_at}

@@ -23,8 +23,8 @@ use Rattle.shard_boxes.specs.Helds.{HeldState}
 use Rattle.shard_boxes.specs.Lines.{first_two}
 use Rattle.worker_slices.specs.declared.homes.Home.{Home}
 use Rattle.worker_slices.specs.declared.homes.Home.TheVariants as home
-use Rattle.phase_transactions.specs.declared.homes.Taken.{Taken}
-use Rattle.phase_transactions.specs.declared.homes.Taken.TheVariants as taken
+use Rattle.phase_transactions.specs.declared.taken.Taken.{Taken}
+use Rattle.phase_transactions.specs.declared.taken.Taken.TheVariants as taken
 use Rattle.phase_transactions.specs.inner.Deeds.{is_at, deeds_on, first_dealt, second_dealt, clocks_of, event_with, IsGood, AreGoodOn}
 use Rattle.phase_transactions.specs.Putting.{alone_in}
 use Rattle.worker_slices.specs.Homes.{shard_at}

@@ -18,7 +18,7 @@ ghost use Rattle.worker_slices.specs.Slicing.{stocks_of, stock_of};
 ghost use Rattle.phase_transactions.specs.Txns.{IsReplyTo};
 ghost use Rattle.phase_transactions.specs.inner.Viewing.{IsShownBy};
 
-use crate::homes::{Taken, refusal_in};
+use crate::taken::{Taken, refusal_in};
 use crate::worker::Worker;
 use auction_rows::{
     BuyId, CommentId, Facts, ItemId, ItemView, Refusal, Reply, Request, StoreReply,

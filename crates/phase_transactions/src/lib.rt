@@ -5,6 +5,7 @@
 mod answers;
 mod deeds;
 mod homes;
+mod taken;
 mod transaction;
 mod worker;
 

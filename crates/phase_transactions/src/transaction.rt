@@ -12,7 +12,7 @@ ghost use Rattle.phase_transactions.specs.Txns.{IsBid};
 
 use crate::answers::{item_on, view_on};
 use crate::deeds::{BidCall, Call, Deeds, Store, View, Written};
-use crate::homes::{Begun, make_room, number_on, put_all, put_back, take_all};
+use crate::taken::{Begun, make_room, number_on, put_all, put_back, take_all};
 use crate::worker::Worker;
 use auction_rows::{BidEntry, Refusal, Reply, Request, StoreReply, number_refusal};
 use item_shards::{Act, Look, next_number, refusal_with};

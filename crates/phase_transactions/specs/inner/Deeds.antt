@@ -33,8 +33,8 @@ use Rattle.item_shards.specs.Values.{stock, stock_facts}
 use Rattle.worker_slices.specs.declared.homes.Home.{Home}
 use Rattle.worker_slices.specs.declared.homes.Home.TheVariants as home
 use Rattle.phase_transactions.specs.declared.deeds.Written.{Written}
-use Rattle.phase_transactions.specs.declared.homes.Taken.{Taken}
-use Rattle.phase_transactions.specs.declared.homes.Taken.TheVariants as taken
+use Rattle.phase_transactions.specs.declared.taken.Taken.{Taken}
+use Rattle.phase_transactions.specs.declared.taken.Taken.TheVariants as taken
 use Rattle.worker_slices.specs.Slicing.{hot_objects}
 use Rattle.phase_transactions.specs.Txns.{IsReplyTo, refusal_by, ReadSet}
 use Rattle.phase_transactions.specs.Workers.{WorkerState, next_item}

@@ -10,8 +10,8 @@ use Rattle.shard_boxes.specs.Lines.{Line, first_two}
 use Rattle.shard_boxes.specs.States.{ShardState}
 use Rattle.worker_slices.specs.declared.homes.Homes.{Homes}
 use Rattle.worker_slices.specs.Homes.{shard_at}
-use Rattle.phase_transactions.specs.declared.homes.Taken.{Taken}
-use Rattle.phase_transactions.specs.declared.homes.Taken.TheVariants as taken
+use Rattle.phase_transactions.specs.declared.taken.Taken.{Taken}
+use Rattle.phase_transactions.specs.declared.taken.Taken.TheVariants as taken
 use Rattle.phase_transactions.specs.Workers.{IsIdle}
 use Rattle.phase_transactions.specs.Putting.{CanDo, alone_in, line_of, HasSameLines, IsAsTaken}
 

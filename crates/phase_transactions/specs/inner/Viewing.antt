@@ -7,7 +7,7 @@ use Rattle.item_shards.specs.declared.shard.acts.Look.{Look}
 use Rattle.item_shards.specs.Looking.{IsTrueOf}
 use Rattle.item_shards.specs.ShardContents.{contents}
 use Rattle.worker_slices.specs.declared.counters.Counters.{Counters}
-use Rattle.phase_transactions.specs.declared.homes.Taken.{Taken}
+use Rattle.phase_transactions.specs.declared.taken.Taken.{Taken}
 use Rattle.phase_transactions.specs.inner.Begun.{look_for}
 use Rattle.phase_transactions.specs.inner.Deeds.{shown_with}
 use Rattle.phase_transactions.specs.inner.Takens.{held_in}

@@ -1,7 +1,7 @@
 use Rattle.std.proofs.Common.{◌≡◌, max, refl, arith}
 use Rattle.item_shards.specs.ShardContents.{clock}
 use Rattle.phase_transactions.proofs.NumberLemmas.{some_number, some_within, none_full}
-use Rattle.phase_transactions.proofs.homes.number_on.Goals as goal
+use Rattle.phase_transactions.proofs.taken.number_on.Goals as goal
 
 pub returns-in-Nothing : goal.returns-in-Nothing
 returns-in-Nothing g c =

@@ -1,5 +1,5 @@
 use Rattle.phase_transactions.proofs.PutAllLemmas.{none_back, back_more}
-use Rattle.phase_transactions.proofs.homes.put_back.Goals as goal
+use Rattle.phase_transactions.proofs.taken.put_back.Goals as goal
 
 pub returns-in-One : goal.returns-in-One
 returns-in-One g c = back_more c.put.new.key (rw c.in-One.is at c.requires) c.put.ensures (λ none. none_back _ none.holds)

@@ -1,4 +1,4 @@
-use Rattle.phase_transactions.proofs.homes.refusal_in.Goals as goal
+use Rattle.phase_transactions.proofs.taken.refusal_in.Goals as goal
 
 pub returns-in-Nothing : goal.returns-in-Nothing
 returns-in-Nothing g c = rw c.in-Nothing.is c.refusal_with.ensures

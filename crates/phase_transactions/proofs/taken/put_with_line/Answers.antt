@@ -1,5 +1,5 @@
 use Rattle.phase_transactions.proofs.PutAllLemmas.{acted_holder, acted_may, acted_put}
-use Rattle.phase_transactions.proofs.deeds.put_with_line.Goals as goal
+use Rattle.phase_transactions.proofs.taken.put_with_line.Goals as goal
 
 pub put_acted-requires-clause-holder : goal.put_acted-requires-clause-holder
 put_acted-requires-clause-holder g c = let made = c.act-trace.ensures in acted_holder c.requires.held c.act-trace.new.self c.act-trace.result made.number made.follows made.after

@@ -1,5 +1,5 @@
 use Rattle.phase_transactions.proofs.PutAllLemmas.{none_put, put_more}
-use Rattle.phase_transactions.proofs.homes.put_all.Goals as goal
+use Rattle.phase_transactions.proofs.taken.put_all.Goals as goal
 
 pub returns-in-One : goal.returns-in-One
 returns-in-One g c = rw c.in-One.is (put_more _ (rw c.in-One.is at c.requires.held) c.put_with_line.ensures (λ none. none_put _ _ none.holds))
