@@ -1,13 +1,13 @@
-//! How a split phase begins.
-ghost use Rattle.std.specs.Prelude.{◌≡◌, IfOk, IfErr, ◌↔◌, IsTrue};
-ghost use Rattle.phase_floor.specs.Begins.{CanBegin, HasRefusedSplit, OpensSplit};
+//! How a joined phase begins, and how a split one does.
+ghost use Rattle.std.specs.Prelude.{◌≡◌, IfOk, IfErr, ◌↔◌, IsTrue, vec_len};
+ghost use Rattle.phase_floor.specs.Begins.{CanBegin, HasRefusedJoined, HasRefusedSplit, OpensJoined, OpensSplit};
 
-use crate::floor::{BeginFault, SplitFloor};
+use crate::floor::{BeginFault, JoinedFloor, SplitFloor};
 use crate::joined::Joined;
 use crate::start::{Stocks, is_too_long, new_stashes};
 use auction_rows::{Facts, Object};
 use indexmap::IndexSet;
-use phase_permits::SplitPermit;
+use phase_permits::{JoinedPermit, SplitPermit, Stash};
 use shard_boxes::PhaseName;
 use std::alloc::{AllocError, Global};
 use std::sync::Wait;
@@ -17,6 +17,33 @@ impl Joined {
     ghost use Rattle.closing_laws.specs.Phases.{IsReadFrom};
     ghost use Rattle.worker_slices.specs.Slicing.{hot_objects, IsStocked};
     ghost use Rattle.phase_floor.specs.States.{DoesExist, DoAllExist, states_of};
+
+    /// Begins a joined phase: a permit for each worker to perform what waits in its stash and its
+    /// quota. The phase is of this state's shards and workers, and its number is below 2^64 - 1. If
+    /// it does not begin, the state and the stashes come back unchanged: `TooLong` if some worker's
+    /// commits, stash and quota are more than the state's limit together, `Memory` if none is left.
+    pub fn begin_joined<N: PhaseName, R: Wait>(
+        self,
+        rt: &R,
+        alloc: Global,
+        quotas: &[u32],
+        stashes: Vec<Stash>,
+    ) -> Result<(JoinedFloor<N>, Vec<JoinedPermit<N>>), (Joined, Vec<Stash>, BeginFault)>
+        requires can { CanBegin N.initial N.workers self quotas.now }
+        requires stashes { vec_len stashes ≡ N.workers }
+        ensures begun { IfOk result (λ begun.
+            OpensJoined self quotas.now stashes.items begun.0 begun.1.items) }
+        ensures refused { IfErr result (λ refused.
+            HasRefusedJoined self stashes quotas.now refused.0 refused.1 refused.2) }
+    {
+        if is_too_long(self.limit, &self.counters, &stashes, quotas) {
+            return Err((self, stashes, BeginFault::TooLong));
+        }
+        match self.begin(rt, alloc, Vec::new(alloc), quotas, stashes) {
+            Ok(begun) => Ok(begun),
+            Err((state, stashes)) => Err((state, stashes, BeginFault::Memory)),
+        }
+    }
 
     /// Begins a split phase: a permit for each worker to perform its quota, with a slice of each
     /// hot object. The phase is of this state's shards and workers, and its number is below 2^64 -
