@@ -1,15 +1,11 @@
 -- What is checked before a run goes on from a state, what it answers, and why it stops.
 use Rattle.std.specs.Prelude.{ℕ, ◌+◌, ◌<◌, ◌≤◌, ◌≡◌, List, Result, Err, length, IfOk, IfErr, OnOk}
 use Rattle.auction_rows.specs.declared.limits.TheConstants.{MOST_OF_A_WORKER}
-use Rattle.auction_rows.specs.declared.requests.Request.{Request}
-use Rattle.auction_rows.specs.declared.rows.Row.{Row}
-use Rattle.auction_rows.specs.declared.values.Opening.{Opening}
-use Rattle.auction_rows.specs.Book.{Book}
+use Rattle.auction_rows.specs.Types.{Policy, Opening, Request, Row, Book}
 use Rattle.auction_rows.specs.History.{book_after}
 use Rattle.auction_window.specs.Published.{book_of}
 use Rattle.closing_laws.specs.Standing.{counters_at, stores}
 use Rattle.phase_floor.specs.States.{JoinedState, IsBookOf}
-use Rattle.auction_rows.specs.declared.limits.Policy.{Policy}
 use Rattle.run_laws.specs.Serving.{script_of}
 use Rattle.run_phases.specs.Beginning.{HasQuotas}
 use Rattle.run_phases.specs.Boards.{HasShownAfter}

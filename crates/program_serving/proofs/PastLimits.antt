@@ -7,10 +7,7 @@ use Rattle.std.proofs.lemmas.List.Elements.{filter_map-append}
 use Rattle.std.proofs.lemmas.List.Sums.{sum_by_push}
 use Rattle.std.specs.List.{cons_option, range_with_len}
 use Rattle.auction_rows.specs.declared.limits.TheConstants.{MOST_OF_A_WORKER}
-use Rattle.auction_rows.specs.declared.requests.Request.{Request}
-use Rattle.auction_rows.specs.declared.rows.Entry.{Entry}
-use Rattle.auction_rows.specs.declared.rows.Row.{Row}
-use Rattle.auction_rows.specs.declared.values.Opening.{Opening}
+use Rattle.auction_rows.specs.Types.{Opening, Request, Row, Entry}
 use Rattle.auction_rows.specs.Book.{Book, worker_of}
 use Rattle.auction_rows.specs.History.{book_after}
 use Rattle.auction_rows.specs.Replies.{reply, row_of}

@@ -1,11 +1,7 @@
 -- What the program answers while requests come.
 use Rattle.std.specs.Prelude.{ℕ, ◌≡◌, ◌==◌, ◌≤◌, ◌+◌, ◌++◌, ◌⊎◌, ◌||◌, Bool, false, List, [], ◌∷◌, Option, None, Some, codes, decimal, flat_map, fold, length, slice_index_or, if◌then◌else◌}
 use Rattle.std.specs.Io.KnownBytes.{Appends, Keeps}
-use Rattle.auction_rows.specs.declared.requests.Object.{Object}
-use Rattle.auction_rows.specs.declared.requests.Request.{Request}
-use Rattle.auction_rows.specs.declared.rows.Entry.{Entry}
-use Rattle.auction_rows.specs.declared.values.Opening.{Opening}
-use Rattle.auction_rows.specs.Book.{Book}
+use Rattle.auction_rows.specs.Types.{Opening, Object, Request, Entry, Book}
 use Rattle.auction_rows.specs.History.{book_after}
 use Rattle.auction_text.specs.FaultLines.{fault_line}
 use Rattle.auction_text.specs.LiveReading.{records_said}

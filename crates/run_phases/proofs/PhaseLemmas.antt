@@ -6,17 +6,13 @@ use Rattle.std.proofs.Math.ListN.{get_or-map}
 use Rattle.std.proofs.Math.Seq.{drop-nil, take-nil}
 use Rattle.std.proofs.lemmas.Bool.{eq-eqb, ne_eqb, cases_lt}
 use Rattle.std.proofs.lemmas.List.{length-map, get_or_past}
-use Rattle.auction_rows.specs.declared.requests.Object.{Object}
-use Rattle.auction_rows.specs.declared.requests.Facts.{Facts}
-use Rattle.auction_rows.specs.declared.requests.Request.{Request}
-use Rattle.auction_rows.specs.declared.rows.Entry.{Entry}
+use Rattle.auction_rows.specs.Types.{Policy, Facts, Object, Request, Entry}
 use Rattle.auction_rows.specs.History.{ReplaysFrom, book_after}
 use Rattle.auction_rows.specs.Phases.{IsNumbered}
 use Rattle.phase_laws.specs.Order.{part}
 use Rattle.run_laws.specs.Phases.{is_split, quota}
 use Rattle.run_laws.specs.Turns.{numbered}
 use Rattle.run_laws.proofs.PartLemmas.{all_of_parts}
-use Rattle.auction_rows.specs.declared.limits.Policy.{Policy}
 use Rattle.run_laws.specs.Run.{first_index, calls_of, calls_given, IsPhasePerformed}
 use Rattle.run_laws.specs.Serving.{call_of, script_of}
 use Rattle.run_laws.proofs.ScriptLemmas.{past_end}

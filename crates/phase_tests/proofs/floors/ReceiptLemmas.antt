@@ -9,8 +9,7 @@ use Rattle.phase_transactions.specs.Workers.{WorkerState, with_try}
 use Rattle.phase_transactions.specs.declared.transaction.Done.{Done}
 use Rattle.phase_transactions.specs.declared.transaction.PermitFault.{PermitFault}
 use Rattle.phase_transactions.specs.Performing.{HasDealtWith, HasFailed, HasCommitted}
-use Rattle.auction_rows.specs.declared.replies.Reply.{Reply}
-use Rattle.auction_rows.specs.declared.requests.Request.{Request}
+use Rattle.auction_rows.specs.Types.{Request, Reply}
 use Rattle.shard_boxes.specs.States.{ShardState}
 
 -- those of the workers from one on

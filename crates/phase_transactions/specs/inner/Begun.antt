@@ -1,13 +1,6 @@
 -- A transaction that has taken its shards, and what its request is answered by.
 use Rattle.std.specs.Prelude.{◌≡◌, ℕ, suc, max, ◌<◌, ◌≤◌, false, List, ◌∷◌, [], Option, None, Some, length, ⊤}
-use Rattle.auction_rows.specs.declared.requests.ItemId.{ItemId}
-use Rattle.auction_rows.specs.declared.requests.Object.{Object}
-use Rattle.auction_rows.specs.declared.requests.Object.TheVariants.{Item, User, Category}
-use Rattle.auction_rows.specs.declared.replies.Refusal.{Refusal}
-use Rattle.auction_rows.specs.declared.replies.Reply.{Reply}
-use Rattle.auction_rows.specs.declared.requests.Facts.{Facts}
-use Rattle.auction_rows.specs.declared.requests.Request.{Request}
-use Rattle.auction_rows.specs.declared.requests.Request.TheVariants.{ViewItem, ViewBids, ViewCategory, ViewUser}
+use Rattle.auction_rows.specs.Types.{ItemId, Facts, Object, Request, Refusal, Reply, Item, User, Category, ViewItem, ViewBids, ViewCategory, ViewUser}
 use Rattle.item_shards.specs.declared.shard.acts.Look.{Look}
 use Rattle.item_shards.specs.declared.shard.acts.Look.TheVariants as look
 use Rattle.auction_rows.specs.Refusals.{number_refusal}

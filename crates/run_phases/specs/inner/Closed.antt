@@ -1,14 +1,11 @@
 -- What a phase of a run leaves.
 use Rattle.std.specs.Prelude.{◌≡◌, ℕ, suc, ◌+◌, ◌<◌, List, ◌++◌, length}
-use Rattle.auction_rows.specs.declared.requests.Object.{Object}
-use Rattle.auction_rows.specs.declared.requests.Request.{Request}
-use Rattle.auction_rows.specs.declared.rows.Entry.{Entry}
+use Rattle.auction_rows.specs.Types.{Policy, Object, Request, Entry}
 use Rattle.auction_rows.specs.Phases.{IsNumbered}
 use Rattle.worker_slices.specs.Stashes.{StashState}
 use Rattle.closing_laws.specs.Standing.{counters_at}
 use Rattle.phase_floor.specs.States.{JoinedState, StandsFor}
 use Rattle.worker_journals.specs.Merged.{added, merged}
-use Rattle.auction_rows.specs.declared.limits.Policy.{Policy}
 use Rattle.run_laws.specs.Books.{ReplaysOn}
 use Rattle.run_laws.specs.Run.{IsPhasePerformed, calls_of}
 use Rattle.run_phases.specs.declared.phase.Running.{Running}

@@ -1,14 +1,11 @@
 -- What a run knows between two phases.
 use Rattle.std.specs.Prelude.{ℕ, ◌+◌, ◌-◌, ◌<◌, ◌≤◌, ◌≡◌, min, List, length, drop}
-use Rattle.auction_rows.specs.declared.values.Opening.{Opening}
-use Rattle.auction_rows.specs.declared.requests.Request.{Request}
-use Rattle.auction_rows.specs.Book.{Book}
+use Rattle.auction_rows.specs.Types.{Policy, Opening, Request, Book}
 use Rattle.auction_rows.specs.History.{IsBook}
 use Rattle.item_shards.specs.OpeningRows.{rows_by}
 use Rattle.closing_laws.specs.Standing.{counters_at}
 use Rattle.phase_floor.specs.States.{StandsFor}
 use Rattle.worker_journals.specs.Merged.{merged}
-use Rattle.auction_rows.specs.declared.limits.Policy.{Policy}
 use Rattle.run_laws.specs.Books.{HasReplayed}
 use Rattle.run_laws.specs.Run.{HasRun, AreChosen, first_index}
 use Rattle.run_laws.specs.Serving.{script_of, segment_of, AreNumbered}

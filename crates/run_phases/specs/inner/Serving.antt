@@ -1,9 +1,7 @@
 -- What the workers of a phase are given, and what they can do with it.
 use Rattle.std.specs.Prelude.{ℕ, ◌≡◌, ◌<◌, Bool, List, length, slice_index}
 use Rattle.std.specs.List.{AllByRecursion, AllZip}
-use Rattle.auction_rows.specs.declared.requests.Object.{Object}
-use Rattle.auction_rows.specs.declared.requests.Request.{Request}
-use Rattle.auction_rows.specs.declared.rows.Entry.{Entry}
+use Rattle.auction_rows.specs.Types.{Policy, Object, Request, Entry}
 use Rattle.shard_boxes.specs.States.{ShardState}
 use Rattle.phase_transactions.specs.Performing.{HaveOpening}
 use Rattle.worker_slices.specs.Slicing.{hot_objects}
@@ -14,7 +12,6 @@ use Rattle.phase_floor.specs.Floors.{FloorState, AreBegun, stash_at}
 use Rattle.phase_floor.specs.States.{JoinedState}
 use Rattle.phase_workers.specs.Tasks.{Task, tasks, CanBeDone, HasDoneTask}
 use Rattle.phase_workers.specs.Working.{ArePermitsOf}
-use Rattle.auction_rows.specs.declared.limits.Policy.{Policy}
 use Rattle.run_laws.specs.Serving.{script_of}
 use Rattle.run_phases.specs.Phases.{waiting_in, quota_of}
 
