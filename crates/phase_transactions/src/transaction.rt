@@ -122,7 +122,7 @@ impl<N: PhaseName> Worker<N> {
         let store = Store {
             call,
             homes: &homes,
-            reply: self.reply(refused, request),
+            reply: self.reply_to_bid(refused, bid),
         };
         self.add_store(number, &store);
         Ok(())
