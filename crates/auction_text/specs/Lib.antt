@@ -1,5 +1,4 @@
 pub mod inner
-pub mod FaultLines
 pub mod Moved
 pub mod Order
 pub mod Replies

@@ -12,7 +12,6 @@ use thiserror::Error;
 use worker_journals::{EntryRef, Script};
 
 pub mod block;
-pub mod fault_lines;
 pub mod output;
 pub mod replies;
 pub mod reply_order;

@@ -3,7 +3,7 @@ use Rattle.std.specs.Prelude.{ℕ, ◌≡◌, ◌==◌, ◌≤◌, ◌+◌, ◌+
 use Rattle.std.specs.Io.KnownBytes.{Appends, Keeps}
 use Rattle.auction_rows.specs.Types.{Opening, Object, Request, Entry, Book}
 use Rattle.auction_rows.specs.History.{book_after}
-use Rattle.auction_text.specs.FaultLines.{fault_line}
+use Rattle.program_serving.specs.FaultLines.{fault_line}
 use Rattle.auction_text.specs.LiveReading.{records_said}
 use Rattle.auction_text.specs.Moved.{Gone, all_moved}
 use Rattle.auction_text.specs.Replies.{labelled}

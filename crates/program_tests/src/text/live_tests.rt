@@ -2,9 +2,9 @@
 use crate::comparing::assert_same;
 use crate::testing::extend;
 use crate::text::part_tests::Pieces;
+use auction_program::push_fault_line;
 use auction_text::{
     Cause, LineFault, LiveEnd, LiveInput, LivePart, MOST_ROWS_OF_A_PART, ReadFault, UntilEnd,
-    push_fault_line,
 };
 use std::alloc::Global;
 use std::fmt::Write;

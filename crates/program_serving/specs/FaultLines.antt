@@ -1,11 +1,11 @@
 -- The texts of faults, and the answers to lines that have one.
 use Rattle.std.specs.Prelude.{ℕ, List, ◌++◌, codes, decimal}
 use Rattle.auction_text.specs.Replies.{labelled}
-use Rattle.record_reading.specs.declared.inputs.Cause.{Cause}
-use Rattle.record_reading.specs.declared.inputs.Cause.TheVariants as cause
-use Rattle.record_reading.specs.declared.inputs.ReadFault.{ReadFault}
-use Rattle.record_reading.specs.declared.inputs.ReadFault.TheVariants as fault
-use Rattle.record_reading.specs.declared.inputs.TheConstants.{MOST_RECORDS}
+use Rattle.auction_text.specs.Cause.{Cause}
+use Rattle.auction_text.specs.Cause.TheVariants as cause
+use Rattle.auction_text.specs.ReadFault.{ReadFault}
+use Rattle.auction_text.specs.ReadFault.TheVariants as fault
+use Rattle.auction_text.specs.InputLimits.{MOST_RECORDS}
 
 abbrev pub cause_text : Cause → List ℕ
 cause_text cause.Number = codes "not a number"

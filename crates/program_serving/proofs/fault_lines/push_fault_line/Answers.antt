@@ -1,8 +1,8 @@
 use Rattle.std.proofs.Common.{◌∙◌, ◌++◌, List, ℕ, ap, append_assoc, codes}
 use Rattle.std.proofs.lemmas.Result.{on_ok_weaker}
-use Rattle.auction_text.specs.FaultLines.{fault_text}
+use Rattle.program_serving.specs.FaultLines.{fault_text}
 use Rattle.auction_text.specs.Replies.{labelled}
-use Rattle.auction_text.proofs.writing.fault_lines.push_fault_line.Goals as goal
+use Rattle.program_serving.proofs.fault_lines.push_fault_line.Goals as goal
 
 pub returns : goal.returns
 returns c =

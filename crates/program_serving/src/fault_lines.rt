@@ -1,9 +1,8 @@
 //! The answers to lines with a fault.
 ghost use Rattle.std.specs.Prelude.{◌≡◌, ◌++◌, OnOk};
-ghost use Rattle.auction_text.specs.FaultLines.{cause_text, fault_line, fault_text, record_text};
+ghost use Rattle.program_serving.specs.FaultLines.{cause_text, fault_line, fault_text, record_text};
 
-use crate::writing::text::{push_labelled, push_number, push_text};
-use record_reading::{Cause, MOST_RECORDS, ReadFault};
+use auction_text::{Cause, MOST_RECORDS, ReadFault, push_labelled, push_number, push_text};
 use std::alloc::AllocError;
 
 fn text_of_cause(cause: Cause) -> &'static [u8]
