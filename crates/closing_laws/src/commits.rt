@@ -15,7 +15,7 @@ ghost use Rattle.shard_boxes.specs.Lines.{Line};
 ghost use Rattle.shard_boxes.specs.Keys.{KeyState, taking, putting, lines_at, added};
 ghost use Rattle.shard_boxes.specs.States.{ShardState};
 ghost use Rattle.worker_slices.specs.declared.counters.Counters.{Counters};
-ghost use Rattle.phase_transactions.specs.declared.transaction.PermitFault.{PermitFault};
+ghost use Rattle.phase_transactions.specs.declared.done.PermitFault.{PermitFault};
 ghost use Rattle.phase_transactions.specs.Performing.{HasCommitted, HasFailed, shards_asked};
 ghost use Rattle.phase_permits.specs.Replying.{CountsOf, SawTrue, StoodFor, HasFixed, IsModelReply};
 ghost use Rattle.worker_slices.specs.Slicing.{slices_of, slices_after_acts, HaveAtMost};

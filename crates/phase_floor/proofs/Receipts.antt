@@ -11,9 +11,9 @@ use Rattle.worker_slices.proofs.Places.{stocks_of_rows}
 use Rattle.phase_transactions.specs.Workers.{with_first_unstashed, with_try, WorkerState}
 use Rattle.phase_transactions.specs.Performing.{HasFailed, HasFailedFirst, HasPerformedFirst, HasDealtWith, HasCommitted}
 use Rattle.worker_slices.proofs.StockLemmas.{stocks-acts}
-use Rattle.phase_transactions.specs.declared.transaction.Done.{Done}
-use Rattle.phase_transactions.specs.declared.transaction.Done.TheVariants.{Committed, Stashed}
-use Rattle.phase_transactions.specs.declared.transaction.PermitFault.{PermitFault}
+use Rattle.phase_transactions.specs.declared.done.Done.{Done}
+use Rattle.phase_transactions.specs.declared.done.Done.TheVariants.{Committed, Stashed}
+use Rattle.phase_transactions.specs.declared.done.PermitFault.{PermitFault}
 use Rattle.closing_laws.specs.Phases.{no_receipt}
 use Rattle.phase_floor.specs.Closings.{IsReceipt, AreReceiptsOf}
 use Rattle.phase_floor.specs.Floors.{FloorState, IsNewPermit, AreBegun}

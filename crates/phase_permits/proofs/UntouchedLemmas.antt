@@ -10,7 +10,7 @@ use Rattle.auction_rows.specs.Requests.{shard_of}
 use Rattle.shard_boxes.specs.Keys.{KeyState, no_seat, seat_at}
 use Rattle.shard_boxes.specs.States.{ShardState}
 use Rattle.phase_transactions.specs.Txns.{hot_of, IsAnswered, ReadSet}
-use Rattle.phase_transactions.specs.declared.transaction.PermitFault.{PermitFault}
+use Rattle.phase_transactions.specs.declared.done.PermitFault.{PermitFault}
 use Rattle.phase_transactions.specs.Performing.{HasCommitted, HasFailed, HasPerformed, IsUntouched, shards_asked}
 use Rattle.phase_transactions.specs.Workers.{WorkerState, setting_of, txn_of}
 

@@ -16,8 +16,8 @@ use Rattle.item_shards.specs.ShardContents.{contents}
 use Rattle.item_shards.specs.Values.{stock}
 use Rattle.item_shards.specs.Writing.{writes_if}
 use Rattle.worker_slices.specs.declared.counters.Counters.{Counters}
-use Rattle.phase_transactions.specs.declared.transaction.PermitFault.{PermitFault}
-use Rattle.phase_transactions.specs.declared.transaction.PermitFault.TheVariants.{Memory, NumberFull}
+use Rattle.phase_transactions.specs.declared.done.PermitFault.{PermitFault}
+use Rattle.phase_transactions.specs.declared.done.PermitFault.TheVariants.{Memory, NumberFull}
 use Rattle.worker_slices.specs.declared.homes.Home.{Home}
 use Rattle.worker_slices.specs.declared.homes.Home.TheVariants as home
 use Rattle.worker_slices.specs.declared.homes.Homes.{Homes}

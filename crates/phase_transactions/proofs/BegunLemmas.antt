@@ -12,7 +12,7 @@ use Rattle.item_shards.specs.ShardContents.{HasItemRoom, clock, contents}
 use Rattle.item_shards.specs.Values.{stock}
 use Rattle.shard_boxes.specs.Helds.{HeldState}
 use Rattle.phase_transactions.specs.declared.deeds.Deeds.{Deeds}
-use Rattle.phase_transactions.specs.declared.transaction.PermitFault.TheVariants.{Memory}
+use Rattle.phase_transactions.specs.declared.done.PermitFault.TheVariants.{Memory}
 use Rattle.worker_slices.specs.declared.homes.Home.{Home}
 use Rattle.worker_slices.specs.declared.homes.Home.TheVariants as home
 use Rattle.worker_slices.specs.declared.slices.Hot.{Hot}

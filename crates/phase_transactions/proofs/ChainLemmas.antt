@@ -14,8 +14,8 @@ use Rattle.shard_boxes.specs.Keys.{KeyState}
 use Rattle.shard_boxes.specs.Lines.{Line, first_two, after_lines}
 use Rattle.shard_boxes.specs.States.{ShardState, state_at}
 use Rattle.phase_transactions.specs.declared.deeds.Deeds.{Deeds}
-use Rattle.phase_transactions.specs.declared.transaction.PermitFault.{PermitFault}
-use Rattle.phase_transactions.specs.declared.transaction.PermitFault.TheVariants.{Memory, NumberFull}
+use Rattle.phase_transactions.specs.declared.done.PermitFault.{PermitFault}
+use Rattle.phase_transactions.specs.declared.done.PermitFault.TheVariants.{Memory, NumberFull}
 use Rattle.worker_slices.specs.declared.homes.Homes.{Homes}
 use Rattle.phase_transactions.specs.declared.taken.Taken.{Taken}
 use Rattle.phase_transactions.specs.inner.Deeds.{first_dealt, second_dealt, clocks_of, found_on, acts_for, event_with, AreDeedsOf, AreGoodOn, footprint_on}

@@ -10,8 +10,8 @@ use Rattle.auction_rows.specs.Refusals.{number_refusal}
 use Rattle.auction_rows.specs.Requests.{shard_of}
 use Rattle.item_shards.specs.CommitNumbers.{last_number}
 use Rattle.shard_boxes.specs.States.{ShardState}
-use Rattle.phase_transactions.specs.declared.transaction.PermitFault.{PermitFault}
-use Rattle.phase_transactions.specs.declared.transaction.PermitFault.TheVariants.{Memory, NumberFull}
+use Rattle.phase_transactions.specs.declared.done.PermitFault.{PermitFault}
+use Rattle.phase_transactions.specs.declared.done.PermitFault.TheVariants.{Memory, NumberFull}
 use Rattle.worker_slices.specs.declared.homes.Homes.{Homes}
 use Rattle.worker_slices.specs.Homes.{IsHotStore, shard_at}
 use Rattle.phase_transactions.specs.Performing.{HasCommitted, HasCommittedSome, HasFailed, HasPerformed, HasStored, HasStoredOrIsFull, HasStoredSome, asks}

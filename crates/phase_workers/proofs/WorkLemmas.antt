@@ -16,7 +16,7 @@ use Rattle.phase_transactions.proofs.HomeLemmas.{same_objects_of}
 use Rattle.phase_transactions.proofs.LawfulLemmas.{objects-acts}
 use Rattle.worker_slices.proofs.StockLemmas.{stocks-acts}
 use Rattle.phase_permits.proofs.PermitLemmas.{none_put_off}
-use Rattle.phase_transactions.specs.declared.transaction.PermitFault.{PermitFault}
+use Rattle.phase_transactions.specs.declared.done.PermitFault.{PermitFault}
 use Rattle.phase_transactions.specs.Performing.{HasFailed, IsCause, HasCommitted, HasFailedFirst, HasDealt, HasPerformedFirstSome}
 use Rattle.phase_laws.proofs.ListLemmas.{all-append}
 use Rattle.job_threads.proofs.ThreadLemmas.{err_as}

@@ -5,7 +5,7 @@ use Rattle.auction_rows.specs.Types.{Object, Request}
 use Rattle.auction_rows.specs.Phases.{is_put_off}
 use Rattle.shard_boxes.specs.States.{ShardState}
 use Rattle.worker_slices.specs.Slicing.{hot_objects, stocks_of}
-use Rattle.phase_transactions.specs.declared.transaction.PermitFault.{PermitFault}
+use Rattle.phase_transactions.specs.declared.done.PermitFault.{PermitFault}
 use Rattle.phase_transactions.specs.Performing.{IsCause}
 use Rattle.phase_transactions.specs.Workers.{WorkerState}
 use Rattle.run_laws.specs.Turns.{numbered}

@@ -20,7 +20,7 @@ use Rattle.shard_boxes.specs.Keys.{BoxId}
 use Rattle.shard_boxes.specs.States.{ShardState, state_of}
 use Rattle.worker_slices.specs.Slicing.{hot_objects, stocks_of, slices_of}
 use Rattle.worker_slices.specs.Stashes.{StashState}
-use Rattle.phase_transactions.specs.declared.transaction.PermitFault.TheVariants as permit
+use Rattle.phase_transactions.specs.declared.done.PermitFault.TheVariants as permit
 use Rattle.phase_transactions.specs.Workers.{WorkerState}
 use Rattle.phase_transactions.specs.Performing.{HaveOpening}
 use Rattle.closing_laws.specs.Phases.{no_receipt, receipt_at, journal_of, counters_of}

@@ -12,7 +12,7 @@ use Rattle.phase_floor.specs.States.{JoinedState, states_of, DoAllExist}
 use Rattle.run_laws.specs.Phases.{is_split, quota}
 use Rattle.run_laws.specs.Run.{first_index}
 use Rattle.run_laws.specs.Serving.{script_of}
-use Rattle.phase_transactions.specs.declared.transaction.PermitFault.TheVariants as worker_fault
+use Rattle.phase_transactions.specs.declared.done.PermitFault.TheVariants as worker_fault
 use Rattle.phase_workers.specs.declared.round.ServingFault.{ServingFault}
 use Rattle.phase_workers.specs.declared.round.ServingFault.TheVariants as serving
 use Rattle.phase_workers.specs.Tasks.{IsFirstFault, tasks}

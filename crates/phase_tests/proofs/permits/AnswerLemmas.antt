@@ -3,7 +3,7 @@ use Rattle.std.proofs.Common.{◌≡◌, ℕ, List, Option, Some, None, Result, 
 use Rattle.std.specs.Prelude.{IfOk, IfErr, IfSome, IfNone}
 use Rattle.auction_rows.specs.Types.{Request, Reply}
 use Rattle.phase_transactions.specs.Workers.{WorkerState, with_try}
-use Rattle.phase_transactions.specs.declared.transaction.PermitFault.{PermitFault}
+use Rattle.phase_transactions.specs.declared.done.PermitFault.{PermitFault}
 use Rattle.phase_transactions.specs.Performing.{HasFailed, HasCommitted, HasPerformedFirst, HasFailedFirst}
 use Rattle.shard_boxes.specs.States.{ShardState}
 

@@ -6,7 +6,7 @@ ghost use Rattle.auction_rows.specs.declared.requests.Object.TheVariants.{Item};
 ghost use Rattle.auction_rows.specs.Footprint.{is_hot};
 ghost use Rattle.auction_rows.specs.Requests.{same_object};
 ghost use Rattle.worker_slices.specs.Slicing.{hot_objects, IsStocked};
-ghost use Rattle.phase_transactions.specs.declared.transaction.Done.TheVariants.{Stashed};
+ghost use Rattle.phase_transactions.specs.declared.done.Done.TheVariants.{Stashed};
 ghost use Rattle.phase_transactions.specs.Workers.{IsUnused};
 ghost use Rattle.phase_transactions.specs.Performing.{HaveOpening};
 
