@@ -27,9 +27,9 @@ use worker_journals::Script;
 /// its workers as `run` does. The history is that of these scripts, and replays from each book of
 /// the state; the state left has the book after it. Phases and indexes count from 0 again, and
 /// nothing is hot at first. `TooLong` is a script of more than 1,000,000 requests, or one that has
-/// with its worker's rows more than the state's limit: 1,000,000, or `MOST_COMMITS` if it lasts. The
-/// first four faults are found first, in their order, exactly for their causes, and give the state
-/// back as it was; after another it is gone.
+/// with its worker's rows more than the state's limit: 1,000,000, or `MOST_COMMITS` if it lasts.
+/// The first four faults are found first, in their order, exactly for their causes, and give the
+/// state back as it was; after another it is gone.
 pub fn run_on<R: Threads + Wait + Sync, G: Gate + Sync>(
     rt: &R,
     alloc: Global,

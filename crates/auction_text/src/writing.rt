@@ -1,5 +1,5 @@
-//! Texts: replies, histories, rows and reports, why one was not written, and what went before a part
-//! of a run.
+//! Texts: replies, histories, rows and reports, why one was not written, and what went before a
+//! part of a run.
 //!
 //! The lines of replies, histories and rows are put together in a `block`; a report is made in
 //! memory.

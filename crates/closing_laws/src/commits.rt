@@ -1,5 +1,5 @@
-//! What slices are of rows, what commits keep, and why their replies are the model's. Each law is what
-//! a function with an empty body ensures.
+//! What slices are of rows, what commits keep, and why their replies are the model's. Each law is
+//! what a function with an empty body ensures.
 ghost use Rattle.std.specs.Prelude.{◌≡◌, ◌<◌, ◌==◌, if◌then◌else◌, ℕ, ◌++◌, ◌∷◌, [], List, Option, length};
 ghost use Rattle.auction_rows.specs.declared.requests.Object.{Object};
 ghost use Rattle.auction_rows.specs.declared.replies.Reply.{Reply};

@@ -1,5 +1,6 @@
-//! The shards of an auction: the shared copies of the records of its objects, what transactions do there, and what views
-//! show. Also the auction of one thread, which is one shard that has every object, and the books that an auction is opened with.
+//! The shards of an auction: the shared copies of the records of its objects, what transactions do
+//! there, and what views show. Also the auction of one thread, which is one shard that has every
+//! object, and the books that an auction is opened with.
 #![tactic(auto)]
 
 mod laws;

@@ -57,8 +57,8 @@ pub fn a_tail_is_a_cut_row()
         is_cut_row (drop whole (take n (rows_text book []))) ≡ true }
 {}
 
-/// Whatever prefix a crash leaves of a log, `open_parts` refuses it only for want of memory, or if a
-/// read or a write fails. It may have more rows than fit into memory.
+/// Whatever prefix a crash leaves of a log, `open_parts` refuses it only for want of memory, or if
+/// a read or a write fails. It may have more rows than fit into memory.
 pub fn a_prefix_is_never_refused()
     ensures { (opening : Opening) (limit workers : ℕ) (book : Book) (n : ℕ) (fault : OpenFault) →
         workers ≤ MOST_WORKERS → IsBook opening book → All (IsWritten workers) book →

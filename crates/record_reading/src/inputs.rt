@@ -13,8 +13,8 @@ use worker_journals::Script;
 /// The most records of an input: as many as a book has rows.
 pub const MOST_RECORDS: u32 = MOST_ROWS as u32;
 
-/// The most rows of a part of an input that is read line by line: rows may flood in before the first
-/// request.
+/// The most rows of a part of an input that is read line by line: rows may flood in before the
+/// first request.
 pub const MOST_ROWS_OF_A_PART: usize = 65_536;
 
 /// What records ask for: the rows that the auction is opened with, and each worker's script.

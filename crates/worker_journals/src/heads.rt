@@ -23,7 +23,8 @@ pub(crate) struct Head {
     pub(crate) reply: ShortReply,
 }
 
-/// A reply; what a view shows lies at a place among what views of its kind show, with a length if it is a list.
+/// A reply; what a view shows lies at a place among what views of its kind show, with a length if
+/// it is a list.
 #[derive(Clone, Copy)]
 pub(crate) enum ShortReply {
     ItemStored(ItemId),

@@ -120,8 +120,8 @@ impl Numeral {
         self.number = number;
     }
 
-    // Puts its digits down at a place, as `put_digits` does: a fixed number of bytes without a call,
-    // and a copy of the digits without a test for overlap.
+    // Puts its digits down at a place, as `put_digits` does: a fixed number of bytes without a
+    // call, and a copy of the digits without a test for overlap.
     #[inline(always)]
     fn put(&self, bytes: &mut [u8], at: usize) -> usize
         requires { at + MOST_DIGITS ≤ length bytes.old }

@@ -8,7 +8,8 @@ use crate::shard::records::ItemRecord;
 use auction_rows::{BidEntry, Facts, ItemId, Quantity, Refusal, Request, item_of, item_refusal};
 use std::alloc::AllocError;
 
-/// The first reason for which an item refuses a request, by its facts and how many are left, if it is stored.
+/// The first reason for which an item refuses a request, by its facts and how many are left, if it
+/// is stored.
 #[inline(always)]
 pub fn refusal_with(stock: &Option<(Facts, u32)>, request: &Request) -> Option<Refusal>
     ensures { result ≡ refusal_with stock.now request.now }
@@ -26,8 +27,8 @@ impl Shard {
     ghost use Rattle.item_shards.specs.Contents.{with_facts, bid_on, bought_of};
     ghost use Rattle.item_shards.specs.ShardContents.{contents, kept, clock, rooms, with_room, LiesIn, HasItemRoom, HasChanged, IsSameShard, ForEachBook, KeepsBooks};
 
-    /// Makes room for an item, which no other call shows. This is the only growth after `new`. Without
-    /// memory nothing has changed.
+    /// Makes room for an item, which no other call shows. This is the only growth after `new`.
+    /// Without memory nothing has changed.
     pub fn prepare_item(&mut self, item: ItemId) -> Result<(), AllocError>
         requires here { LiesIn self.old (Item item) }
         ensures granted { OnOk result (rooms self.new ≡ with_room item (rooms self.old)) }

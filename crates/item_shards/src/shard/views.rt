@@ -16,7 +16,8 @@ impl Shard {
     ghost use Rattle.item_shards.specs.Views.{item_view, bids_view, category_reply, user_reply};
     ghost use Rattle.item_shards.specs.ShardContents.{contents, opening, LiesIn, ForEachBook};
 
-    /// The item with its greatest bid, the number of its bids and what is left; NoSuchItem if it is not stored.
+    /// The item with its greatest bid, the number of its bids and what is left; NoSuchItem if it is
+    /// not stored.
     pub fn view_item(&self, item: ItemId) -> Reply
         requires here { LiesIn self.now (Item item) }
         ensures contents { result ≡ item_view (contents self.now (Item item)) }
