@@ -1,14 +1,13 @@
 -- What the program answers.
 use Rattle.std.specs.Prelude.{ℕ, ◌≡◌, ◌<◌, ◌⊎◌, List, [], ◌++◌, length, Option, Ok, Err, IfSome, IsTrue, if◌then◌else◌}
 use Rattle.std.specs.Io.KnownBytes.{Appends, Keeps}
-use Rattle.auction_rows.specs.Types.{Policy, Opening, Object, Request, Entry, Book}
+use Rattle.auction_rows.specs.Types.{Policy, Opening, Object, Request, Opened, Entry, Book}
 use Rattle.auction_rows.specs.History.{book_after}
 use Rattle.auction_text.specs.Reading.{IsInputFault}
 use Rattle.auction_text.specs.Scripts.{input_of}
 use Rattle.auction_text.specs.Writing.{IsPartWritten}
 use Rattle.auction_text.specs.declared.writing.report.ReportLines.{ReportLines}
 use Rattle.item_shards.specs.OpeningRows.{AreRows, IsFirstBad, IsTooLong, opening_rows}
-use Rattle.item_shards.specs.declared.openings.Opened.{Opened}
 use Rattle.item_shards.specs.declared.openings.ResumeFault.{ResumeFault}
 use Rattle.item_shards.specs.declared.openings.ResumeFault.TheVariants as resume
 use Rattle.run_laws.specs.Answers.{IsAnswer}

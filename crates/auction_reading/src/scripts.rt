@@ -8,9 +8,8 @@ ghost use Rattle.auction_reading.specs.Scripts.{asked_by, input_of};
 ghost use Rattle.record_reading.specs.Asking.{asked_of};
 
 use crate::plain_text::{Progress, add, read_lines};
-use auction_rows::Request;
+use auction_rows::{Opened, Request};
 use csv::{ByteRecord, Reader, ReaderBuilder};
-use item_shards::Opened;
 use record_reading::{
     CompactInput, MOST_RECORDS, ROOM_TO_READ, ReadFault, front_of, read_next, read_record,
 };

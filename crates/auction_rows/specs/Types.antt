@@ -11,6 +11,7 @@ pub use Rattle.auction_rows.specs.declared.requests.BidEntry.{BidEntry}
 pub use Rattle.auction_rows.specs.declared.requests.ItemEntry.{ItemEntry}
 pub use Rattle.auction_rows.specs.declared.requests.Object.{Object}
 pub use Rattle.auction_rows.specs.declared.requests.Request.{Request}
+pub use Rattle.auction_rows.specs.declared.requests.Opened.{Opened}
 pub use Rattle.auction_rows.specs.declared.replies.Refusal.{Refusal}
 pub use Rattle.auction_rows.specs.declared.replies.Reply.{Reply}
 pub use Rattle.auction_rows.specs.declared.replies.StoreReply.{StoreReply}

@@ -8,11 +8,12 @@ mod openings;
 mod serial;
 mod shard;
 
+pub use auction_rows::Opened;
 pub use laws::{
     acts_can_be_done, acts_of_entries, acts_of_rows, counts_of_books, limits_of_books,
     opening_books, values_of_books, views_are_replies,
 };
-pub use openings::{Opened, OpeningBook, ResumeFault};
+pub use openings::{OpeningBook, ResumeFault};
 pub use serial::SerialAuction;
 pub use shard::acts::{Act, Look};
 pub use shard::items::refusal_with;

@@ -8,18 +8,9 @@ ghost use Rattle.item_shards.specs.Limits.{IsWithinLimits};
 ghost use Rattle.item_shards.specs.OpeningRows.{asked_by, IsTooLong, AreFewOfEach, rows_in};
 
 use crate::serial::SerialAuction;
-use auction_rows::{MOST_OF_A_WORKER, MOST_WORKERS, Opening, Request, Row, row_of};
+use auction_rows::{MOST_OF_A_WORKER, MOST_WORKERS, Opened, Opening, Row, row_of};
 use std::alloc::{AllocError, AllocFailed, Global};
 use thiserror::Error;
-
-/// A row that an auction is opened with, as it is handed in: whose store it is, and of what.
-#[derive(Clone, Copy, PartialEq, Eq, Debug)]
-pub struct Opened {
-    /// The worker whose row it is.
-    pub worker: u32,
-    /// The store that it is a row of.
-    pub request: Request,
-}
 
 /// Why requests are not the rows of an auction.
 #[derive(Clone, Copy, Debug, PartialEq, Eq, Drop, Error)]

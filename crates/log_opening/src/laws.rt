@@ -8,7 +8,7 @@ ghost use Rattle.auction_rows.specs.Book.{Book};
 ghost use Rattle.auction_rows.specs.History.{IsBook};
 ghost use Rattle.item_shards.specs.Counting.{worker_of};
 ghost use Rattle.item_shards.specs.OpeningRows.{AreRows, opening_rows, rows_by};
-ghost use Rattle.item_shards.specs.declared.openings.Opened.{Opened};
+ghost use Rattle.auction_rows.specs.declared.requests.Opened.{Opened};
 ghost use Rattle.auction_text.specs.RowLines.{rows_text};
 ghost use Rattle.auction_text.specs.Scripts.{input_of};
 ghost use Rattle.auction_text.specs.InputLimits.{MOST_RECORDS};

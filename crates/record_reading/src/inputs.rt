@@ -4,8 +4,7 @@ ghost use Rattle.record_reading.specs.Reading.{IsInputFault};
 ghost use Rattle.record_reading.specs.Asking.{asked_of, nothing_asked, with_record};
 
 use crate::record::Record;
-use auction_rows::MOST_ROWS;
-use item_shards::Opened;
+use auction_rows::{MOST_ROWS, Opened};
 use std::alloc::Global;
 use thiserror::Error;
 use worker_journals::Script;
