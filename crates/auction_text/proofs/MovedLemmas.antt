@@ -93,13 +93,6 @@ lines_after_none (e ∷ es) =
     let index : 0 + e.index ≡ e.index = omega arith in
     ap₂ (λ (n : ℕ) (l : List ℕ). reply_line (record e { index = n }) ++ l) index (lines_after_none es)
 
--- where the same went before, entries stand in the same places
-pub same_moved : (gone other : Gone) (es : List Entry) → gone.phases ≡ other.phases → ((w : ℕ) → gone.requests w ≡ other.requests w) → all_moved gone es ≡ all_moved other es
-same_moved gone other [] phases requests = refl
-same_moved gone other (e ∷ es) phases requests =
-    ap₂ (λ (p n : ℕ). record e { phase = p + e.phase; index = n + e.index } ∷ all_moved gone es) phases (requests e.worker)
-    ∙ ap (λ (l : List Entry). moved other e ∷ l) (same_moved gone other es phases requests)
-
 -- where nothing went before, entries stand as they are
 pub none_moved : (gone : Gone) (es : List Entry) → gone.phases ≡ 0 → ((w : ℕ) → gone.requests w ≡ 0) → all_moved gone es ≡ es
 none_moved gone [] phases requests = refl

@@ -297,10 +297,6 @@ not_read limit workers opening book text = record {
 pub no_memory : (limit workers : ℕ) (opening : Opening) (book : Book) (text : List ℕ) → IsRefusedIn fault.Memory limit workers opening book text
 no_memory limit workers opening book text = record { bytes = []; behind = text; text_is = refl; few = omega arith; not_rows = tt }
 
--- nor does a write that failed
-pub not_written : (limit workers : ℕ) (opening : Opening) (book : Book) (text : List ℕ) → IsRefusedIn fault.Write limit workers opening book text
-not_written limit workers opening book text = record { bytes = []; behind = text; text_is = refl; few = omega arith; not_rows = tt }
-
 -- a line that is longer than a row is refused
 pub too_long : (limit workers : ℕ) (opening : Opening) (book : Book) (held left : List ℕ) (line : ℕ) → HasNoEnd held → 189 < length held → length held ≤ 65536 → line ≡ length book + 1
     → IsRefusedIn (fault.Long line) limit workers opening book (held ++ left)

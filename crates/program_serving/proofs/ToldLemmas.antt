@@ -53,10 +53,6 @@ pub if_known : (known : Option (List ℕ)) (P : Type 0) → P → IfSome known (
 if_known None P holds = tt
 if_known (Some bytes) P holds = holds
 
--- nothing is known of a log that keeps nothing
-pub if_unknown : (known : Option (List ℕ)) (P : Type 0) → known ≡ None → IfSome known (λ _. P)
-if_unknown known P none = subst (λ o. IfSome o (λ _. P)) (sym none) tt
-
 pub whole_part : (old new : Option (List ℕ)) (text : List ℕ) → Appends old new text → IsPartWritten old new text
 whole_part old new text whole = (length text, subst (Appends old new) (sym (take-length text)) whole)
 

@@ -390,12 +390,6 @@ same_table table hot quota v [] ds = tt
 same_table table hot quota v (s ∷ ss) [] = tt
 same_table table hot quota v (s ∷ ss) (d ∷ ds) = (refl, same_table table hot quota (suc v) ss ds)
 
-pub drop_whole : {X : Type 0} (xs : List X) (k : ℕ) → length xs ≤ k → drop k xs ≡ []
-drop_whole [] zero le = refl
-drop_whole [] (suc k) le = refl
-drop_whole (x ∷ xs) zero le = absurd (omega (arith, le))
-drop_whole (x ∷ xs) (suc k) le = drop_whole xs k (omega (arith, le))
-
 pub if_ok_so : {T E : Type 0} (P Q : T → Type 0) (answer : Result T E) → ((t : T) → P t → Q t) → IfOk answer P → IfOk answer Q
 if_ok_so P Q (Ok t) so h = so t h
 if_ok_so P Q (Err e) so h = tt
