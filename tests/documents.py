@@ -107,9 +107,9 @@ def paths_in_commands(tally: Tally) -> None:
 def files_of_specs(tally: Tally) -> None:
     """files of specs/ that are named with no folder"""
     for document in documents():
-        for names in re.findall(r"`specs/`,? ((?:[A-Z]\w+(?:, | and )?)+)", prose(document)):
+        for folder, names in re.findall(r"`(specs/(?:inner/)?)`,? ((?:[A-Z]\w+(?:, | and )?)+)", prose(document)):
             for name in re.findall(r"[A-Z]\w+", names):
-                tally.check(is_there(f"specs/{name}.antt"), f"{document.name}: specs/{name}.antt is there")
+                tally.check(is_there(f"{folder}{name}.antt"), f"{document.name}: {folder}{name}.antt is there")
 
 
 def links(tally: Tally) -> None:

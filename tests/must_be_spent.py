@@ -17,7 +17,7 @@ from program import DOCUMENTS, Tally
 from tutorial import copy_of_sources
 
 CRATE = "spending"
-LINE = f"{CRATE}: auction_rows shard_boxes phase_permits auction_window left_right crossbeam_utils logbook\n"
+LINE = f"{CRATE}: auction_rows shard_boxes phase_permits auction_window\n"
 HEAD = """//! Functions that let go what has to be spent, or spend it twice.
 #![tactic(auto)]
 

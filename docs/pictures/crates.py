@@ -13,7 +13,7 @@ from phases import GROUND, INK, text
 
 # From the lowest to the highest, each crate with its place across.
 LAYERS = {
-    "theory": {"phase_laws": 420, "ghost_log": 860},
+    "theory": {"phase_laws": 420},
     "model and records": {"auction_rows": 420, "split_records": 670, "top_records": 670, "item_shards": 690, "request_scripts": 540, "worker_journals": 420, "run_laws": 210,
                           "auction_window": 350, "hot_choice": 510, "example_mean": 880},
     "engine": {"job_threads": 320, "split_engine": 180, "example_bank": 150, "example_likes": 286, "application_tests": 450, "shard_boxes": 690, "auction_shards": 770,

@@ -3,16 +3,12 @@ use Rattle.std.proofs.Common.{◌≡◌, ℕ, ◌<◌, List, length, Option, IfS
 use Rattle.std.specs.Prelude.{◌↔◌}
 use Rattle.std.specs.Result.{IsErr, IsErrAnd}
 use Rattle.std.proofs.lemmas.Option.{IfSome_then}
-use Rattle.auction_rows.specs.declared.values.Opening.{Opening}
-use Rattle.auction_rows.specs.declared.requests.Request.{Request}
-use Rattle.auction_rows.specs.Book.{Book}
+use Rattle.auction_rows.specs.Types.{Policy, Opening, Request, Opened, Book}
 use Rattle.auction_text.specs.Scripts.{input_of}
 use Rattle.item_shards.specs.OpeningRows.{AreRows, IsFirstBad, IsTooLong, opening_rows}
-use Rattle.item_shards.specs.declared.openings.Opened.{Opened}
 use Rattle.item_shards.specs.declared.openings.ResumeFault.{ResumeFault}
 use Rattle.item_shards.specs.declared.openings.ResumeFault.TheVariants as resume
 use Rattle.run_laws.specs.Answers.{IsAnswer}
-use Rattle.auction_rows.specs.declared.limits.Policy.{Policy}
 use Rattle.auction_text.specs.declared.writing.WriteFault.{WriteFault}
 use Rattle.program_opening.specs.Options.{commits_text, opening_asked, policy_of}
 use Rattle.auction_program.specs.Execution.{added_text, Answers, IsAllowed, IsCausedBy, IsNotPerformed, IsNotRun, IsRefused, OfInput, Performs}

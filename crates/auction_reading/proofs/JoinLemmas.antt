@@ -3,14 +3,13 @@ use Rattle.std.proofs.Common.{arith, ◌≡◌, ◌||◌, ◌<◌, ◌≤◌, �
 use Rattle.std.specs.Prelude.{replicate, slice_index_or, slice_set, vec_len}
 use Rattle.std.proofs.lemmas.Bool.{cases_Bool}
 use Rattle.std.proofs.lemmas.List.{append-nil, length-set, nil_from_length, take-append-le}
-use Rattle.auction_rows.specs.declared.requests.Request.{Request}
-use Rattle.item_shards.specs.declared.openings.Opened.{Opened}
+use Rattle.auction_rows.specs.Types.{Request, Opened}
 use Rattle.record_reading.specs.declared.record.Record.{Record}
 use Rattle.record_reading.specs.declared.inputs.TheConstants.{MOST_RECORDS}
 use Rattle.record_reading.specs.Asking.{Asked, as_row, nothing_asked, with_record}
 use Rattle.auction_reading.specs.declared.plain_text.Progress.{Progress}
-use Rattle.auction_reading.specs.Said.{CanFollow, HasRead, WasRead, begun_after, read_by, with_records}
-use Rattle.auction_reading.specs.Parcels.{CanJoin, joined, nothing_read, read_with, scripts_joined}
+use Rattle.auction_reading.specs.inner.Said.{CanFollow, HasRead, WasRead, begun_after, read_by, with_records}
+use Rattle.auction_reading.specs.inner.Parcels.{CanJoin, joined, nothing_read, read_with, scripts_joined}
 
 -- one record more changes no number of scripts
 count_more : (first : Record) (asked : Asked) → length (with_record first asked).scripts ≡ length asked.scripts

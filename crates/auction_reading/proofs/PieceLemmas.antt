@@ -3,9 +3,9 @@ use Rattle.std.proofs.Common.{arith, ◌≡◌, ◌<◌, ◌≤◌, ◌+◌, ◌
 use Rattle.std.proofs.lemmas.List.{drop-append-le, drop-drop, get_or-drop, get_or-take, length-drop, length-take-le, take-take}
 use Rattle.record_reading.specs.Lines.{EndsLine}
 use Rattle.auction_reading.specs.declared.plain_text.Progress.{Progress}
-use Rattle.auction_reading.specs.Said.{HasRead, IsUpTo, WasRead, begun_after, read_by, with_records}
+use Rattle.auction_reading.specs.inner.Said.{HasRead, IsUpTo, WasRead, begun_after, read_by, with_records}
 use Rattle.auction_reading.specs.declared.parcels.Parcel.{Parcel}
-use Rattle.auction_reading.specs.Parcels.{IsParcel, nothing_read}
+use Rattle.auction_reading.specs.inner.Parcels.{IsParcel, nothing_read}
 
 -- what is read if there are more bytes behind
 has_read_before : (old new : WasRead) (x y tail : List ℕ) → HasRead old x new y → HasRead old (x ++ tail) new (y ++ tail)

@@ -8,7 +8,7 @@ use Rattle.record_reading.specs.declared.record.Record.{Record}
 use Rattle.record_reading.specs.declared.inputs.CompactInput.{CompactInput}
 use Rattle.record_reading.specs.declared.inputs.ReadFault.{ReadFault}
 use Rattle.record_reading.specs.declared.inputs.TheConstants.{MOST_RECORDS}
-use Rattle.auction_reading.specs.Progress.{IsAtStart, IsReadUpTo, ReadsOn, unmarked}
+use Rattle.auction_reading.specs.inner.Progress.{IsAtStart, IsReadUpTo, ReadsOn, unmarked}
 use Rattle.record_reading.specs.Asking.{asked_of, nothing_asked}
 use Rattle.record_reading.specs.Records.{and_then}
 use Rattle.auction_reading.specs.Scripts.{input_of, read_records, records_of}

@@ -5,8 +5,8 @@ use Rattle.auction_reading.specs.declared.plain_text.Progress.{Progress}
 use Rattle.record_reading.specs.declared.record.Record.{Record}
 use Rattle.record_reading.specs.declared.inputs.TheConstants.{MOST_RECORDS}
 use Rattle.record_reading.specs.Lines.{IsLine}
-use Rattle.auction_reading.specs.Said.{CanFollow, HasRead, IsUpTo, SaysRecords, WasRead, begun_after, read_by, with_records}
-use Rattle.auction_reading.specs.Progress.{HasAdded, ReadsOn, unmarked}
+use Rattle.auction_reading.specs.inner.Said.{CanFollow, HasRead, IsUpTo, SaysRecords, WasRead, begun_after, read_by, with_records}
+use Rattle.auction_reading.specs.inner.Progress.{HasAdded, ReadsOn, unmarked}
 use Rattle.record_reading.specs.Asking.{Asked, asked_of, with_record}
 use Rattle.auction_reading.specs.Scripts.{records_of}
 use Rattle.auction_reading.proofs.ProgressLemmas.{same_if}

@@ -11,7 +11,7 @@ use Rattle.record_reading.specs.declared.record.Record.{Record}
 use Rattle.record_reading.specs.Asking.{Asked, asked_in, with_record}
 use Rattle.record_reading.specs.Records.{and_then, read_record}
 use Rattle.auction_reading.specs.Scripts.{input_of, read_records, records_of}
-use Rattle.auction_reading.specs.Progress.{SoFar}
+use Rattle.auction_reading.specs.inner.Progress.{SoFar}
 use Rattle.record_reading.specs.RecordsLeft.{Left}
 use Rattle.record_reading.proofs.AskingLemmas.{ask_is, ask_more}
 use Rattle.record_reading.proofs.RecordsLeft.{read_end, read_more}

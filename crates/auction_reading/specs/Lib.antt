@@ -1,6 +1,4 @@
-pub mod Parcels
-pub mod Progress
-pub mod Said
+pub mod inner
 pub mod Scripts
 pub mod UntilEnd
 pub use Rattle.record_reading.specs.Reading

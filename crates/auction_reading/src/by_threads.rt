@@ -4,7 +4,7 @@ ghost use Rattle.std.specs.Io.KnownBytes.{IsAtEnd};
 ghost use Rattle.record_reading.specs.Asking.{asked_of};
 ghost use Rattle.record_reading.specs.Reading.{IsInputFault};
 ghost use Rattle.record_reading.specs.declared.inputs.TheConstants.{MOST_RECORDS};
-ghost use Rattle.auction_reading.specs.Progress.{IsReadUpTo, ReadsOn};
+ghost use Rattle.auction_reading.specs.inner.Progress.{IsReadUpTo, ReadsOn};
 ghost use Rattle.auction_reading.specs.Scripts.{input_of};
 
 use crate::parcels::{Parcel, join_parcels, read_parcels};

@@ -3,8 +3,8 @@ ghost use Rattle.std.specs.Prelude.{◌≡◌, ◌≤◌, ◌↔◌, [], length,
 ghost use Rattle.record_reading.specs.Asking.{asked_of};
 ghost use Rattle.record_reading.specs.Reading.{IsInputFault};
 ghost use Rattle.record_reading.specs.declared.inputs.TheConstants.{MOST_RECORDS};
-ghost use Rattle.auction_reading.specs.Parcels.{CanJoin, joined, nothing_read, read_with, scripts_joined};
-ghost use Rattle.auction_reading.specs.Said.{read_by};
+ghost use Rattle.auction_reading.specs.inner.Parcels.{CanJoin, joined, nothing_read, read_with, scripts_joined};
+ghost use Rattle.auction_reading.specs.inner.Said.{read_by};
 
 use crate::plain_text::Progress;
 use record_reading::{CompactInput, MOST_RECORDS, ReadFault};

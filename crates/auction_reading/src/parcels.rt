@@ -3,8 +3,8 @@ ghost use Rattle.std.specs.Prelude.{ℕ, ◌≡◌, ◌<◌, ◌≤◌, drop, le
 ghost use Rattle.record_reading.specs.Lines.{EndsLine};
 ghost use Rattle.record_reading.specs.Reading.{IsInputFault};
 ghost use Rattle.record_reading.specs.declared.inputs.TheConstants.{MOST_RECORDS};
-ghost use Rattle.auction_reading.specs.Said.{HasRead, read_by};
-ghost use Rattle.auction_reading.specs.Parcels.{AreParcels, IsParcel};
+ghost use Rattle.auction_reading.specs.inner.Said.{HasRead, read_by};
+ghost use Rattle.auction_reading.specs.inner.Parcels.{AreParcels, IsParcel};
 
 use crate::joins::{can_join, clear, join};
 use crate::plain_text::{Progress, read_plain};

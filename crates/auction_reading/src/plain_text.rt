@@ -2,8 +2,8 @@
 ghost use Rattle.std.specs.Prelude.{ℕ, ◌≡◌, ◌<◌, ◌≤◌, ◌++◌, ◌⊎◌, drop, false, length, take, Some, vec_len, IfOk, IfErr, List, OnOk};
 ghost use Rattle.std.specs.Io.KnownBytes.{IsAtEnd};
 ghost use Rattle.record_reading.specs.Lines.{EndsLine, IsLine};
-ghost use Rattle.auction_reading.specs.Progress.{HasAdded, ReadsOn};
-ghost use Rattle.auction_reading.specs.Said.{HasRead, read_by};
+ghost use Rattle.auction_reading.specs.inner.Progress.{HasAdded, ReadsOn};
+ghost use Rattle.auction_reading.specs.inner.Said.{HasRead, read_by};
 ghost use Rattle.record_reading.specs.Reading.{IsInputFault};
 ghost use Rattle.record_reading.specs.declared.inputs.TheConstants.{MOST_RECORDS};
 

@@ -1,16 +1,15 @@
 //! The rows and scripts of a whole input.
 ghost use Rattle.std.specs.Prelude.{◌<◌, vec_len, IfErr, OnOk, ℕ, ◌≡◌, ◌≤◌, ◌++◌, true, length, map, IfOk, List, IfSome};
 ghost use Rattle.csv.specs.Reading.{strip_bom};
-ghost use Rattle.auction_reading.specs.Progress.{IsAtStart, IsReadUpTo, unmarked};
+ghost use Rattle.auction_reading.specs.inner.Progress.{IsAtStart, IsReadUpTo, unmarked};
 ghost use Rattle.record_reading.specs.Reading.{IsInputFault, IsPlain};
 ghost use Rattle.record_reading.specs.declared.inputs.TheConstants.{MOST_RECORDS};
 ghost use Rattle.auction_reading.specs.Scripts.{asked_by, input_of};
 ghost use Rattle.record_reading.specs.Asking.{asked_of};
 
 use crate::plain_text::{Progress, add, read_lines};
-use auction_rows::Request;
+use auction_rows::{Opened, Request};
 use csv::{ByteRecord, Reader, ReaderBuilder};
-use item_shards::Opened;
 use record_reading::{
     CompactInput, MOST_RECORDS, ROOM_TO_READ, ReadFault, front_of, read_next, read_record,
 };

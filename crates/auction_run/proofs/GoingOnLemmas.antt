@@ -7,9 +7,7 @@ use Rattle.std.proofs.lemmas.List.Elements.{All-from_recursion, recursion_from_A
 use Rattle.std.proofs.lemmas.List.Sums.{sum_by-append}
 use Rattle.phase_laws.proofs.ListLemmas.{all-append}
 use Rattle.phase_laws.proofs.OrderLemmas.{all-weaker}
-use Rattle.auction_rows.specs.declared.values.Opening.{Opening}
-use Rattle.auction_rows.specs.declared.requests.Request.{Request}
-use Rattle.auction_rows.specs.declared.rows.Entry.{Entry}
+use Rattle.auction_rows.specs.Types.{Policy, Opening, Request, Entry}
 use Rattle.auction_rows.specs.Book.{Book, items_stored, bids_stored, comments_stored, buys_stored, worker_of}
 use Rattle.auction_rows.specs.History.{IsBook, book_after, rows_of}
 use Rattle.auction_rows.proofs.HistoryLemmas.{book_after-replays, longer_book, rows_go_on}
@@ -20,7 +18,6 @@ use Rattle.phase_floor.specs.Resuming.{counters_in}
 use Rattle.phase_floor.specs.States.{JoinedState, StandsFor, IsBookOf}
 use Rattle.phase_floor.proofs.NextRunLemmas.{at_next, many}
 use Rattle.phase_floor.proofs.BookSize.{one_more}
-use Rattle.auction_rows.specs.declared.limits.Policy.{Policy}
 use Rattle.run_laws.specs.Serving.{script_of}
 use Rattle.run_laws.proofs.ScriptLemmas.{past_end}
 use Rattle.run_phases.specs.declared.course.Outcome.{Outcome}

@@ -1,16 +1,16 @@
 -- What is checked before a run goes on from a state, what it answers, and why it stops.
 use Rattle.std.specs.Prelude.{ℕ, ◌+◌, ◌<◌, ◌≤◌, ◌≡◌, List, Result, Err, length, IfOk, IfErr, OnOk}
 use Rattle.auction_rows.specs.declared.limits.TheConstants.{MOST_OF_A_WORKER}
-use Rattle.auction_rows.specs.declared.requests.Request.{Request}
-use Rattle.auction_rows.specs.Book.{Book}
+use Rattle.auction_rows.specs.Types.{Policy, Opening, Request, Row, Book}
 use Rattle.auction_rows.specs.History.{book_after}
+use Rattle.auction_window.specs.Published.{book_of}
 use Rattle.closing_laws.specs.Standing.{counters_at, stores}
 use Rattle.phase_floor.specs.States.{JoinedState, IsBookOf}
-use Rattle.auction_rows.specs.declared.limits.Policy.{Policy}
 use Rattle.run_laws.specs.Serving.{script_of}
 use Rattle.run_phases.specs.Beginning.{HasQuotas}
+use Rattle.run_phases.specs.Boards.{HasShownAfter}
 use Rattle.auction_run.specs.Checks.{IsFirstToFail}
-use Rattle.run_phases.specs.Outcomes.{IsOutcome}
+use Rattle.run_phases.specs.Outcomes.{HasShownFirstAfter, IsOutcome}
 use Rattle.run_phases.specs.Phases.{IsMet}
 use Rattle.run_phases.specs.declared.faults.RunFault.{RunFault}
 use Rattle.auction_run.specs.declared.checks.Stopped.{Stopped}
@@ -81,3 +81,21 @@ pub record AnswersNextRun (state : JoinedState) (policy : Policy) (scripts : Lis
   pub limit : IfOk result (λ outcome. outcome.state.limit ≡ state.limit)
   -- or it says why it stopped
   pub stopped : IfErr result (IsStopped state policy scripts)
+
+-- a board that had the phases of a book of the state has those of the run after them
+abbrev pub HasShownNext : {B : Type 0} → (B → Opening → Book → List (List Row) → Type 0) →
+    JoinedState → B → B → Outcome → Type 0
+HasShownNext has state old new outcome = (rows : Book) (before : List (List Row)) →
+    has old state.opening rows before → IsBookOf state (book_of rows before) →
+    HasShownAfter has state.opening rows before (length outcome.hot.items)
+    outcome.history.entries new
+
+-- the same of a run that stopped: the board has the first phases of such a run after them
+abbrev pub HasShownFirstNext : {B : Type 0} →
+    (has has_refused : B → Opening → Book → List (List Row) → Type 0) →
+    JoinedState → Policy → List (List Request) → B → B → Stopped → Type 0
+HasShownFirstNext has has_refused state policy scripts old new stopped =
+    (rows : Book) (before : List (List Row)) →
+    has old state.opening rows before → IsBookOf state (book_of rows before) →
+    HasShownFirstAfter has has_refused state.opening rows before policy scripts new
+    (fault_of stopped)

@@ -1,13 +1,9 @@
 -- What a run from an opening book on answers, and what its board has then.
 use Rattle.std.specs.Prelude.{◌≡◌, ◌<◌, List, [], Result, length, IfOk, IsErrOf}
 use Rattle.auction_rows.specs.declared.limits.TheConstants.{MOST_OF_A_WORKER}
-use Rattle.auction_rows.specs.declared.values.Opening.{Opening}
-use Rattle.auction_rows.specs.declared.requests.Request.{Request}
-use Rattle.auction_rows.specs.declared.rows.Row.{Row}
-use Rattle.auction_rows.specs.Book.{Book}
+use Rattle.auction_rows.specs.Types.{Policy, Opening, Request, Row, Book}
 use Rattle.auction_rows.specs.History.{book_after}
 use Rattle.phase_floor.specs.States.{IsBookOf}
-use Rattle.auction_rows.specs.declared.limits.Policy.{Policy}
 use Rattle.auction_run.specs.Checks.{IsRefusedInOrder}
 use Rattle.run_phases.specs.Boards.{HasShown}
 use Rattle.run_phases.specs.Phases.{HaveMetLastNumber}

@@ -1,18 +1,13 @@
 //! Runs that go on from what another left, and the parts of a history, which one run after the
 //! other performs, as a law.
 ghost use Rattle.std.specs.Prelude.{List, length, IfOk, IfErr, ◌≡◌, ◌≤◌, ◌++◌, ◌∷◌, []};
-ghost use Rattle.auction_rows.specs.declared.rows.Row.{Row as Stored};
-ghost use Rattle.auction_rows.specs.Book.{Book};
+ghost use Rattle.auction_rows.specs.Types.{Opening, Entry, Book};
 ghost use Rattle.auction_rows.specs.History.{book_after, ReplaysFrom};
-ghost use Rattle.auction_rows.specs.declared.values.Opening.{Opening};
-ghost use Rattle.auction_rows.specs.declared.rows.Entry.{Entry};
 ghost use Rattle.auction_rows.specs.declared.limits.TheConstants.{MOST_WORKERS};
 ghost use Rattle.phase_floor.specs.States.{IsBookOf, JoinedState};
-ghost use Rattle.auction_window.specs.Published.{book_of};
 ghost use Rattle.run_laws.specs.Serving.{lists};
-ghost use Rattle.run_phases.specs.Boards.{HasShownAfter, IsUpToDate};
-ghost use Rattle.run_phases.specs.Outcomes.{HasShownFirstAfter};
-ghost use Rattle.auction_run.specs.GoingOn.{AnswersNextRun, GivesBack, IsReadyFor, fault_of};
+ghost use Rattle.run_phases.specs.Boards.{IsUpToDate};
+ghost use Rattle.auction_run.specs.GoingOn.{AnswersNextRun, GivesBack, HasShownFirstNext, HasShownNext, IsReadyFor};
 ghost use Rattle.auction_run.specs.Parts.{ArePartsFrom, HaveLeft, book_after_parts, history_of};
 
 use crate::checks::{Stopped, check_on};
@@ -30,9 +25,9 @@ use worker_journals::Script;
 /// its workers as `run` does. The history is that of these scripts, and replays from each book of
 /// the state; the state left has the book after it. Phases and indexes count from 0 again, and
 /// nothing is hot at first. `TooLong` is a script of more than 1,000,000 requests, or one that has
-/// with its worker's rows more than the state's limit: 1,000,000, or `MOST_COMMITS` if it lasts. The
-/// first four faults are found first, in their order, exactly for their causes, and give the state
-/// back as it was; after another it is gone.
+/// with its worker's rows more than the state's limit: 1,000,000, or `MOST_COMMITS` if it lasts.
+/// The first four faults are found first, in their order, exactly for their causes, and give the
+/// state back as it was; after another it is gone.
 pub fn run_on<R: Threads + Wait + Sync, G: Gate + Sync>(
     rt: &R,
     alloc: Global,
@@ -63,17 +58,11 @@ pub fn run_on_shown<R: Threads + Wait + Sync, G: Gate + Sync, B: Board>(
 ) -> Result<Outcome, Stopped>
     requires { B.can_be_watched → IsUpToDate B.has board.old state }
     ensures answer { AnswersNextRun state policy (lists scripts.items) result }
-    ensures board { IfOk result (λ outcome. (rows : Book) (before : List (List Stored)) →
-        B.has board.old state.opening rows before → IsBookOf state (book_of rows before) →
-        HasShownAfter B.has state.opening rows before (length outcome.hot.items)
-        outcome.history.entries board.new) }
+    ensures board { IfOk result (HasShownNext B.has state board.old board.new) }
     ensures up_to_date { IfOk result (λ outcome.
         IsUpToDate B.has board.old state → IsUpToDate B.has board.new outcome.state) }
-    ensures board_after_fault { IfErr result (λ stopped.
-        (rows : Book) (before : List (List Stored)) →
-        B.has board.old state.opening rows before → IsBookOf state (book_of rows before) →
-        HasShownFirstAfter B.has B.has_refused state.opening rows before policy
-        (lists scripts.items) board.new (fault_of stopped)) }
+    ensures board_after_fault { IfErr result (HasShownFirstNext B.has B.has_refused state policy
+        (lists scripts.items) board.old board.new) }
     ensures untouched { IfErr result (λ stopped. GivesBack stopped → board.new ≡ board.old) }
 {
     if let Err(fault) = check_on(&state, scripts.as_slice(), policy) {
@@ -114,17 +103,11 @@ pub fn run_compact_on_shown<R: Threads + Wait + Sync, G: Gate + Sync, B: Board>(
 ) -> Result<Outcome, Stopped>
     requires { B.can_be_watched → IsUpToDate B.has board.old state }
     ensures answer { AnswersNextRun state policy scripts.items result }
-    ensures board { IfOk result (λ outcome. (rows : Book) (before : List (List Stored)) →
-        B.has board.old state.opening rows before → IsBookOf state (book_of rows before) →
-        HasShownAfter B.has state.opening rows before (length outcome.hot.items)
-        outcome.history.entries board.new) }
+    ensures board { IfOk result (HasShownNext B.has state board.old board.new) }
     ensures up_to_date { IfOk result (λ outcome.
         IsUpToDate B.has board.old state → IsUpToDate B.has board.new outcome.state) }
-    ensures board_after_fault { IfErr result (λ stopped.
-        (rows : Book) (before : List (List Stored)) →
-        B.has board.old state.opening rows before → IsBookOf state (book_of rows before) →
-        HasShownFirstAfter B.has B.has_refused state.opening rows before policy
-        scripts.items board.new (fault_of stopped)) }
+    ensures board_after_fault { IfErr result (HasShownFirstNext B.has B.has_refused state policy
+        scripts.items board.old board.new) }
     ensures untouched { IfErr result (λ stopped. GivesBack stopped → board.new ≡ board.old) }
 {
     let work = Workload {
@@ -150,17 +133,11 @@ fn run_on_checked<R: Threads + Wait + Sync, G: Gate + Sync, B: Board>(
     requires few { length work.scripts.now ≤ MOST_WORKERS }
     requires board { B.can_be_watched → IsUpToDate B.has board.old state }
     ensures answer { AnswersNextRun state work.entry.policy work.entry.scripts.now result }
-    ensures board { IfOk result (λ outcome. (rows : Book) (before : List (List Stored)) →
-        B.has board.old state.opening rows before → IsBookOf state (book_of rows before) →
-        HasShownAfter B.has state.opening rows before (length outcome.hot.items)
-        outcome.history.entries board.new) }
+    ensures board { IfOk result (HasShownNext B.has state board.old board.new) }
     ensures up_to_date { IfOk result (λ outcome.
         IsUpToDate B.has board.old state → IsUpToDate B.has board.new outcome.state) }
-    ensures board_after_fault { IfErr result (λ stopped.
-        (rows : Book) (before : List (List Stored)) →
-        B.has board.old state.opening rows before → IsBookOf state (book_of rows before) →
-        HasShownFirstAfter B.has B.has_refused state.opening rows before work.entry.policy
-        work.entry.scripts.now board.new (fault_of stopped)) }
+    ensures board_after_fault { IfErr result (HasShownFirstNext B.has B.has_refused state
+        work.entry.policy work.entry.scripts.now board.old board.new) }
 {
     let state = state.for_next_run();
     let outcome = run_from(rt, alloc, state, work, board)?;

@@ -4,7 +4,7 @@ use Rattle.std.proofs.Math.Seq.{get_or-append_seam, take-append-add, take-append
 use Rattle.std.proofs.lemmas.Fmt.{decimal_digit, decimal_nonempty, decimal_step}
 use Rattle.std.proofs.lemmas.Bool.{cases_lt}
 use Rattle.std.proofs.lemmas.List.{get_or-take, length-set, length-take-le, take-append-le, take-take, take_more_set}
-use Rattle.auction_text.specs.Numerals.{HasDigits}
+use Rattle.auction_text.specs.inner.Numerals.{HasDigits}
 
 -- a number has a digit
 pub some_digits : (bytes : List ℕ) (len n : ℕ) → HasDigits bytes len n → n < 2 ^ 64 → 1 ≤ len

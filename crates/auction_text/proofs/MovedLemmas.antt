@@ -10,13 +10,12 @@ use Rattle.std.proofs.lemmas.Bool.Decides.{nat_tests}
 use Rattle.std.proofs.lemmas.List.{get_or-set_other, get_or-set_same, get_or_default, get_or_past}
 use Rattle.std.proofs.lemmas.List.Folds.{flat_map-map}
 use Rattle.phase_laws.specs.Order.{part}
-use Rattle.auction_rows.specs.declared.requests.Request.{Request}
-use Rattle.auction_rows.specs.declared.rows.Entry.{Entry}
+use Rattle.auction_rows.specs.Types.{Request, Entry}
 use Rattle.worker_journals.specs.Journals.{entry_worker}
 use Rattle.auction_text.specs.Moved.{Gone, all_moved, line_after, moved}
 use Rattle.auction_text.specs.Order.{comes_before, in_order, put_in, sorted}
 use Rattle.auction_text.specs.Replies.{lines, reply_line}
-use Rattle.auction_text.specs.Workers.{replies_of}
+use Rattle.auction_text.specs.inner.Workers.{replies_of}
 
 more_alike : (k i j : ℕ) → nat_cmp (k + i) (k + j) ≡ nat_cmp i j
 more_alike k i j = elim (cases_order i j) [
@@ -93,13 +92,6 @@ lines_after_none [] = refl
 lines_after_none (e ∷ es) =
     let index : 0 + e.index ≡ e.index = omega arith in
     ap₂ (λ (n : ℕ) (l : List ℕ). reply_line (record e { index = n }) ++ l) index (lines_after_none es)
-
--- where the same went before, entries stand in the same places
-pub same_moved : (gone other : Gone) (es : List Entry) → gone.phases ≡ other.phases → ((w : ℕ) → gone.requests w ≡ other.requests w) → all_moved gone es ≡ all_moved other es
-same_moved gone other [] phases requests = refl
-same_moved gone other (e ∷ es) phases requests =
-    ap₂ (λ (p n : ℕ). record e { phase = p + e.phase; index = n + e.index } ∷ all_moved gone es) phases (requests e.worker)
-    ∙ ap (λ (l : List Entry). moved other e ∷ l) (same_moved gone other es phases requests)
 
 -- where nothing went before, entries stand as they are
 pub none_moved : (gone : Gone) (es : List Entry) → gone.phases ≡ 0 → ((w : ℕ) → gone.requests w ≡ 0) → all_moved gone es ≡ es

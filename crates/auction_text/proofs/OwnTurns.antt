@@ -11,7 +11,7 @@ use Rattle.auction_rows.specs.declared.rows.Entry.{Entry}
 use Rattle.worker_journals.specs.Journals.{entry_worker}
 use Rattle.auction_text.specs.Order.{comes_before}
 use Rattle.worker_journals.specs.Rising.{EntriesRiseTo, HasPassed}
-use Rattle.auction_text.specs.Turns.{is_late, late}
+use Rattle.auction_text.specs.inner.Turns.{is_late, late}
 use Rattle.auction_text.proofs.TurnLemmas.{late-in_turn}
 
 -- the first index that comes after an entry's

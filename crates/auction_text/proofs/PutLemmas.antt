@@ -1,23 +1,12 @@
 -- Texts that are put one after the other to what waits to be written.
-use Rattle.std.proofs.Common.{arith, ◌≡◌, ◌∙◌, ◌+◌, ◌≤◌, min, ℕ, List, [], ◌++◌, Option, None, Some, Result, Ok, Err, OnOk, IfErr, IsErrAnd, ap, append-nil, append_assoc, length, refl, subst, sym, take}
-use Rattle.std.proofs.KnownBytes.{Appends-nil, Appends-trans, Keeps-trans}
+use Rattle.std.proofs.Common.{arith, ◌≡◌, ◌∙◌, ◌+◌, ◌≤◌, min, ℕ, List, [], ◌++◌, Option, Some, Result, Ok, Err, OnOk, IfErr, IsErrAnd, ap, append-nil, append_assoc, length, refl, subst, sym, take}
+use Rattle.std.proofs.KnownBytes.{Appends-nil, Appends-trans}
 use Rattle.std.proofs.Math.Seq.{take-append-add}
 use Rattle.std.proofs.lemmas.List.{take-append-le, take_min}
-use Rattle.std.specs.Io.KnownBytes.{Appends, Keeps, WriteAppends}
+use Rattle.std.specs.Io.KnownBytes.{Appends}
 use Rattle.auction_text.specs.declared.writing.WriteFault.{WriteFault}
 use Rattle.auction_text.specs.declared.writing.WriteFault.TheVariants.{Write}
 use Rattle.auction_text.specs.Writing.{Adds, IsPartWritten, PutsText, WritesText}
-
--- a write after others that failed
-pub writes_after : {E : Type 0} (old mid new : Option (List ℕ)) (r : Result ℕ E) (part : List ℕ) → Keeps old mid → WriteAppends mid new r part → WriteAppends old new r part
-writes_after old mid new (Ok n) part kept wrote = Appends_after old mid new (take n part) kept wrote
-  where
-    Appends_after : (a b c : Option (List ℕ)) (bs : List ℕ) → Keeps a b → Appends b c bs → Appends a c bs
-    Appends_after None b c bs kept wrote = tt
-    Appends_after (Some xs) None c bs kept wrote = absurd kept
-    Appends_after (Some xs) (Some ys) None bs kept wrote = absurd wrote
-    Appends_after (Some xs) (Some ys) (Some zs) bs kept wrote = wrote ∙ ap (λ (l : List ℕ). l ++ bs) kept
-writes_after old mid new (Err e) part kept same = Keeps-trans old mid new kept same
 
 -- nothing is written
 pub adds_waiting : (c : Option (List ℕ)) (waiting left text : List ℕ) → left ≡ waiting ++ text → Adds c waiting c left text

@@ -6,7 +6,7 @@ use Rattle.std.specs.List.Sorted.{ties}
 use Rattle.std.proofs.lemmas.Bool.{cases_Bool, and_parts}
 use Rattle.std.proofs.lemmas.List.{at_drop_more}
 use Rattle.auction_text.specs.Order.{put_in, sorted}
-use Rattle.auction_text.specs.Turns.{front, in_turn, is_late, late, rest}
+use Rattle.auction_text.specs.inner.Turns.{front, in_turn, is_late, late, rest}
 use Rattle.auction_text.proofs.SortLemmas.{IsUp, NoneBefore, kept_either, none_put_in, none_weaker, not_false, one_in_order, put_in-first, ties-sorted, up-sorted}
 
 -- a list from a place on, by the element there

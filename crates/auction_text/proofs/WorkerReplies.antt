@@ -8,7 +8,7 @@ use Rattle.auction_rows.specs.declared.rows.Entry.{Entry}
 use Rattle.worker_journals.specs.Journals.{entry_worker}
 use Rattle.auction_text.specs.Order.{comes_before, in_order}
 use Rattle.auction_text.specs.Replies.{lines, replies_text, reply_line}
-use Rattle.auction_text.specs.Workers.{AreEach, replies_of}
+use Rattle.auction_text.specs.inner.Workers.{AreEach, replies_of}
 use Rattle.auction_text.proofs.PartLemmas.{below, below_all, below_none, in_order_more}
 use Rattle.auction_text.proofs.SortLemmas.{sorted-nil}
 

@@ -1,12 +1,9 @@
-pub mod FaultLines
+pub mod inner
 pub mod Moved
-pub mod Numerals
 pub mod Order
 pub mod Replies
 pub mod Report
 pub mod RowLines
-pub mod Turns
-pub mod Workers
 pub mod Writing
 pub use Rattle.auction_reading.specs.Scripts
 pub use Rattle.live_reading.specs.LiveLines

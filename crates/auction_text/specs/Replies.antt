@@ -2,12 +2,8 @@
 use Rattle.std.specs.Prelude.{ℕ, ℤ, List, ◌++◌, codes, decimal, Option, Some, None}
 use Rattle.std.specs.Fmt.{signed_decimal}
 use Rattle.std.specs.List.{flat_map}
-use Rattle.auction_rows.specs.declared.rows.Entry.{Entry}
-use Rattle.auction_rows.specs.declared.replies.BidShown.{BidShown}
-use Rattle.auction_rows.specs.declared.replies.ItemShown.{ItemShown}
-use Rattle.auction_rows.specs.declared.replies.Refusal.{Refusal}
+use Rattle.auction_rows.specs.Types.{Refusal, Reply, BidShown, ItemShown, Entry}
 use Rattle.auction_rows.specs.declared.replies.Refusal.TheVariants as refusal
-use Rattle.auction_rows.specs.declared.replies.Reply.{Reply}
 use Rattle.auction_rows.specs.declared.replies.Reply.TheVariants as reply
 use Rattle.auction_text.specs.Order.{in_order}
 

@@ -14,7 +14,6 @@ pub use record_reading::{
     Cause, CompactInput, MOST_RECORDS, MOST_ROWS_OF_A_PART, ReadFault, read_u64,
 };
 pub use writing::block::TextBlock;
-pub use writing::fault_lines::push_fault_line;
 pub use writing::output::{
     write_history, write_history_on, write_replies, write_replies_by, write_replies_by_threads,
     write_replies_on, write_report, write_rows,

@@ -1,5 +1,5 @@
-//! Texts: replies, histories, rows and reports, why one was not written, and what went before a part
-//! of a run.
+//! Texts: replies, histories, rows and reports, why one was not written, and what went before a
+//! part of a run.
 //!
 //! The lines of replies, histories and rows are put together in a `block`; a report is made in
 //! memory.
@@ -12,7 +12,6 @@ use thiserror::Error;
 use worker_journals::{EntryRef, Script};
 
 pub mod block;
-pub mod fault_lines;
 pub mod output;
 pub mod replies;
 pub mod reply_order;

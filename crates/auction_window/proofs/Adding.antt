@@ -6,7 +6,7 @@ use mathlib.Core.List.{IsPrefix}
 use prog.Atomic.{either}
 use Rattle.logbook.specs.Pages.{Cell, cell, keeps, no_nib, step, Moves, Goes}
 use Rattle.auction_rows.specs.declared.rows.Row.{Row}
-use Rattle.auction_window.specs.PhaseRule.{IsKept, Adds}
+use Rattle.auction_window.specs.inner.PhaseRule.{IsKept, Adds}
 use Rattle.auction_window.proofs.Prefixes.{prefix_whole}
 
 abbrev pub shown : List (List Row) → List (List Row)

@@ -1,4 +1,5 @@
-//! The auction that windows read, of which there are two copies, and how a copy takes in one phase more.
+//! The auction that windows read, of which there are two copies, and how a copy takes in one phase
+//! more.
 ghost use Rattle.std.specs.Prelude.{◌≡◌, ◌++◌, ◌∷◌, [], List, IfOk, IfSome};
 ghost use mathlib.Core.List.{IsPrefix};
 ghost use Rattle.auction_rows.specs.Replies.{reply};
@@ -12,7 +13,8 @@ use left_right::Absorb;
 use std::alloc::{AllocError, Global};
 use std::marker::Model;
 
-/// The operation on a copy: the rows of one phase, with the phases up to it. Contracts see these phases.
+/// The operation on a copy: the rows of one phase, with the phases up to it. Contracts see these
+/// phases.
 #[derive(Drop)]
 pub struct AddPhase<J: WindowName> {
     rows: Vec<Row>,
@@ -40,9 +42,9 @@ impl<J: WindowName> AddPhase<J> {
     }
 }
 
-/// One of the two copies of the auction, with the phases whose rows it has. Contracts see these phases. Where memory was
-/// refused for a phase the auction is gone, and such a copy takes in nothing more. `left_right` shows a copy only once it
-/// has absorbed all.
+/// One of the two copies of the auction, with the phases whose rows it has. Contracts see these
+/// phases. Where memory was refused for a phase the auction is gone, and such a copy takes in
+/// nothing more. `left_right` shows a copy only once it has absorbed all.
 #[derive(Drop)]
 pub struct AuctionCopy<J: WindowName> {
     auction: Option<SerialAuction>,
@@ -80,8 +82,8 @@ impl<J: WindowName> AuctionCopy<J> {
         })
     }
 
-    // The reply to a view, with the phases that the copy has. None comes where it lacks phases that are known, or its auction
-    // is gone: neither is so of a copy that windows read.
+    // The reply to a view, with the phases that the copy has. None comes where it lacks phases that
+    // are known, or its auction is gone: neither is so of a copy that windows read.
     pub(crate) fn view(&self, known: &Prefix<J>, request: Request) -> Option<(Prefix<J>, Reply)>
         ensures onward { IfSome result (λ seen. IsPrefix known.now seen.0) }
         ensures reply { IfSome result (λ seen. seen.1 ≡ reply J.opening (book_of J.rows seen.0) 0 request) }

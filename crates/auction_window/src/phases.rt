@@ -5,7 +5,7 @@ ghost use mathlib.Core.List.{IsPrefix};
 ghost use Rattle.std.specs.Prelude.{◌≡◌, [], ◌+◌, ◌==◌, ◌<◌, ◌++◌, ◌∷◌, ◌⊎◌, length, MatchBool, IfOk, OnOk, option_to_list};
 ghost use Rattle.auction_rows.specs.History.{rows_of};
 ghost use Rattle.worker_journals.specs.Merged.{merged};
-ghost use Rattle.auction_window.specs.PhaseRule.{head_of};
+ghost use Rattle.auction_window.specs.inner.PhaseRule.{head_of};
 ghost use Rattle.auction_window.specs.Published.{AreComparable};
 
 use auction_rows::{Entry, Row, row_of};
@@ -14,11 +14,11 @@ use std::alloc::{AllocError, Global};
 use std::marker::{Brand, Model, PhantomData};
 use worker_journals::History;
 
-/// Names the list of phases that a publisher and its windows share, and the book before the first of them, so that a
-/// window learns only from its own publisher. Who makes a publisher is generic in the name, and is called with `Brand`.
+/// Names the list of phases that a publisher and its windows share, and the book before the first
+/// of them, so that a window learns only from its own publisher. Who makes a publisher is generic
+/// in the name, and is called with `Brand`.
 pub trait WindowName {
-    ghost use Rattle.auction_rows.specs.declared.values.Opening.{Opening};
-    ghost use Rattle.auction_rows.specs.Book.{Book};
+    ghost use Rattle.auction_rows.specs.Types.{Opening, Book};
     ghost use Rattle.logbook.specs.Pages as pages;
 
     /// The list of phases.
@@ -41,7 +41,8 @@ impl WindowName for Brand {
     ghost rows = { [] };
 }
 
-// The rows of a phase. A clause reads an array as a list of any length, and no value of this type is made.
+// The rows of a phase. A clause reads an array as a list of any length, and no value of this type
+// is made.
 pub(crate) type Rows = [Row; 0];
 
 // The rule of the list.
@@ -50,7 +51,7 @@ pub(crate) struct PhaseRule;
 impl Rule<Rows, u64> for PhaseRule {
     ghost use Rattle.std.specs.Prelude.{[]};
     ghost use base.Fml.{ftrue};
-    ghost use Rattle.auction_window.specs.PhaseRule.{IsKept};
+    ghost use Rattle.auction_window.specs.inner.PhaseRule.{IsKept};
 
     ghost holds = { λ cells log. IsKept cells log };
 
@@ -78,12 +79,13 @@ impl Gain<Rows, u64> for NoGain {
 pub(crate) struct Add;
 
 impl Play<Rows, u64> for Add {
-    ghost use Rattle.auction_window.specs.PhaseRule.{Adds};
+    ghost use Rattle.auction_window.specs.inner.PhaseRule.{Adds};
 
     ghost then = { Adds };
 }
 
-/// The list of phases of a publisher that is yet to be made. It is empty. Contracts see which list it is.
+/// The list of phases of a publisher that is yet to be made. It is empty. Contracts see which list
+/// it is.
 #[derive(Drop)]
 pub struct PhaseLog {
     head: Word<Rows, u64, PhaseRule>,
@@ -98,7 +100,7 @@ impl Model for PhaseLog {
 
     ghost coded = { book_coded };
 
-    ghost use Rattle.auction_window.specs.PhaseRule.{head_of};
+    ghost use Rattle.auction_window.specs.inner.PhaseRule.{head_of};
 
     ghost view = { λ l. l.seen.book };
 
@@ -146,7 +148,8 @@ impl Plain<Vec<Row>, Rows, u64> for Add {
     ghost state = { λ rows. None };
 }
 
-/// A prefix of the list of phases: how many they are, and, only for proofs, which. Contracts see it as its phases.
+/// A prefix of the list of phases: how many they are, and, only for proofs, which. Contracts see it
+/// as its phases.
 #[derive(Drop)]
 pub struct Prefix<J: WindowName> {
     count: u64,
@@ -218,7 +221,8 @@ impl<J: WindowName> Prefix<J> {
         self.longer(other);
     }
 
-    // Adds a phase to the list, if this is all of it, and says whether it did. Else it becomes all of the list.
+    // Adds a phase to the list, if this is all of it, and says whether it did. Else it becomes all
+    // of the list.
     pub(crate) fn add(&mut self, count: &PhaseCount<J>, rows: &Vec<Row>) -> bool
         requires { length self.old < u64.MAX }
         ensures { MatchBool result

@@ -41,12 +41,13 @@ impl From<AllocError> for MakeFault {
     }
 }
 
-/// Publishes the phases of an auction to its windows. It must be spent by `end`. Contracts see the phases that windows
-/// read, and whether it was refused memory.
+/// Publishes the phases of an auction to its windows. It must be spent by `end`. Contracts see the
+/// phases that windows read, and whether it was refused memory.
 ///
-/// It keeps two copies of the auction's records, of all users, categories and items, and the rows of the phase published
-/// last: one copy lacks them, and takes them in at the next publish, which then lets them go. It keeps no other rows. After
-/// a refusal it keeps the refused rows too, until `end`.
+/// It keeps two copies of the auction's records, of all users, categories and items, and the rows
+/// of the phase published last: one copy lacks them, and takes them in at the next publish, which
+/// then lets them go. It keeps no other rows. After a refusal it keeps the refused rows too, until
+/// `end`.
 pub struct Publisher<J: WindowName>
 where
     AuctionCopy<J>: Absorb<AddPhase<J>, State = [[Row; 0]; 0]>,
@@ -72,8 +73,9 @@ where
 }
 
 impl<J: WindowName> Publisher<J> {
-    /// A publisher that has published nothing, and 1 to 16 windows on the auction that is opened with the book. It takes
-    /// time and memory for two such auctions, and waits for nobody. An error leaves neither publisher nor window.
+    /// A publisher that has published nothing, and 1 to 16 windows on the auction that is opened
+    /// with the book. It takes time and memory for two such auctions, and waits for nobody. An
+    /// error leaves neither publisher nor window.
     pub fn new<R: Wait>(
         rt: &R,
         alloc: Global,
@@ -117,12 +119,14 @@ impl<J: WindowName> Publisher<J> {
         self.phases.len()
     }
 
-    /// Publishes the rows of one phase, all at once. It costs in proportion to the rows of this phase and of the one before,
-    /// and to the windows. Where memory is refused, windows read what they read before, and so they do from then on: every
-    /// later publish is refused. A phase past 2^64 - 1 is want of memory.
+    /// Publishes the rows of one phase, all at once. It costs in proportion to the rows of this
+    /// phase and of the one before, and to the windows. Where memory is refused, windows read what
+    /// they read before, and so they do from then on: every later publish is refused. A phase past
+    /// 2^64 - 1 is want of memory.
     ///
-    /// It waits for those views alone that began before the publish before it returned, until they are done, since they may
-    /// read the copy that it is to change. The first publish waits for none, and no view waits for a publish.
+    /// It waits for those views alone that began before the publish before it returned, until they
+    /// are done, since they may read the copy that it is to change. The first publish waits for
+    /// none, and no view waits for a publish.
     pub fn publish<R: Wait>(&mut self, rt: &R, rows: Vec<Row>) -> Result<Told<J>, AllocError>
         requires rows { CanFollow J.opening (book_of J.rows self.old.phases) rows.items }
         ensures published { OnOk result
@@ -155,16 +159,16 @@ impl<J: WindowName> Publisher<J> {
         Ok(Told::new(told))
     }
 
-    /// Of the phases that a window knows and those that are published, one list begins with the other. It does nothing else
-    /// than to say so.
+    /// Of the phases that a window knows and those that are published, one list begins with the
+    /// other. It does nothing else than to say so.
     pub fn agrees(&self, window: &Window<J>)
         ensures { AreComparable window.now self.now.phases }
     {
         window.known().agrees(&self.phases);
     }
 
-    /// Ends it: from now on windows answer `NoGuard`. It waits until each view that is under way is done, and takes no
-    /// memory.
+    /// Ends it: from now on windows answer `NoGuard`. It waits until each view that is under way is
+    /// done, and takes no memory.
     pub fn end<R: Wait>(self, rt: &R) {
         let Publisher {
             writer,

@@ -53,8 +53,8 @@ impl<J: WindowName> Told<J> {
     }
 }
 
-/// Shows what is published, in any thread, and never goes back. Contracts see the phases of its last view, or those that it
-/// was told of if they are more.
+/// Shows what is published, in any thread, and never goes back. Contracts see the phases of its
+/// last view, or those that it was told of if they are more.
 #[derive(Drop)]
 pub struct Window<J: WindowName> {
     reader: CopyReader<J>,
@@ -84,9 +84,10 @@ impl<J: WindowName> Window<J> {
         &self.phases
     }
 
-    /// The reply to a view, by the phases that are published: at least all that this window has shown or was told of.
-    /// `None` comes exactly where the request is no view, and `NoGuard` once the publisher has ended. It waits for nobody
-    /// and takes no lock: beside the look-up it makes three atomic steps.
+    /// The reply to a view, by the phases that are published: at least all that this window has
+    /// shown or was told of. `None` comes exactly where the request is no view, and `NoGuard` once
+    /// the publisher has ended. It waits for nobody and takes no lock: beside the look-up it makes
+    /// three atomic steps.
     pub fn view(&mut self, request: Request) -> Result<Option<Seen>, NoGuard>
         ensures none { (result ≡ Ok None) ↔ (is_view request ≡ false) }
         ensures shown { IfOk result (λ shown. IfSome shown (λ seen.

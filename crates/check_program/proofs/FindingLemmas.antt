@@ -1,12 +1,9 @@
 -- What is found of a history, by the text of its rows and scripts, and what is said of it.
 use Rattle.std.proofs.Common.{◌≡◌, ℕ, List, Option, Some, None, subst, sym}
 use Rattle.std.specs.Prelude.{IfSome, Ok}
-use Rattle.auction_rows.specs.declared.values.Opening.{Opening}
-use Rattle.auction_rows.specs.declared.requests.Request.{Request}
-use Rattle.auction_rows.specs.Book.{Book}
+use Rattle.auction_rows.specs.Types.{Opening, Request, Opened, Book}
 use Rattle.auction_text.specs.Scripts.{input_of}
 use Rattle.item_shards.specs.OpeningRows.{AreRows, opening_rows}
-use Rattle.item_shards.specs.declared.openings.Opened.{Opened}
 use Rattle.history_check.specs.declared.lines.Verdict.{Verdict}
 use Rattle.history_check.specs.declared.lines.Verdict.TheVariants.{Replays}
 use Rattle.history_check.specs.Checking.{IsAccepted, IsVerdict}

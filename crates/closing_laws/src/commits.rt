@@ -1,12 +1,7 @@
-//! What slices are of rows, what commits keep, and why their replies are the model's. Each law is what
-//! a function with an empty body ensures.
+//! What slices are of rows, what commits keep, and why their replies are the model's. Each law is
+//! what a function with an empty body ensures.
 ghost use Rattle.std.specs.Prelude.{◌≡◌, ◌<◌, ◌==◌, if◌then◌else◌, ℕ, ◌++◌, ◌∷◌, [], List, Option, length};
-ghost use Rattle.auction_rows.specs.declared.requests.Object.{Object};
-ghost use Rattle.auction_rows.specs.declared.replies.Reply.{Reply};
-ghost use Rattle.auction_rows.specs.declared.requests.Facts.{Facts};
-ghost use Rattle.auction_rows.specs.declared.requests.Request.{Request};
-ghost use Rattle.auction_rows.specs.declared.rows.Row.{Row};
-ghost use Rattle.auction_rows.specs.Book.{Book};
+ghost use Rattle.auction_rows.specs.Types.{Facts, Object, Request, Reply, Row, Book};
 ghost use Rattle.auction_rows.specs.Footprint.{footprint};
 ghost use Rattle.auction_rows.specs.History.{IsRight};
 ghost use Rattle.item_shards.specs.Contents.{Contents};
@@ -15,7 +10,7 @@ ghost use Rattle.shard_boxes.specs.Lines.{Line};
 ghost use Rattle.shard_boxes.specs.Keys.{KeyState, taking, putting, lines_at, added};
 ghost use Rattle.shard_boxes.specs.States.{ShardState};
 ghost use Rattle.worker_slices.specs.declared.counters.Counters.{Counters};
-ghost use Rattle.phase_transactions.specs.declared.transaction.PermitFault.{PermitFault};
+ghost use Rattle.phase_transactions.specs.declared.done.PermitFault.{PermitFault};
 ghost use Rattle.phase_transactions.specs.Performing.{HasCommitted, HasFailed, shards_asked};
 ghost use Rattle.phase_permits.specs.Replying.{CountsOf, SawTrue, StoodFor, HasFixed, IsModelReply};
 ghost use Rattle.worker_slices.specs.Slicing.{slices_of, slices_after_acts, HaveAtMost};

@@ -1,5 +1,6 @@
-//! Why a phase that has closed replays: what permits, boxes and journals tell, each of its own part, comes to one
-//! history of the auction of one thread. The functions compute nothing: each carries laws in its contract.
+//! Why a phase that has closed replays: what permits, boxes and journals tell, each of its own
+//! part, comes to one history of the auction of one thread. The functions compute nothing: each
+//! carries laws in its contract.
 #![tactic(auto)]
 
 mod commits;
@@ -14,10 +15,8 @@ ghost use Rattle.closing_laws.specs.Histories.{HoldTheEntries, FollowWhatTheySha
 ghost use Rattle.closing_laws.specs.Merging.{IsReconciled, CanMerge, after_merge, slices_left};
 ghost use Rattle.closing_laws.specs.Lawful.{AreHotMerged, AreSliced, ClosesLawfully};
 ghost use Rattle.closing_laws.specs.Example.{example_book, example_phase};
-ghost use Rattle.auction_rows.specs.Book.{Book};
+ghost use Rattle.auction_rows.specs.Types.{Facts, Object, Book};
 ghost use Rattle.auction_rows.specs.History.{IsBook};
-ghost use Rattle.auction_rows.specs.declared.requests.Object.{Object};
-ghost use Rattle.auction_rows.specs.declared.requests.Facts.{Facts};
 ghost use Rattle.item_shards.specs.declared.shard.slices.Slice.{Slice};
 ghost use Rattle.shard_boxes.specs.States.{ShardState, AreInitial};
 ghost use Rattle.phase_transactions.specs.Txns.{hot_of};
@@ -31,21 +30,22 @@ pub use commits::{
 };
 use shard_boxes::MOST_COMMITS;
 
-/// Each shard's list holds the lines of the entries whose footprint has the shard, in the entries' order, and
-/// nothing else.
+/// Each shard's list holds the lines of the entries whose footprint has the shard, in the entries'
+/// order, and nothing else.
 pub fn lists_hold_the_entries()
     ensures { (p : Phase) (closed : HasClosed p) → HoldTheEntries p closed }
 {}
 
-/// Each entry's number is 1 + the greatest of the entries before it that are of its worker or share a shard with it,
-/// and 1 if there is none.
+/// Each entry's number is 1 + the greatest of the entries before it that are of its worker or share
+/// a shard with it, and 1 if there is none.
 pub fn numbers_follow_what_entries_share()
     ensures { (p : Phase) → HasClosed p →
         FollowWhatTheyShare p.setting.opening p.setting.shards (hot_of p.setting) p.entries }
 {}
 
-/// From every book for which the shards and the counters stood as the phase began, the entries replay, and the
-/// shards that the boxes gave back stand for the book after them, but for hot objects, as do the counters.
+/// From every book for which the shards and the counters stood as the phase began, the entries
+/// replay, and the shards that the boxes gave back stand for the book after them, but for hot
+/// objects, as do the counters.
 pub fn entries_replay()
     ensures { (p : Phase) → HasClosed p → (book : Book) → StandFor p.initial p.counters book [] →
         ReplaysAndStands p book }
@@ -62,8 +62,8 @@ pub fn books_go_on()
         AreOfWorkers (length p.receipts) (book_left p book) }
 {}
 
-/// A worker's commits grow by the entries of its journal. Its stores are no more than its commits after the phase, if
-/// they were no more before.
+/// A worker's commits grow by the entries of its journal. Its stores are no more than its commits
+/// after the phase, if they were no more before.
 pub fn commits_grow()
     ensures commits { (p : Phase) → HasClosed p → (w : ℕ) → w < length p.receipts →
         let receipt = receipt_at p.receipts w in
@@ -75,8 +75,9 @@ pub fn commits_grow()
         stores after ≤ after.commits }
 {}
 
-/// After all slices of all workers are merged, in any order, into the shards that the boxes gave back, shards and
-/// counters stand for the book after the entries, hot objects included. If nothing was hot, they do so without a merge.
+/// After all slices of all workers are merged, in any order, into the shards that the boxes gave
+/// back, shards and counters stand for the book after the entries, hot objects included. If nothing
+/// was hot, they do so without a merge.
 pub fn reconciled_shards_stand()
     ensures split { (p : Phase) → HasClosed p →
         (closing : List ShardState) → IsReconciled p closing →
@@ -87,8 +88,9 @@ pub fn reconciled_shards_stand()
         StandFor p.given (map counters_of p.receipts) (book_left p book) [] }
 {}
 
-/// After all slices of all workers are merged, in any order, each hot object has what it had as the phase began, with one
-/// slice of each worker merged, and each worker's slice has the value that its journal's accepted stores give the object.
+/// After all slices of all workers are merged, in any order, each hot object has what it had as the
+/// phase began, with one slice of each worker merged, and each worker's slice has the value that
+/// its journal's accepted stores give the object.
 pub fn hot_objects_are_merged()
     ensures merged { (p : Phase) → HasClosed p →
         (closing : List ShardState) → IsReconciled p closing →
@@ -96,8 +98,8 @@ pub fn hot_objects_are_merged()
     ensures slices { (p : Phase) → HasClosed p → AreSliced p }
 {}
 
-/// A phase closes lawfully, if all slices are merged. If nothing was hot, it does so with the shards as they were
-/// given back.
+/// A phase closes lawfully, if all slices are merged. If nothing was hot, it does so with the
+/// shards as they were given back.
 pub fn phases_close_lawfully()
     ensures split { (p : Phase) → HasClosed p →
         (closing : List ShardState) → IsReconciled p closing →
@@ -105,9 +107,9 @@ pub fn phases_close_lawfully()
     ensures joined { (p : Phase) → HasClosed p → hot_of p.setting ≡ [] → ClosesLawfully p p.given }
 {}
 
-/// In whatever order the slices are merged into the shards that the boxes gave back, each can be merged in its turn:
-/// its object is of its kind, an item is stored, and the sums fit. There are at most 16 workers, and each slice has at
-/// most `MOST_COMMITS` operations.
+/// In whatever order the slices are merged into the shards that the boxes gave back, each can be
+/// merged in its turn: its object is of its kind, an item is stored, and the sums fit. There are at
+/// most 16 workers, and each slice has at most `MOST_COMMITS` operations.
 pub fn slices_can_be_merged()
     ensures { (p : Phase) → HasClosed p → AreInitial p.initial → length p.receipts ≤ MOST_WORKERS →
         AllByRecursion (λ receipt. HaveAtMost MOST_COMMITS receipt.slices) p.receipts →
@@ -115,14 +117,15 @@ pub fn slices_can_be_merged()
         SawInTurn CanMerge after_merge p.given order }
 {}
 
-/// If the workers' slices are taken out one worker after the other, each from the last on, all are taken once.
+/// If the workers' slices are taken out one worker after the other, each from the last on, all are
+/// taken once.
 pub fn slices_may_be_popped()
     ensures { (receipts : List WorkerState) → IsPermutation (slices_left receipts)
         (flat_map (λ receipt. reverse (slices_in receipt.slices)) receipts) }
 {}
 
-/// What the laws ask of a phase can be met: a phase with a hot user and a comment over one shard has closed, and there
-/// is a book for which it began.
+/// What the laws ask of a phase can be met: a phase with a hot user and a comment over one shard
+/// has closed, and there is a book for which it began.
 pub fn a_phase_closes()
     ensures closed { (facts : Facts) → HasClosed (example_phase facts) }
     ensures stood { (facts : Facts) →

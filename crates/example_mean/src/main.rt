@@ -1,4 +1,5 @@
-//! The mean of the prices that two threads are given: a record type of one's own, split into slices and merged.
+//! The mean of the prices that two threads are given: a record type of one's own, split into slices
+//! and merged.
 #![tactic(auto)]
 
 mod mean;
@@ -24,7 +25,8 @@ fn slice_of(prices: &[u64]) -> MeanRec
     slice
 }
 
-// The record of two workers' prices, each with a slice and a thread of its own. In which order they came does not matter.
+// The record of two workers' prices, each with a slice and a thread of its own. In which order they
+// came does not matter.
 fn mean_of<R: Threads + Sync>(rt: &R, first: &[u64], second: &[u64]) -> MeanRec
     requires { sum (first.now ++ second.now) < 2 ^ 64 }
     ensures { (all : List ℕ) → IsPermutation (first.now ++ second.now) all → result ≡ totals_of all }

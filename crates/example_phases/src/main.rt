@@ -1,4 +1,5 @@
-//! Two workers whose phases the program drives: each request is answered at once, except deferred ones.
+//! Two workers whose phases the program drives: each request is answered at once, except deferred
+//! ones.
 #![tactic(auto)]
 
 mod auction;

@@ -38,8 +38,8 @@ const POLICY: Policy = Policy {
 
 const MOST_TRIES: u64 = 1_000_000_000;
 
-/// What a thread was shown of a run of the scripts, each time with more phases than before. In step with it, the run begins no
-/// phase before the thread has viewed what the phases so far have left.
+/// What a thread was shown of a run of the scripts, each time with more phases than before. In step
+/// with it, the run begins no phase before the thread has viewed what the phases so far have left.
 pub fn watched_run<R: Threads + Wait + Sync>(
     rt: &R,
     alloc: Global,
@@ -100,7 +100,8 @@ fn end_run<J: WindowName, R: Threads + Wait>(
     Err(fault.into())
 }
 
-// Views until all phases are published, or the publisher has ended, and keeps each view that differs from the one before.
+// Views until all phases are published, or the publisher has ended, and keeps each view that
+// differs from the one before.
 fn watch<J: WindowName>(
     alloc: Global,
     mut window: Window<J>,

@@ -10,7 +10,7 @@ use Rattle.auction_rows.specs.declared.requests.Object.{Object}
 use Rattle.auction_rows.specs.Requests.{same_object}
 use Rattle.auction_rows.proofs.RequestLemmas.{eq_is_same, same_either_way}
 use Rattle.hot_choice.specs.declared.choice.Candidate.{Candidate}
-use Rattle.hot_choice.specs.Ranking.{candidate, hot_ones}
+use Rattle.hot_choice.specs.inner.Ranking.{candidate, hot_ones}
 
 -- ---- gathering
 

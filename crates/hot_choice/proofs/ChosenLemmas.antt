@@ -22,9 +22,7 @@ use Rattle.phase_laws.proofs.DescendingLemmas.{descending_same}
 use Rattle.phase_laws.proofs.MemberLemmas.{Contains-first, Contains-later, Contains-cases, Contains-nothing, all-member, filter-member, permuted_members}
 use Rattle.phase_laws.proofs.OrderLemmas.{all-map}
 use Rattle.phase_laws.proofs.TopLemmas.{top_first, top_same_members}
-use Rattle.auction_rows.specs.declared.requests.Object.{Object}
-use Rattle.auction_rows.specs.declared.requests.Object.TheVariants.{User}
-use Rattle.auction_rows.specs.declared.rows.Entry.{Entry}
+use Rattle.auction_rows.specs.Types.{Object, Entry, User}
 use Rattle.auction_rows.specs.Choosing.{objects_written, heat, heat_cmp, choose}
 use Rattle.auction_rows.specs.Orders.{object_cmp}
 use Rattle.auction_rows.specs.Requests.{same_object}
@@ -32,7 +30,7 @@ use Rattle.auction_rows.proofs.OrderLemmas.{heat_total, heat_same}
 use Rattle.auction_rows.proofs.RequestLemmas.{same_object-true, same_objects, same_either_way}
 use Rattle.run_laws.proofs.CountLemmas.{how_many, how_many-is}
 use Rattle.hot_choice.specs.declared.choice.Candidate.{Candidate}
-use Rattle.hot_choice.specs.Ranking.{heat_shown, if_enough, AreWritten, HasHeats, candidate, candidate_cmp, hot_ones, IsRanking}
+use Rattle.hot_choice.specs.inner.Ranking.{heat_shown, if_enough, AreWritten, HasHeats, candidate, candidate_cmp, hot_ones, IsRanking}
 
 -- nothing is chosen where nothing may be
 pub none_chosen : (es : List Entry) (threshold : ℕ) → choose es threshold 0 ≡ []

@@ -12,8 +12,7 @@ use Rattle.std.proofs.lemmas.List.Sorted.{sum_by-IsPermutation}
 use Rattle.std.proofs.lemmas.List.Sums.{count_by_more_no, count_by_more_yes, sum_by-cons, sum_by_push}
 use Rattle.std.proofs.lemmas.Nat.{mod_below}
 use Rattle.auction_rows.specs.contracts.requests.ObjectPartialEq.TheImpl.{eq-value as object_eq}
-use Rattle.auction_rows.specs.declared.requests.Object.{Object}
-use Rattle.auction_rows.specs.declared.rows.Entry.{Entry}
+use Rattle.auction_rows.specs.Types.{Object, Entry}
 use Rattle.auction_rows.specs.Choosing.{written_by, objects_written, heat}
 use Rattle.auction_rows.specs.Requests.{same_object, number_of}
 use Rattle.auction_rows.proofs.HistoryLemmas.{filter_map-one}
@@ -22,7 +21,7 @@ use Rattle.run_laws.proofs.CountLemmas.{how_many, how_many-is, count-append}
 use Rattle.worker_journals.specs.Journals.{JournalView}
 use Rattle.worker_journals.specs.Merged.{merged}
 use Rattle.worker_journals.proofs.MergedLemmas.{all_entries, merged_permutes}
-use Rattle.hot_choice.specs.Ranking.{AreWritten, HasHeats, bucket_of, heat_shown, how_often, if_enough}
+use Rattle.hot_choice.specs.inner.Ranking.{AreWritten, HasHeats, bucket_of, heat_shown, how_often, if_enough}
 
 -- ---- the objects that entries write
 

@@ -6,7 +6,7 @@ ghost use Rattle.auction_rows.specs.declared.rows.Entry.{Entry as Committed};
 ghost use Rattle.auction_rows.specs.Requests.{same_object};
 ghost use Rattle.auction_rows.specs.Choosing.{choose, objects_written, written_by};
 ghost use Rattle.worker_journals.specs.Merged.{merged};
-ghost use Rattle.hot_choice.specs.Ranking.{AreWritten, HasHeats, IsRanking, bucket_of};
+ghost use Rattle.hot_choice.specs.inner.Ranking.{AreWritten, HasHeats, IsRanking, bucket_of};
 
 use auction_rows::{Entry, Object, is_splittable, row_of, shard_of, writes};
 use indexmap::{IndexMap, IndexSet};

@@ -4,19 +4,8 @@ use Rattle.std.specs.Prelude.{is_some}
 use Rattle.std.specs.List.{AllByRecursion}
 use Rattle.std.proofs.lemmas.List.Elements.{filter-append}
 use Rattle.phase_laws.specs.Replay.{SawInTurn}
-use Rattle.auction_rows.specs.declared.requests.ItemEntry.{ItemEntry}
-use Rattle.auction_rows.specs.declared.requests.ItemId.{ItemId}
-use Rattle.auction_rows.specs.declared.requests.Object.{Object}
-use Rattle.auction_rows.specs.declared.requests.Object.TheVariants.{Item, User, Category}
-use Rattle.auction_rows.specs.declared.values.Opening.{Opening}
-use Rattle.auction_rows.specs.declared.requests.Facts.{Facts}
-use Rattle.auction_rows.specs.declared.requests.Request.{Request}
-use Rattle.auction_rows.specs.declared.requests.Request.TheVariants.{StoreItem, StoreBid, StoreComment, BuyNow, ViewItem, ViewBids, ViewCategory, ViewUser}
-use Rattle.auction_rows.specs.declared.replies.Refusal.{Refusal}
-use Rattle.auction_rows.specs.declared.replies.Reply.{Reply}
-use Rattle.auction_rows.specs.declared.rows.Row.{Row}
+use Rattle.auction_rows.specs.Types.{Opening, ItemId, Facts, ItemEntry, Object, Request, Refusal, Reply, Row, Entry, Item, User, Category, StoreItem, StoreBid, StoreComment, BuyNow, ViewItem, ViewBids, ViewCategory, ViewUser}
 use Rattle.auction_rows.specs.declared.rows.Row.TheVariants as row
-use Rattle.auction_rows.specs.declared.rows.Entry.{Entry}
 use Rattle.auction_rows.specs.History.{row_of_entry}
 use Rattle.auction_rows.specs.Refusals.{number_refusal}
 use Rattle.item_shards.specs.Events.{Event, AddItem, ListItem, Look}

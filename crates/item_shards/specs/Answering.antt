@@ -1,12 +1,6 @@
 -- Why an item refuses a request.
 use Rattle.std.specs.Prelude.{◌≡◌, ℕ, Option, Some, option_map, option_and_then, unwrap_or}
-use Rattle.auction_rows.specs.declared.replies.Refusal.{Refusal}
-use Rattle.auction_rows.specs.declared.requests.BidEntry.{BidEntry}
-use Rattle.auction_rows.specs.declared.requests.Facts.{Facts}
-use Rattle.auction_rows.specs.declared.requests.ItemId.{ItemId}
-use Rattle.auction_rows.specs.declared.requests.Object.TheVariants.{Item}
-use Rattle.auction_rows.specs.declared.requests.Request.{Request}
-use Rattle.auction_rows.specs.declared.requests.Request.TheVariants.{StoreBid}
+use Rattle.auction_rows.specs.Types.{ItemId, Facts, BidEntry, Request, Refusal, Item, StoreBid}
 use Rattle.auction_rows.specs.Refusals.{item_refusal}
 use Rattle.auction_rows.specs.Requests.{item_of}
 use Rattle.item_shards.specs.declared.shard.Shard.{Shard}

@@ -1,11 +1,6 @@
 -- A contents: objects by their values, and what acts and merges do to it.
 use Rattle.std.specs.Prelude.{ℕ, ◌+◌, List, fold, if◌then◌else◌, is_some, Option, Some, None}
-use Rattle.auction_rows.specs.declared.values.Stars.{Stars}
-use Rattle.auction_rows.specs.declared.requests.ItemEntry.{ItemEntry}
-use Rattle.auction_rows.specs.declared.requests.BidEntry.{BidEntry}
-use Rattle.auction_rows.specs.declared.requests.Facts.{Facts}
-use Rattle.auction_rows.specs.declared.requests.Object.{Object}
-use Rattle.auction_rows.specs.declared.requests.Object.TheVariants.{Item, User, Category}
+use Rattle.auction_rows.specs.Types.{Stars, Facts, BidEntry, ItemEntry, Object, Item, User, Category}
 use Rattle.auction_rows.specs.Requests.{same_object}
 use Rattle.item_shards.specs.Events.{Event, AddItem, ListItem, Bid, Comment, Buy, Look}
 use Rattle.item_shards.specs.Shown as shown

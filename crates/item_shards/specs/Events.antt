@@ -1,10 +1,6 @@
 -- An event: an act as it was done on a shard, with what it showed.
 use Rattle.std.specs.Prelude.{ℕ}
-use Rattle.auction_rows.specs.declared.values.Stars.{Stars}
-use Rattle.auction_rows.specs.declared.requests.BidEntry.{BidEntry}
-use Rattle.auction_rows.specs.declared.requests.Facts.{Facts}
-use Rattle.auction_rows.specs.declared.requests.ItemEntry.{ItemEntry}
-use Rattle.auction_rows.specs.declared.requests.ItemId.{ItemId}
+use Rattle.auction_rows.specs.Types.{Stars, ItemId, Facts, BidEntry, ItemEntry}
 use Rattle.item_shards.specs.Shown.{Shown}
 
 pub data Event : Type 0 where

@@ -3,14 +3,11 @@ use Rattle.std.specs.Prelude.{ℕ, ◌≡◌, ◌==◌, ◌<◌, ◌≤◌, ◌+
 use Rattle.std.specs.declared.vec.Vec.{Vec}
 use Rattle.phase_laws.specs.Replay.{Replays}
 use Rattle.auction_rows.specs.declared.limits.TheConstants.{MOST_OF_A_WORKER, MOST_WORKERS}
-use Rattle.auction_rows.specs.declared.values.Opening.{Opening}
-use Rattle.auction_rows.specs.declared.rows.Row.{Row}
-use Rattle.auction_rows.specs.Book.{Book}
+use Rattle.auction_rows.specs.Types.{Opening, Opened, Row, Book}
 use Rattle.auction_rows.specs.History.{commit_of}
 use Rattle.auction_rows.specs.Refusals.{refusal}
 use Rattle.auction_rows.specs.Replies.{next}
 use Rattle.auction_rows.specs.Requests.{is_view}
-use Rattle.item_shards.specs.declared.openings.Opened.{Opened}
 use Rattle.item_shards.specs.Counting.{worker_of}
 
 -- the book after a request that is handed in

@@ -8,18 +8,9 @@ ghost use Rattle.item_shards.specs.Limits.{IsWithinLimits};
 ghost use Rattle.item_shards.specs.OpeningRows.{asked_by, IsTooLong, AreFewOfEach, rows_in};
 
 use crate::serial::SerialAuction;
-use auction_rows::{MOST_OF_A_WORKER, MOST_WORKERS, Opening, Request, Row, row_of};
+use auction_rows::{MOST_OF_A_WORKER, MOST_WORKERS, Opened, Opening, Row, row_of};
 use std::alloc::{AllocError, AllocFailed, Global};
 use thiserror::Error;
-
-/// A row that an auction is opened with, as it is handed in: whose store it is, and of what.
-#[derive(Clone, Copy, PartialEq, Eq, Debug)]
-pub struct Opened {
-    /// The worker whose row it is.
-    pub worker: u32,
-    /// The store that it is a row of.
-    pub request: Request,
-}
 
 /// Why requests are not the rows of an auction.
 #[derive(Clone, Copy, Debug, PartialEq, Eq, Drop, Error)]
@@ -27,7 +18,8 @@ pub enum ResumeFault {
     /// More than 1,000,000 requests are of one worker below 16.
     #[error("more than 1000000 requests for a worker")]
     TooLong,
-    /// The request with this number, from 1, is a view, is refused at its place or is of no worker below 16.
+    /// The request with this number, from 1, is a view, is refused at its place or is of no worker
+    /// below 16.
     #[error("row {0}: refused")]
     BadRow(u32),
     /// No memory was left.
@@ -55,8 +47,8 @@ impl<T: Drop> From<AllocFailed<T>> for ResumeFault {
     }
 }
 
-/// The rows that an auction is opened with, for the users and categories of an opening: a book of it, of workers
-/// below 16, with at most 1,000,000 rows of each.
+/// The rows that an auction is opened with, for the users and categories of an opening: a book of
+/// it, of workers below 16, with at most 1,000,000 rows of each.
 #[derive(Drop)]
 pub struct OpeningBook {
     opening: Opening,
@@ -84,9 +76,10 @@ impl OpeningBook {
         }
     }
 
-    /// The rows of requests that are handed in, each with the id that its worker's store gets at its place. It takes
-    /// time in proportion to their number and, if there are any, to the users and categories. `TooLong` is looked at
-    /// first; then, request by request, `BadRow` or `Memory`, whichever comes first. An error leaves no book.
+    /// The rows of requests that are handed in, each with the id that its worker's store gets at
+    /// its place. It takes time in proportion to their number and, if there are any, to the users
+    /// and categories. `TooLong` is looked at first; then, request by request, `BadRow` or
+    /// `Memory`, whichever comes first. An error leaves no book.
     pub fn new(
         alloc: Global,
         opening: Opening,
@@ -170,8 +163,8 @@ impl SerialAuction {
     ghost use Rattle.item_shards.specs.OpeningRows.{with_opened, IsRow};
     ghost use Rattle.item_shards.specs.OpeningBooks as opened;
 
-    /// The auction that holds a book. It costs in proportion to the rows, the users and the categories, and errs
-    /// if the auction can't be made or grow for want of memory.
+    /// The auction that holds a book. It costs in proportion to the rows, the users and the
+    /// categories, and errs if the auction can't be made or grow for want of memory.
     pub fn resume(alloc: Global, book: &OpeningBook) -> Result<SerialAuction, AllocError>
         ensures book { IfOk result (λ auction. HoldsBook auction (opened.rows_of_book book.now)) }
         ensures opening { IfOk result

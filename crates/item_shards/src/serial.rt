@@ -8,7 +8,7 @@ ghost use Rattle.item_shards.specs.ShardContents.{LiesIn};
 
 use crate::openings::StoreCounts;
 use crate::shard::Shard;
-use crate::shard::answers::refusal_with;
+use crate::shard::items::refusal_with;
 use auction_rows::{
     BidEntry, BidId, BuyId, CommentId, ItemId, MOST_WORKERS, Opening, Refusal, Reply, Request, Row,
     StoreReply, is_view, item_of, number_refusal, row_of, row_of_store,
@@ -33,7 +33,8 @@ impl SerialAuction {
     ghost use Rattle.item_shards.specs.Limits.{IsWithinLimits};
     ghost use Rattle.item_shards.specs.Serial.{HoldsBook, IsNotFull, CanGrow, CanStore, CanFollow, CanAdd, HoldsFirst, serial_opening};
 
-    /// An auction in which nothing is stored. It errs if the shard can't be made for want of memory.
+    /// An auction in which nothing is stored. It errs if the shard can't be made for want of
+    /// memory.
     pub fn new(alloc: Global, opening: Opening) -> Result<SerialAuction, AllocError>
         ensures book { IfOk result (λ auction. HoldsBook auction []) }
         ensures opening { IfOk result (λ auction. serial_opening auction ≡ opening) }
@@ -67,8 +68,9 @@ impl SerialAuction {
         Ok(auction)
     }
 
-    /// Stores rows that can follow a book which the auction holds. It costs in proportion to the rows. If the auction
-    /// can't grow for want of memory, it holds that book with the first of the rows.
+    /// Stores rows that can follow a book which the auction holds. It costs in proportion to the
+    /// rows. If the auction can't grow for want of memory, it holds that book with the first of the
+    /// rows.
     pub fn add_rows(&mut self, rows: &[Row]) -> Result<(), AllocError>
         requires { CanAdd self.old rows.now }
         ensures book { OnOk result ((book : Book) → HoldsBook self.old book →

@@ -1,9 +1,8 @@
 -- What a buffer of lines holds, and has left.
-use Rattle.std.proofs.Common.{arith, ◌≡◌, ◌≤◌, ◌+◌, ◌-◌, ◌++◌, ◌∙◌, ℕ, List, Option, Some, None, Result, Ok, Err, drop, length, take, refl, sym, ap, ap₂}
-use Rattle.std.proofs.KnownBytes.{Keeps-trans}
+use Rattle.std.proofs.Common.{arith, ◌≡◌, ◌≤◌, ◌+◌, ◌-◌, ◌++◌, ◌∙◌, ℕ, List, Option, Some, None, drop, length, take, refl, sym, ap, ap₂}
 use Rattle.std.proofs.lemmas.Grind.{common_steps}
 use Rattle.std.proofs.lemmas.List.{drop-drop, drop-take}
-use Rattle.std.specs.Io.KnownBytes.{Consumes, Keeps, ReadConsumes, prepend_known}
+use Rattle.std.specs.Io.KnownBytes.{prepend_known}
 
 -- after so many bytes were taken
 pub held_after : (buffer : List ℕ) (at filled n : ℕ) → n ≤ length (take (filled - at) (drop at buffer))
@@ -33,14 +32,3 @@ reads_behind held first next bytes rem new known same more =
     let (all, is, are) = known_behind held bytes rem known in
     let (left, now, both) = more all is in
     ap (prepend_known next) now ∙ ap Some (sym both ∙ ap (λ (x : List ℕ). x ++ all) same ∙ sym are)
-
-pub Consumes_after : (old mid new : Option (List ℕ)) (bs : List ℕ) → Keeps old mid → Consumes mid new bs → Consumes old new bs
-Consumes_after None mid new bs kept took = tt
-Consumes_after (Some xs) None new bs kept took = absurd kept
-Consumes_after (Some xs) (Some ys) None bs kept took = absurd took
-Consumes_after (Some xs) (Some ys) (Some zs) bs kept took = sym kept ∙ took
-
--- a read after others that failed
-pub reads_after : {E : Type 0} (old mid new : Option (List ℕ)) (r : Result ℕ E) (buf : List ℕ) → Keeps old mid → ReadConsumes mid new r buf → ReadConsumes old new r buf
-reads_after old mid new (Ok n) buf kept (took, end) = (Consumes_after old mid new (take n buf) kept took, end)
-reads_after old mid new (Err e) buf kept same = Keeps-trans old mid new kept same

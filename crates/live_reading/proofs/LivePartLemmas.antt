@@ -3,7 +3,7 @@ use Rattle.std.proofs.Common.{arith, ◌≡◌, ◌≤◌, ◌+◌, ◌∷◌, �
 use Rattle.std.proofs.lemmas.Bool.{cases_Bool}
 use Rattle.std.proofs.lemmas.List.{append-nil}
 use Rattle.csv.specs.Reading.{default_config, records}
-use Rattle.item_shards.specs.declared.openings.Opened.{Opened}
+use Rattle.auction_rows.specs.declared.requests.Opened.{Opened}
 use Rattle.record_reading.specs.declared.inputs.TheConstants.{MOST_ROWS_OF_A_PART}
 use Rattle.record_reading.specs.declared.inputs.ReadFault.{ReadFault}
 use Rattle.live_reading.specs.declared.line_buffer.LineBuffer.{LineBuffer}

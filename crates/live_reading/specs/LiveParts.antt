@@ -2,7 +2,7 @@
 use Rattle.std.specs.Prelude.{ℕ, ◌≡◌, ◌≤◌, ◌+◌, ◌++◌, ◌⊎◌, List, [], ◌∷◌, length, Option, None, Some, true, if◌then◌else◌}
 use Rattle.std.specs.List.{filter_map}
 use Rattle.csv.specs.Reading.{strip_bom}
-use Rattle.item_shards.specs.declared.openings.Opened.{Opened}
+use Rattle.auction_rows.specs.declared.requests.Opened.{Opened}
 use Rattle.record_reading.specs.declared.inputs.TheConstants.{MOST_ROWS_OF_A_PART}
 use Rattle.live_reading.specs.declared.line_buffer.LineBuffer.{LineBuffer}
 use Rattle.live_reading.specs.declared.line_taking.LineStop.{LineStop}

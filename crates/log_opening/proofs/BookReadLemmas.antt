@@ -7,7 +7,7 @@ use Rattle.csv.specs.Reading.{default_config, records, records_from, strip_bom}
 use Rattle.csv.specs.Machine.{next_record}
 use Rattle.auction_rows.specs.declared.rows.Row.{Row}
 use Rattle.auction_rows.specs.declared.rows.Row.TheVariants.{Item, Bid, Comment, Buy}
-use Rattle.auction_rows.specs.Book.{Book, worker_of}
+use Rattle.auction_rows.specs.Book.{Book}
 use Rattle.item_shards.specs.OpeningRows.{opened_of}
 use Rattle.auction_text.specs.Replies.{lines}
 use Rattle.auction_text.specs.RowLines.{row_line, rows_text}
@@ -18,10 +18,6 @@ use Rattle.log_opening.proofs.RowLineLemmas.{IsReadAs, line_read}
 
 pub written_read : (workers : ℕ) (row : Row) → workers ≤ 2 ^ 32 → IsWritten workers row → IsReadAs (row_line row) (said_of row)
 written_read workers row few written = line_read row (omega (arith, few, written.0)) written.1
-
--- the worker that a line says is its row's
-said_worker : (row : Row) → (said_of row).worker ≡ worker_of row
-said_worker row = refl
 
 pub none_read : records default_config [] ≡ []
 unfolding records_from next_record

@@ -4,7 +4,7 @@ use Rattle.std.proofs.lemmas.Grind.{common_steps}
 use Rattle.std.proofs.lemmas.List.{drop-drop, take-append-drop}
 use Rattle.std.specs.Io.KnownBytes.{Consumes, IsAtEnd}
 use Rattle.part_log.specs.Files.{IsReadAt}
-use Rattle.log_opening.specs.Files.{bytes_from}
+use Rattle.log_opening.specs.inner.Files.{bytes_from}
 
 pub read_from : (held : Option (List ℕ)) (at given next : ℕ) (part : List ℕ) → next ≡ at + given → length part ≡ given → IfSome held (λ bytes. IsReadAt bytes at part) → Consumes (bytes_from at held) (bytes_from next held) part
 read_from None at given next part is long reads = tt

@@ -7,13 +7,11 @@ use Rattle.std.proofs.lemmas.List.{append_cancel_left, get_or-append-add, get_or
 use Rattle.std.proofs.lemmas.List.Elements.{recursion_from_All}
 use Rattle.std.proofs.lemmas.List.Sums.{sum_by-append}
 use Rattle.std.specs.List.{AllByRecursion, list_all}
-use Rattle.auction_rows.specs.declared.values.Opening.{Opening}
-use Rattle.auction_rows.specs.declared.rows.Row.{Row}
+use Rattle.auction_rows.specs.Types.{Opening, Opened, Row}
 use Rattle.auction_rows.specs.declared.rows.Row.TheVariants.{Item, Bid, Comment, Buy}
 use Rattle.auction_rows.specs.Book.{Book, worker_of}
 use Rattle.auction_rows.specs.History.{IsBook}
 use Rattle.item_shards.specs.OpeningRows.{AreRows, IsRow, opened_of, opening_rows, rows_by, with_opened}
-use Rattle.item_shards.specs.declared.openings.Opened.{Opened}
 use Rattle.item_shards.proofs.OpeningBookLemmas.{adds}
 use Rattle.phase_floor.specs.declared.adding.AddFault.TheVariants as add
 use Rattle.auction_text.specs.Fields.{is_printing}

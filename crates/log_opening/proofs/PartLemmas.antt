@@ -5,19 +5,16 @@ use Rattle.std.specs.Result.{result_map_both}
 use Rattle.std.proofs.lemmas.Grind.{common_steps}
 use Rattle.std.proofs.Math.Seq.{get_or-append_seam}
 use Rattle.std.proofs.lemmas.Bool.{ltb-false}
-use Rattle.std.proofs.lemmas.List.{append-nil, get_or_append_left, get_or-append-add, length-append, length-take-le, take-append-drop}
+use Rattle.std.proofs.lemmas.List.{get_or_append_left, get_or-append-add, length-append, length-take-le, take-append-drop}
 use Rattle.std.proofs.lemmas.List.Elements.{All-append, All-from_recursion}
 use Rattle.std.proofs.lemmas.List.Sums.{count_by-le-length, fold_push}
 use Rattle.phase_laws.proofs.ReplayLemmas.{replays_append}
-use Rattle.auction_rows.specs.declared.values.Opening.{Opening}
-use Rattle.auction_rows.specs.declared.replies.Refusal.{Refusal}
-use Rattle.auction_rows.specs.declared.rows.Row.{Row}
+use Rattle.auction_rows.specs.Types.{Opening, Opened, Refusal, Row}
 use Rattle.auction_rows.specs.Book.{Book, worker_of}
 use Rattle.auction_rows.specs.History.{IsBook}
 use Rattle.auction_rows.specs.Refusals.{refusal}
 use Rattle.auction_rows.specs.Requests.{is_view}
 use Rattle.item_shards.specs.OpeningRows.{IsRow, with_opened}
-use Rattle.item_shards.specs.declared.openings.Opened.{Opened}
 use Rattle.item_shards.proofs.OpeningLemmas.{one_more}
 use Rattle.phase_floor.specs.Adding.{IsFull, IsOwn, IsSameAuction, IsStartOf, KeepsBooks}
 use Rattle.phase_floor.specs.States.{JoinedState, IsBookOf}
@@ -41,10 +38,6 @@ use Rattle.log_opening.specs.ReadBack.{IsInRange}
 use Rattle.log_opening.proofs.AcceptedLemmas.{joined, rows_alone}
 
 -- ---- requests, one after the other
-
--- nothing is added of no requests
-pub added_none : (state : JoinedState) (book : Book) (all : List Opened) → IsStartOf state book → HasAdded state state book (take 0 all) []
-added_none state book all start = record { are_rows = tt; rows_are = sym (append-nil book); start = subst (IsStartOf state) (sym (append-nil book)) start; in_range = All-from_recursion IsInRange [] tt }
 
 module _ (old mid : JoinedState) (book : Book) (all : List Opened) (i : ℕ) (opened : Opened) (within : i < length all) (is : opened ≡ get_or all i opened) (rows : Book)
     (same : IsSameAuction old mid) (was : HasAdded old mid book (take i all) rows) where

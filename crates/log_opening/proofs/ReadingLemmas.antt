@@ -7,10 +7,9 @@ use Rattle.std.proofs.lemmas.Grind.{common_steps}
 use Rattle.std.proofs.lemmas.List.{append-nil, get_or-append-add, get_or_append_left, length-append, length-take-le, take_all}
 use Rattle.std.proofs.lemmas.List.Elements.{All-append, All-from_recursion, recursion_from_All}
 use Rattle.csv.proofs.WriteFacts.{appends-more, appends-none}
-use Rattle.auction_rows.specs.declared.values.Opening.{Opening}
+use Rattle.auction_rows.specs.Types.{Opening, Opened}
 use Rattle.auction_rows.specs.Book.{Book, worker_of}
 use Rattle.auction_rows.specs.History.{IsBook}
-use Rattle.item_shards.specs.declared.openings.Opened.{Opened}
 use Rattle.phase_floor.specs.Adding.{IsSameAuction, IsStartOf}
 use Rattle.phase_floor.specs.States.{JoinedState}
 use Rattle.auction_text.specs.RowLines.{rows_text}
@@ -297,10 +296,6 @@ not_read limit workers opening book text = record {
 -- nor does memory that is refused
 pub no_memory : (limit workers : ℕ) (opening : Opening) (book : Book) (text : List ℕ) → IsRefusedIn fault.Memory limit workers opening book text
 no_memory limit workers opening book text = record { bytes = []; behind = text; text_is = refl; few = omega arith; not_rows = tt }
-
--- nor does a write that failed
-pub not_written : (limit workers : ℕ) (opening : Opening) (book : Book) (text : List ℕ) → IsRefusedIn fault.Write limit workers opening book text
-not_written limit workers opening book text = record { bytes = []; behind = text; text_is = refl; few = omega arith; not_rows = tt }
 
 -- a line that is longer than a row is refused
 pub too_long : (limit workers : ℕ) (opening : Opening) (book : Book) (held left : List ℕ) (line : ℕ) → HasNoEnd held → 189 < length held → length held ≤ 65536 → line ≡ length book + 1

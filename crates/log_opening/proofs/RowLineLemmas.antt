@@ -13,14 +13,8 @@ use Rattle.csv.specs.Machine.{next_record}
 use Rattle.csv.specs.Reading.{default_config, strip_bom}
 use Rattle.csv.specs.Records.{field_at}
 use Rattle.csv.specs.declared.parser.State.TheVariants as st
-use Rattle.auction_rows.specs.declared.requests.Request.{Request}
-use Rattle.auction_rows.specs.declared.rows.BidRow.{BidRow}
-use Rattle.auction_rows.specs.declared.rows.BuyRow.{BuyRow}
-use Rattle.auction_rows.specs.declared.rows.CommentRow.{CommentRow}
-use Rattle.auction_rows.specs.declared.rows.ItemRow.{ItemRow}
-use Rattle.auction_rows.specs.declared.rows.Row.{Row}
+use Rattle.auction_rows.specs.Types.{Stars, Request, ItemRow, BidRow, CommentRow, BuyRow, Row}
 use Rattle.auction_rows.specs.declared.rows.Row.TheVariants.{Item, Bid, Comment, Buy}
-use Rattle.auction_rows.specs.declared.values.Stars.{Stars}
 use Rattle.auction_rows.proofs.StarsLemmas.{stars_found}
 use Rattle.auction_rows.specs.Name.{IsName}
 use Rattle.auction_text.specs.Fields.{name, stars}

@@ -1,11 +1,8 @@
 -- The rows that a log accepts while an auction goes on.
 use Rattle.std.specs.Prelude.{ℕ, ◌++◌, List, [], ◌∷◌, drop, flat_map, fold, length}
-use Rattle.auction_rows.specs.declared.values.Opening.{Opening}
-use Rattle.auction_rows.specs.declared.rows.Entry.{Entry}
-use Rattle.auction_rows.specs.Book.{Book}
+use Rattle.auction_rows.specs.Types.{Opening, Opened, Entry, Book}
 use Rattle.auction_rows.specs.History.{ReplaysFrom, book_after}
 use Rattle.item_shards.specs.OpeningRows.{opening_rows}
-use Rattle.item_shards.specs.declared.openings.Opened.{Opened}
 use Rattle.auction_text.specs.RowLines.{rows_text}
 
 -- each history replays from the book that those before it leave

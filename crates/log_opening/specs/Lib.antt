@@ -1,7 +1,7 @@
+pub mod inner
 pub mod Accepted
 pub mod CutRows
 pub mod Differences
-pub mod Files
 pub mod Lines
 pub mod Opening
 pub mod Parts

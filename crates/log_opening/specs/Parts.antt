@@ -2,12 +2,10 @@
 use Rattle.std.specs.Prelude.{◌≡◌, ◌≢◌, ◌≤◌, ◌<◌, ◌+◌, ◌^◌, ◌++◌, ℕ, true, List, [], ◌∷◌, All, Option, Some, fold, length, slice_index, take}
 use Rattle.std.specs.Io.KnownBytes.{Appends}
 use Rattle.phase_laws.specs.Replay.{Replays}
-use Rattle.auction_rows.specs.declared.values.Opening.{Opening}
-use Rattle.auction_rows.specs.Book.{Book}
+use Rattle.auction_rows.specs.Types.{Opening, Opened, Book}
 use Rattle.auction_rows.specs.Refusals.{refusal}
 use Rattle.auction_rows.specs.Requests.{is_view}
 use Rattle.item_shards.specs.OpeningRows.{IsRow, rows_by, with_opened}
-use Rattle.item_shards.specs.declared.openings.Opened.{Opened}
 use Rattle.phase_floor.specs.Adding.{IsStartOf}
 use Rattle.phase_floor.specs.States.{JoinedState}
 use Rattle.phase_floor.specs.declared.adding.AddFault.{AddFault}

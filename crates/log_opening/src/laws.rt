@@ -2,13 +2,10 @@
 ghost use Rattle.std.specs.Prelude.{◌≡◌, ◌≤◌, ◌<◌, ◌^◌, ◌++◌, All, ℕ, List, [], Ok, Option, Some, drop, length, take, true};
 ghost use Rattle.std.specs.Io.KnownBytes.{Appends};
 ghost use Rattle.auction_rows.specs.declared.limits.TheConstants.{MOST_WORKERS};
-ghost use Rattle.auction_rows.specs.declared.values.Opening.{Opening};
-ghost use Rattle.auction_rows.specs.declared.rows.Entry.{Entry as Commit};
-ghost use Rattle.auction_rows.specs.Book.{Book};
+ghost use Rattle.auction_rows.specs.Types.{Opening, Opened, Entry as Commit, Book};
 ghost use Rattle.auction_rows.specs.History.{IsBook};
 ghost use Rattle.item_shards.specs.Counting.{worker_of};
 ghost use Rattle.item_shards.specs.OpeningRows.{AreRows, opening_rows, rows_by};
-ghost use Rattle.item_shards.specs.declared.openings.Opened.{Opened};
 ghost use Rattle.auction_text.specs.RowLines.{rows_text};
 ghost use Rattle.auction_text.specs.Scripts.{input_of};
 ghost use Rattle.auction_text.specs.InputLimits.{MOST_RECORDS};
@@ -57,8 +54,8 @@ pub fn a_tail_is_a_cut_row()
         is_cut_row (drop whole (take n (rows_text book []))) ≡ true }
 {}
 
-/// Whatever prefix a crash leaves of a log, `open_parts` refuses it only for want of memory, or if a
-/// read or a write fails. It may have more rows than fit into memory.
+/// Whatever prefix a crash leaves of a log, `open_parts` refuses it only for want of memory, or if
+/// a read or a write fails. It may have more rows than fit into memory.
 pub fn a_prefix_is_never_refused()
     ensures { (opening : Opening) (limit workers : ℕ) (book : Book) (n : ℕ) (fault : OpenFault) →
         workers ≤ MOST_WORKERS → IsBook opening book → All (IsWritten workers) book →

@@ -1,8 +1,7 @@
 -- Permits whose receipts a close takes.
 use Rattle.std.proofs.Common.{◌≡◌, ℕ, List, [], Option, Some, None, refl, sym, ap, ◌∙◌, subst}
 use Rattle.std.specs.Prelude.{IfSome, IfNone}
-use Rattle.auction_rows.specs.declared.replies.Reply.{Reply}
-use Rattle.auction_rows.specs.declared.requests.Request.{Request}
+use Rattle.auction_rows.specs.Types.{Request, Reply}
 use Rattle.auction_rows.specs.Replies.{row_of}
 use Rattle.item_shards.specs.Writing.{writes_if}
 use Rattle.shard_boxes.specs.States.{ShardState}
@@ -12,9 +11,9 @@ use Rattle.worker_slices.proofs.Places.{stocks_of_rows}
 use Rattle.phase_transactions.specs.Workers.{with_first_unstashed, with_try, WorkerState}
 use Rattle.phase_transactions.specs.Performing.{HasFailed, HasFailedFirst, HasPerformedFirst, HasDealtWith, HasCommitted}
 use Rattle.worker_slices.proofs.StockLemmas.{stocks-acts}
-use Rattle.phase_transactions.specs.declared.transaction.Done.{Done}
-use Rattle.phase_transactions.specs.declared.transaction.Done.TheVariants.{Committed, Stashed}
-use Rattle.phase_transactions.specs.declared.transaction.PermitFault.{PermitFault}
+use Rattle.phase_transactions.specs.declared.done.Done.{Done}
+use Rattle.phase_transactions.specs.declared.done.Done.TheVariants.{Committed, Stashed}
+use Rattle.phase_transactions.specs.declared.done.PermitFault.{PermitFault}
 use Rattle.closing_laws.specs.Phases.{no_receipt}
 use Rattle.phase_floor.specs.Closings.{IsReceipt, AreReceiptsOf}
 use Rattle.phase_floor.specs.Floors.{FloorState, IsNewPermit, AreBegun}

@@ -3,11 +3,11 @@
 #![tactic(auto)]
 
 mod adding;
+mod begins;
 mod close;
 mod floor;
 mod joined;
 mod resumption;
-mod split;
 mod start;
 
 pub use adding::AddFault;

@@ -1,19 +1,19 @@
-//! How a phase begins: how many requests it may perform, what its workers start it with, and the
-//! permits that are made of that.
+//! How a phase of either kind begins: how many requests it may perform, what its workers start it
+//! with, and the permits that are made of that.
 ghost use Rattle.std.specs.Prelude.{◌≡◌, ◌+◌, ◌<◌, length, IsTrue, ◌↔◌, ◌≤◌, ℕ, map, vec_len, IfOk, slice_index, vec_capacity, IfErr};
 ghost use Rattle.std.specs.List.{AllByRecursion, IsDistinct};
 ghost use Rattle.auction_rows.specs.Requests.{same_object};
 ghost use Rattle.shard_boxes.specs.Keys.{AreNewKeys};
 ghost use Rattle.worker_slices.specs.Slicing.{hot_objects, IsStocked};
 ghost use Rattle.phase_transactions.specs.Workers.{IsEmptyIf};
-ghost use Rattle.phase_floor.specs.Begins.{IsTooLong, AreKits, empty_stash, asked_in_all, CanBegin, CanBeGiven, HasRefusedJoined, HaveStashRoom, OpensJoined, OpensPhase};
+ghost use Rattle.phase_floor.specs.Begins.{IsTooLong, AreKits, empty_stash, asked_in_all, CanBegin, CanBeGiven, HaveStashRoom, OpensPhase};
 ghost use Rattle.phase_floor.specs.Floors.{stash_at, AreBegun};
 
-use crate::floor::{BeginFault, Floor, JoinedFloor};
+use crate::floor::Floor;
 use crate::joined::Joined;
 use auction_rows::{Facts, MOST_WORKERS, Object};
 use auction_shards::Shards;
-use phase_permits::{Counters, JoinedPermit, Kind, Permit, Slices, Stash, WorkerStart};
+use phase_permits::{Counters, Kind, Permit, Slices, Stash, WorkerStart};
 use shard_boxes::{Boxes, Key, MOST_COMMITS, PhaseName, Spare};
 use std::alloc::{AllocError, Global};
 use std::marker::PhantomData;
@@ -98,33 +98,6 @@ pub(crate) fn new_stashes(alloc: Global, quotas: &[u32]) -> Result<Vec<Stash>, A
 }
 
 impl Joined {
-    /// Begins a joined phase: a permit for each worker to perform what waits in its stash and its
-    /// quota. The phase is of this state's shards and workers, and its number is below 2^64 - 1. If
-    /// it does not begin, the state and the stashes come back unchanged: `TooLong` if some worker's
-    /// commits, stash and quota are more than the state's limit together, `Memory` if none is left.
-    pub fn begin_joined<N: PhaseName, R: Wait>(
-        self,
-        rt: &R,
-        alloc: Global,
-        quotas: &[u32],
-        stashes: Vec<Stash>,
-    ) -> Result<(JoinedFloor<N>, Vec<JoinedPermit<N>>), (Joined, Vec<Stash>, BeginFault)>
-        requires can { CanBegin N.initial N.workers self quotas.now }
-        requires stashes { vec_len stashes ≡ N.workers }
-        ensures begun { IfOk result (λ begun.
-            OpensJoined self quotas.now stashes.items begun.0 begun.1.items) }
-        ensures refused { IfErr result (λ refused.
-            HasRefusedJoined self stashes quotas.now refused.0 refused.1 refused.2) }
-    {
-        if is_too_long(self.limit, &self.counters, &stashes, quotas) {
-            return Err((self, stashes, BeginFault::TooLong));
-        }
-        match self.begin(rt, alloc, Vec::new(alloc), quotas, stashes) {
-            Ok(begun) => Ok(begun),
-            Err((state, stashes)) => Err((state, stashes, BeginFault::Memory)),
-        }
-    }
-
     // Begins a phase of either kind. All memory is asked for before anything is moved; if it is
     // refused, the state and the stashes come back unchanged.
     pub(crate) fn begin<N: PhaseName, K: Kind, R: Wait>(

@@ -3,18 +3,14 @@ use Rattle.std.proofs.Common.{◌≡◌, ℕ, ◌==◌, not, cond, List, [], len
 use Rattle.std.specs.List.{list_any}
 use Rattle.std.specs.Option.{option_or}
 use Rattle.std.proofs.lemmas.List.{ext_get_or}
-use Rattle.auction_rows.specs.declared.replies.Refusal.{Refusal}
-use Rattle.auction_rows.specs.declared.replies.Reply.{Reply}
-use Rattle.auction_rows.specs.declared.replies.Reply.TheVariants.{Refused}
-use Rattle.auction_rows.specs.declared.requests.Request.{Request}
-use Rattle.auction_rows.specs.declared.requests.Request.TheVariants.{StoreItem}
+use Rattle.auction_rows.specs.Types.{Request, Refusal, Reply, StoreItem, Refused}
 use Rattle.auction_rows.specs.Footprint.{is_hot, objects_of, footprint}
 use Rattle.auction_rows.specs.Refusals.{number_refusal}
 use Rattle.auction_rows.specs.Requests.{shard_of}
 use Rattle.shard_boxes.specs.Keys.{KeyState, no_seat, seat_at}
 use Rattle.shard_boxes.specs.States.{ShardState}
 use Rattle.phase_transactions.specs.Txns.{hot_of, IsAnswered, ReadSet}
-use Rattle.phase_transactions.specs.declared.transaction.PermitFault.{PermitFault}
+use Rattle.phase_transactions.specs.declared.done.PermitFault.{PermitFault}
 use Rattle.phase_transactions.specs.Performing.{HasCommitted, HasFailed, HasPerformed, IsUntouched, shards_asked}
 use Rattle.phase_transactions.specs.Workers.{WorkerState, setting_of, txn_of}
 

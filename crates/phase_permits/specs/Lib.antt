@@ -1,2 +1,2 @@
-pub mod Permits
+pub mod inner
 pub mod Replying

@@ -1,11 +1,6 @@
 -- What a commit saw, and the books for which its reply is the model's.
 use Rattle.std.specs.Prelude.{◌≡◌, ◌-◌, ℕ, true, List, length, take, slice_get, Option, Some, ⊤}
-use Rattle.auction_rows.specs.declared.requests.ItemId.{ItemId}
-use Rattle.auction_rows.specs.declared.requests.Object.{Object}
-use Rattle.auction_rows.specs.declared.requests.Object.TheVariants.{Item}
-use Rattle.auction_rows.specs.declared.requests.Facts.{Facts}
-use Rattle.auction_rows.specs.declared.requests.Request.{Request}
-use Rattle.auction_rows.specs.declared.replies.Reply.{Reply}
+use Rattle.auction_rows.specs.Types.{ItemId, Facts, Object, Request, Reply, Item}
 use Rattle.auction_rows.specs.Book.{Book, items_stored, bids_stored, comments_stored, buys_stored}
 use Rattle.auction_rows.specs.Footprint.{is_hot}
 use Rattle.auction_rows.specs.Replies.{reply}
@@ -16,8 +11,8 @@ use Rattle.shard_boxes.specs.Keys.{KeyState, seen_at}
 use Rattle.shard_boxes.specs.Lines.{Line, acts_in, after_lines, AreTrueOf}
 use Rattle.shard_boxes.specs.States.{ShardState, state_at}
 use Rattle.worker_slices.specs.declared.slices.Hot.{Hot}
-use Rattle.phase_transactions.specs.declared.transaction.Done.{Done}
-use Rattle.phase_transactions.specs.declared.transaction.Done.TheVariants.{Committed, Stashed}
+use Rattle.phase_transactions.specs.declared.done.Done.{Done}
+use Rattle.phase_transactions.specs.declared.done.Done.TheVariants.{Committed, Stashed}
 use Rattle.worker_slices.specs.declared.counters.Counters.{Counters}
 use Rattle.phase_transactions.specs.Performing.{asks}
 use Rattle.worker_slices.specs.Slicing.{hot_objects, stocks_of, stock_of}

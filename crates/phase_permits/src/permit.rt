@@ -26,7 +26,7 @@ pub type SplitPermit<N> = Permit<N, SplitPhase>;
 impl<N: PhaseName, K: Kind> Model for Permit<N, K> {
     ghost use Rattle.std.specs.Prelude.{length};
     ghost use Rattle.phase_transactions.specs.Workers.{WorkerState};
-    ghost use Rattle.phase_permits.specs.Permits.{IsPermit};
+    ghost use Rattle.phase_permits.specs.inner.Permits.{IsPermit};
 
     ghost Value = { WorkerState };
 
@@ -58,7 +58,7 @@ pub type SplitReceipt<N> = Receipt<N, SplitPhase>;
 impl<N: PhaseName, K: Kind> Model for Receipt<N, K> {
     ghost use Rattle.std.specs.Prelude.{length};
     ghost use Rattle.phase_transactions.specs.Workers.{WorkerState};
-    ghost use Rattle.phase_permits.specs.Permits.{IsPermit};
+    ghost use Rattle.phase_permits.specs.inner.Permits.{IsPermit};
 
     ghost Value = { WorkerState };
 

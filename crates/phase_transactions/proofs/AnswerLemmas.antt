@@ -5,16 +5,7 @@ use Rattle.std.specs.Result.{result_ok}
 use Rattle.std.specs.Option.{option_or}
 use Rattle.std.proofs.lemmas.Bool.{true≢false}
 use Rattle.std.proofs.lemmas.Option.{same_Some}
-use Rattle.auction_rows.specs.declared.requests.ItemId.{ItemId}
-use Rattle.auction_rows.specs.declared.requests.Object.{Object}
-use Rattle.auction_rows.specs.declared.requests.Object.TheVariants.{Item}
-use Rattle.auction_rows.specs.declared.values.Opening.{Opening}
-use Rattle.auction_rows.specs.declared.replies.Refusal.{Refusal}
-use Rattle.auction_rows.specs.declared.replies.Reply.{Reply}
-use Rattle.auction_rows.specs.declared.replies.Reply.TheVariants.{Refused}
-use Rattle.auction_rows.specs.declared.requests.Facts.{Facts}
-use Rattle.auction_rows.specs.declared.requests.Request.{Request}
-use Rattle.auction_rows.specs.declared.requests.Request.TheVariants.{StoreItem, StoreBid, StoreComment, BuyNow, ViewItem, ViewBids, ViewCategory, ViewUser}
+use Rattle.auction_rows.specs.Types.{Opening, ItemId, Facts, Object, Request, Refusal, Reply, Item, StoreItem, StoreBid, StoreComment, BuyNow, ViewItem, ViewBids, ViewCategory, ViewUser, Refused}
 use Rattle.auction_rows.specs.Footprint.{is_hot}
 use Rattle.auction_rows.specs.Refusals.{number_refusal, item_refusal}
 use Rattle.auction_rows.specs.Replies.{row_of}
@@ -25,18 +16,18 @@ use Rattle.item_shards.specs.ShardContents.{contents}
 use Rattle.item_shards.specs.Values.{stock}
 use Rattle.item_shards.specs.Writing.{writes_if}
 use Rattle.worker_slices.specs.declared.counters.Counters.{Counters}
-use Rattle.phase_transactions.specs.declared.transaction.PermitFault.{PermitFault}
-use Rattle.phase_transactions.specs.declared.transaction.PermitFault.TheVariants.{Memory, NumberFull}
+use Rattle.phase_transactions.specs.declared.done.PermitFault.{PermitFault}
+use Rattle.phase_transactions.specs.declared.done.PermitFault.TheVariants.{Memory, NumberFull}
 use Rattle.worker_slices.specs.declared.homes.Home.{Home}
 use Rattle.worker_slices.specs.declared.homes.Home.TheVariants as home
 use Rattle.worker_slices.specs.declared.homes.Homes.{Homes}
-use Rattle.phase_transactions.specs.declared.homes.Taken.{Taken}
-use Rattle.phase_transactions.specs.declared.homes.Taken.TheVariants as taken
+use Rattle.phase_transactions.specs.declared.taken.Taken.{Taken}
+use Rattle.phase_transactions.specs.declared.taken.Taken.TheVariants as taken
 use Rattle.worker_slices.specs.declared.slices.Hot.{Hot}
-use Rattle.phase_transactions.specs.Begun.{IsRefusedBy}
-use Rattle.phase_transactions.specs.Deeds.{IsReplyBy, IsReplyUnless, stock_on, stock_taken}
+use Rattle.phase_transactions.specs.inner.Begun.{IsRefusedBy}
+use Rattle.phase_transactions.specs.inner.Deeds.{IsReplyBy, IsReplyUnless, stock_on, stock_taken}
 use Rattle.worker_slices.specs.Homes.{IsHomeOf, IsWrittenAt, shard_at}
-use Rattle.phase_transactions.specs.Homes.{AreHomesOf, HasHomes}
+use Rattle.phase_transactions.specs.inner.Homes.{AreHomesOf, HasHomes}
 use Rattle.phase_transactions.specs.Performing.{HasStoredOrIsFull, HasStoredSome}
 use Rattle.worker_slices.specs.Slicing.{hot_objects, stocks_of, stock_of, slices_after_acts}
 use Rattle.phase_transactions.specs.Txns.{refusal_by, refusal_seen, reason_seen, stock_seen, is_put_off, IsReplyTo, IsAnswered, ReadSet}

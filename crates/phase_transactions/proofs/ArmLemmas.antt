@@ -1,21 +1,11 @@
 -- What each kind of store does is good on a shard that it took, by what it was answered.
 use Rattle.std.proofs.Common.{◌≡◌, ℕ, Option, Some, None, MatchOption, option_map, refl, subst}
-use Rattle.auction_rows.specs.declared.requests.BidEntry.{BidEntry}
-use Rattle.auction_rows.specs.declared.requests.BidId.{BidId}
-use Rattle.auction_rows.specs.declared.requests.BuyId.{BuyId}
-use Rattle.auction_rows.specs.declared.requests.ItemId.{ItemId}
-use Rattle.auction_rows.specs.declared.values.Stars.{Stars}
-use Rattle.auction_rows.specs.declared.replies.Refusal.{Refusal}
-use Rattle.auction_rows.specs.declared.replies.Reply.{Reply}
-use Rattle.auction_rows.specs.declared.replies.Reply.TheVariants.{BidStored, Bought, Refused}
-use Rattle.auction_rows.specs.declared.requests.Facts.{Facts}
-use Rattle.auction_rows.specs.declared.requests.Request.{Request}
-use Rattle.auction_rows.specs.declared.requests.Request.TheVariants.{StoreBid, StoreComment, BuyNow}
+use Rattle.auction_rows.specs.Types.{Stars, ItemId, BidId, BuyId, Facts, BidEntry, Request, Refusal, Reply, StoreBid, StoreComment, BuyNow, BidStored, Bought, Refused}
 use Rattle.item_shards.specs.Events.{Bid, Comment, Buy, Look}
 use Rattle.item_shards.specs.Shown as shown
 use Rattle.shard_boxes.specs.Helds.{HeldState}
-use Rattle.phase_transactions.specs.Begun.{IsAnsweredOn, Step}
-use Rattle.phase_transactions.specs.Deeds.{AreGoodOn}
+use Rattle.phase_transactions.specs.inner.Begun.{IsAnsweredOn, Step}
+use Rattle.phase_transactions.specs.inner.Deeds.{AreGoodOn}
 use Rattle.worker_slices.specs.Homes.{shard_at}
 use Rattle.phase_transactions.specs.Workers.{WorkerState}
 use Rattle.phase_transactions.proofs.GoodLemmas.{bid_good, buy_good, comment_good}

@@ -4,15 +4,7 @@ use Rattle.std.specs.Option.{option_or}
 use Rattle.std.specs.List.{AllByRecursion}
 use Rattle.std.proofs.lemmas.Bool.{true≢false}
 use Rattle.phase_laws.specs.Numbers.{greatest_by}
-use Rattle.auction_rows.specs.declared.requests.ItemId.{ItemId}
-use Rattle.auction_rows.specs.declared.requests.Object.{Object}
-use Rattle.auction_rows.specs.declared.requests.Object.TheVariants.{Item}
-use Rattle.auction_rows.specs.declared.replies.Refusal.{Refusal}
-use Rattle.auction_rows.specs.declared.replies.Reply.{Reply}
-use Rattle.auction_rows.specs.declared.replies.Reply.TheVariants.{ItemStored, Refused}
-use Rattle.auction_rows.specs.declared.requests.Facts.{Facts}
-use Rattle.auction_rows.specs.declared.requests.Request.{Request}
-use Rattle.auction_rows.specs.declared.requests.Request.TheVariants.{StoreItem, StoreBid, StoreComment, BuyNow}
+use Rattle.auction_rows.specs.Types.{ItemId, Facts, Object, Request, Refusal, Reply, Item, StoreItem, StoreBid, StoreComment, BuyNow, ItemStored, Refused}
 use Rattle.auction_rows.specs.Footprint.{is_hot, objects_of as objects_named}
 use Rattle.auction_rows.specs.Refusals.{number_refusal}
 use Rattle.auction_rows.specs.Requests.{item_of, is_view}
@@ -20,18 +12,18 @@ use Rattle.item_shards.specs.ShardContents.{HasItemRoom, clock, contents}
 use Rattle.item_shards.specs.Values.{stock}
 use Rattle.shard_boxes.specs.Helds.{HeldState}
 use Rattle.phase_transactions.specs.declared.deeds.Deeds.{Deeds}
-use Rattle.phase_transactions.specs.declared.transaction.PermitFault.TheVariants.{Memory}
+use Rattle.phase_transactions.specs.declared.done.PermitFault.TheVariants.{Memory}
 use Rattle.worker_slices.specs.declared.homes.Home.{Home}
 use Rattle.worker_slices.specs.declared.homes.Home.TheVariants as home
 use Rattle.worker_slices.specs.declared.slices.Hot.{Hot}
-use Rattle.phase_transactions.specs.declared.homes.Begun.{Begun}
-use Rattle.phase_transactions.specs.Begun.{Step, FirstHas, HasBegun, HasFirst, HasRoomFor, IsAnsweredOn, IsSeen}
-use Rattle.phase_transactions.specs.Deeds.{IsReplyBy, IsNextIf, AreDeedsOf, AreGoodOn, acts_for, event_with, found_on, written_of, footprint_on}
+use Rattle.phase_transactions.specs.declared.taken.Begun.{Begun}
+use Rattle.phase_transactions.specs.inner.Begun.{Step, FirstHas, HasBegun, HasFirst, HasRoomFor, IsAnsweredOn, IsSeen}
+use Rattle.phase_transactions.specs.inner.Deeds.{IsReplyBy, IsNextIf, AreDeedsOf, AreGoodOn, acts_for, event_with, found_on, written_of, footprint_on}
 use Rattle.worker_slices.specs.Homes.{IsHomeOf, shard_at}
 use Rattle.phase_transactions.specs.Performing.{HasCommitted, HasFailed, HaveOpening, StoresItem}
 use Rattle.worker_slices.specs.Slicing.{hot_objects, stocks_of, stock_of}
 use Rattle.phase_transactions.specs.Putting.{written_acts, HasPutAll, IsAsTaken}
-use Rattle.phase_transactions.specs.Takens.{footprint_of, held_in, numbers_of, is_one_of, dealt, line_among, CanBeDoneOnAll, AreBack}
+use Rattle.phase_transactions.specs.inner.Takens.{footprint_of, held_in, numbers_of, is_one_of, dealt, line_among, CanBeDoneOnAll, AreBack}
 use Rattle.phase_transactions.specs.Txns.{IsReplyTo, IsAnswered, refusal_by, ReadSet}
 use Rattle.phase_transactions.specs.Workers.{WorkerState, IsLawfulWorker, setting_of, next_item, txn_of, after_commit}
 use Rattle.phase_transactions.proofs.AnswerLemmas.{in_setting, item_home, store_answered}

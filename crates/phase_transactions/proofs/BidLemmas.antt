@@ -2,16 +2,7 @@
 use Rattle.std.proofs.Common.{◌≡◌, ◌==◌, ◌||◌, ℕ, ◌+◌, ◌<◌, ◌^◌, Bool, true, false, cond, List, [], ◌∷◌, length, map, Option, Some, None, IsSome, refl, sym, ap, ◌∙◌, arith, eq-eqb}
 use Rattle.std.proofs.lemmas.List.{length-map}
 use Rattle.std.proofs.lemmas.Option.{same_Some}
-use Rattle.auction_rows.specs.declared.requests.BidEntry.{BidEntry}
-use Rattle.auction_rows.specs.declared.requests.BidId.{BidId}
-use Rattle.auction_rows.specs.declared.requests.Facts.{Facts}
-use Rattle.auction_rows.specs.declared.requests.ItemId.{ItemId}
-use Rattle.auction_rows.specs.declared.requests.Object.{Object}
-use Rattle.auction_rows.specs.declared.requests.Object.TheVariants.{Item}
-use Rattle.auction_rows.specs.declared.requests.Request.{Request}
-use Rattle.auction_rows.specs.declared.replies.Refusal.{Refusal}
-use Rattle.auction_rows.specs.declared.replies.Reply.{Reply}
-use Rattle.auction_rows.specs.declared.replies.Reply.TheVariants.{BidStored}
+use Rattle.auction_rows.specs.Types.{ItemId, BidId, Facts, BidEntry, Object, Request, Refusal, Reply, Item, BidStored}
 use Rattle.item_shards.specs.Answering.{bid_request, refusal_with}
 use Rattle.item_shards.specs.Events.{Event}
 use Rattle.item_shards.specs.Events as event
@@ -24,17 +15,17 @@ use Rattle.item_shards.specs.declared.shard.acts.Look.TheVariants as look
 use Rattle.shard_boxes.specs.Helds.{HeldState}
 use Rattle.shard_boxes.specs.Lines.{bid_act, bid_acts, line_of}
 use Rattle.phase_transactions.specs.declared.deeds.Deeds.{Deeds}
-use Rattle.phase_transactions.specs.declared.homes.Begun.{Begun}
+use Rattle.phase_transactions.specs.declared.taken.Begun.{Begun}
 use Rattle.worker_slices.specs.declared.homes.Home.{Home}
 use Rattle.worker_slices.specs.declared.homes.Home.TheVariants as home
-use Rattle.phase_transactions.specs.declared.homes.Taken.TheVariants as taken
+use Rattle.phase_transactions.specs.declared.taken.Taken.TheVariants as taken
 use Rattle.worker_slices.specs.declared.slices.Hot.{Hot}
-use Rattle.phase_transactions.specs.Begun.{Step, HasBegun, IsAnsweredOn, IsSeen}
-use Rattle.phase_transactions.specs.Deeds.{IsReplyBy, IsReplyUnless, AreDeedsOf, AreGoodOn, acts_for, deeds_on, event_with, is_at}
+use Rattle.phase_transactions.specs.inner.Begun.{Step, HasBegun, IsAnsweredOn, IsSeen}
+use Rattle.phase_transactions.specs.inner.Deeds.{IsReplyBy, IsReplyUnless, AreDeedsOf, AreGoodOn, acts_for, deeds_on, event_with, is_at}
 use Rattle.phase_transactions.specs.Performing.{HasCommitted, HaveOpening}
 use Rattle.phase_transactions.specs.Putting.{IsAsTaken, IsHeldFor, IsPutWith}
 use Rattle.worker_slices.specs.Slicing.{hot_objects}
-use Rattle.phase_transactions.specs.Takens.{each_once, footprint_of, held_in}
+use Rattle.phase_transactions.specs.inner.Takens.{each_once, footprint_of, held_in}
 use Rattle.worker_slices.specs.Homes.{shard_at}
 use Rattle.worker_slices.specs.Counting.{IsOwn}
 use Rattle.phase_transactions.specs.Workers.{WorkerState, next_bid, after_commit}

@@ -1,9 +1,7 @@
 -- The acts that a request owes on a shard are those whose objects have their home there.
 use Rattle.std.proofs.Common.{◌≡◌, ℕ, ◌==◌, ◌&&◌, not, Bool, false, cond, List, [], ◌∷◌, filter, Option, Some, refl, sym, ap, ◌∙◌}
 use Rattle.std.specs.Option.{option_map_or}
-use Rattle.auction_rows.specs.declared.replies.Reply.{Reply}
-use Rattle.auction_rows.specs.declared.requests.Facts.{Facts}
-use Rattle.auction_rows.specs.declared.requests.Object.{Object}
+use Rattle.auction_rows.specs.Types.{Facts, Object, Reply}
 use Rattle.auction_rows.specs.Requests.{shard_of}
 use Rattle.item_shards.specs.declared.shard.acts.Act.{Act}
 use Rattle.item_shards.specs.declared.shard.acts.Act.TheVariants.{AddItem, ListItem, Bid, Comment, Buy, Look}
@@ -19,7 +17,7 @@ use Rattle.worker_slices.specs.declared.homes.Home.TheVariants as home
 use Rattle.worker_slices.specs.declared.slices.Hot.{Hot}
 use Rattle.worker_slices.specs.Homes.{IsHomeOf}
 use Rattle.worker_slices.specs.Slicing.{hot_objects}
-use Rattle.phase_transactions.specs.Deeds.{is_at, deeds_on, event_with}
+use Rattle.phase_transactions.specs.inner.Deeds.{is_at, deeds_on, event_with}
 
 module _ (hots : List (Object × Hot)) (shards t : ℕ) where
   abbrev Done : Event → Bool

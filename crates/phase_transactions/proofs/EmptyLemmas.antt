@@ -4,25 +4,20 @@ use Rattle.std.specs.Prelude.{IsNone, IfSome}
 use Rattle.std.specs.List.{AllByRecursion, list_any}
 use Rattle.std.proofs.Math.Nat.{lt_of_not-le}
 use Rattle.std.proofs.lemmas.Bool.{false≢true, true≢false}
-use Rattle.auction_rows.specs.declared.replies.Refusal.{Refusal}
-use Rattle.auction_rows.specs.declared.replies.Reply.{Reply}
-use Rattle.auction_rows.specs.declared.requests.Object.{Object}
-use Rattle.auction_rows.specs.declared.requests.Object.TheVariants.{Item, User}
-use Rattle.auction_rows.specs.declared.requests.Request.{Request}
-use Rattle.auction_rows.specs.declared.requests.Request.TheVariants.{StoreBid, StoreComment}
+use Rattle.auction_rows.specs.Types.{Object, Request, Refusal, Reply, Item, User, StoreBid, StoreComment}
 use Rattle.auction_rows.specs.Footprint.{is_hot, objects_of as objects_named}
 use Rattle.auction_rows.specs.Refusals.{number_refusal}
 use Rattle.auction_rows.specs.Requests.{shard_of}
 use Rattle.item_shards.specs.CommitNumbers.{last_number}
 use Rattle.shard_boxes.specs.States.{ShardState}
-use Rattle.phase_transactions.specs.declared.transaction.PermitFault.{PermitFault}
-use Rattle.phase_transactions.specs.declared.transaction.PermitFault.TheVariants.{Memory, NumberFull}
+use Rattle.phase_transactions.specs.declared.done.PermitFault.{PermitFault}
+use Rattle.phase_transactions.specs.declared.done.PermitFault.TheVariants.{Memory, NumberFull}
 use Rattle.worker_slices.specs.declared.homes.Homes.{Homes}
 use Rattle.worker_slices.specs.Homes.{IsHotStore, shard_at}
 use Rattle.phase_transactions.specs.Performing.{HasCommitted, HasCommittedSome, HasFailed, HasPerformed, HasStored, HasStoredOrIsFull, HasStoredSome, asks}
 use Rattle.worker_slices.specs.Slicing.{hot_objects, stocks_of}
 use Rattle.phase_transactions.specs.Putting.{HasPutAll}
-use Rattle.phase_transactions.specs.Takens.{each_once, footprint_of, is_one_of, no_line}
+use Rattle.phase_transactions.specs.inner.Takens.{each_once, footprint_of, is_one_of, no_line}
 use Rattle.phase_transactions.specs.Txns.{clock_found, hot_of, takes, greatest_clock, is_put_off}
 use Rattle.phase_transactions.specs.Workers.{WorkerState, IsIdle, setting_of, hot_txn, nothing, after_commit}
 use Rattle.phase_transactions.proofs.AnswerLemmas.{in_setting}

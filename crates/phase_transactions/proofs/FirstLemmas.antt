@@ -2,11 +2,7 @@
 use Rattle.std.proofs.Common.{◌≡◌, ℕ, suc, max, ◌<◌, ◌≤◌, List, [], ◌∷◌, length, map, Option, Some, refl, sym, ap, subst, ◌∙◌, arith, inl, inr}
 use Rattle.std.specs.List.{AllByRecursion}
 use Rattle.phase_laws.specs.Numbers.{greatest_by}
-use Rattle.auction_rows.specs.declared.requests.ItemId.{ItemId}
-use Rattle.auction_rows.specs.declared.requests.Object.{Object}
-use Rattle.auction_rows.specs.declared.requests.Object.TheVariants.{Item}
-use Rattle.auction_rows.specs.declared.requests.Facts.{Facts}
-use Rattle.auction_rows.specs.declared.requests.Request.{Request}
+use Rattle.auction_rows.specs.Types.{ItemId, Facts, Object, Request, Item}
 use Rattle.auction_rows.specs.Requests.{shard_of}
 use Rattle.item_shards.specs.CommitNumbers.{last_number}
 use Rattle.item_shards.specs.ShardContents.{HasItemRoom, LiesIn, clock, contents}
@@ -17,14 +13,14 @@ use Rattle.shard_boxes.specs.Lines.{IsShardHistory}
 use Rattle.shard_boxes.specs.States.{ShardState, state_of}
 use Rattle.worker_slices.specs.declared.homes.Home.{Home}
 use Rattle.worker_slices.specs.declared.slices.Hot.{Hot}
-use Rattle.phase_transactions.specs.declared.homes.Begun.{Begun}
-use Rattle.phase_transactions.specs.declared.homes.Taken.{Taken}
-use Rattle.phase_transactions.specs.declared.homes.Taken.TheVariants as taken
-use Rattle.phase_transactions.specs.Begun.{HasBegun, Step, FirstHas, FirstHasRoom, states_in}
-use Rattle.phase_transactions.specs.Deeds.{stock_on}
+use Rattle.phase_transactions.specs.declared.taken.Begun.{Begun}
+use Rattle.phase_transactions.specs.declared.taken.Taken.{Taken}
+use Rattle.phase_transactions.specs.declared.taken.Taken.TheVariants as taken
+use Rattle.phase_transactions.specs.inner.Begun.{HasBegun, Step, FirstHas, FirstHasRoom, states_in}
+use Rattle.phase_transactions.specs.inner.Deeds.{stock_on}
 use Rattle.worker_slices.specs.Homes.{IsHomeOf, shard_at}
 use Rattle.phase_transactions.specs.Putting.{IsAsTaken}
-use Rattle.phase_transactions.specs.Takens.{each_once, held_in, numbers_of, is_one_of, AreApart}
+use Rattle.phase_transactions.specs.inner.Takens.{each_once, held_in, numbers_of, is_one_of, AreApart}
 use Rattle.phase_transactions.specs.Workers.{WorkerState}
 use Rattle.phase_transactions.proofs.WrittenLemmas.{LieInOne, in_one, in_two}
 use Rattle.phase_transactions.proofs.GoodLemmas.{home_number}

@@ -4,16 +4,7 @@ use Rattle.std.specs.Prelude.{nat_le, nat_lt}
 use Rattle.std.specs.Option.{option_or}
 use Rattle.std.proofs.lemmas.Bool.{or_parts, leb-false, ltb-false}
 use Rattle.std.proofs.lemmas.Option.{same_Some}
-use Rattle.auction_rows.specs.declared.requests.BidEntry.{BidEntry}
-use Rattle.auction_rows.specs.declared.requests.ItemId.{ItemId}
-use Rattle.auction_rows.specs.declared.requests.Object.{Object}
-use Rattle.auction_rows.specs.declared.requests.Object.TheVariants.{Item, User}
-use Rattle.auction_rows.specs.declared.values.Opening.{Opening}
-use Rattle.auction_rows.specs.declared.values.Stars.{Stars}
-use Rattle.auction_rows.specs.declared.replies.Refusal.{Refusal}
-use Rattle.auction_rows.specs.declared.replies.Refusal.TheVariants.{NoSuchItem, Closed, NotEnough}
-use Rattle.auction_rows.specs.declared.requests.Facts.{Facts}
-use Rattle.auction_rows.specs.declared.requests.Request.TheVariants.{StoreBid, StoreComment, BuyNow}
+use Rattle.auction_rows.specs.Types.{Opening, Stars, ItemId, Facts, BidEntry, Object, Refusal, Item, User, StoreBid, StoreComment, BuyNow, NoSuchItem, Closed, NotEnough}
 use Rattle.auction_rows.specs.Refusals.{number_refusal}
 use Rattle.auction_rows.specs.Requests.{shard_of}
 use Rattle.auction_rows.proofs.RefusalLemmas.{in_range}
@@ -29,7 +20,7 @@ use Rattle.shard_boxes.proofs.LimitLemmas.{two_fit}
 use Rattle.worker_slices.specs.declared.homes.Home.{Home}
 use Rattle.worker_slices.specs.declared.homes.Home.TheVariants as home
 use Rattle.worker_slices.specs.declared.slices.Hot.{Hot}
-use Rattle.phase_transactions.specs.Deeds.{AreGoodOn, IsGood}
+use Rattle.phase_transactions.specs.inner.Deeds.{AreGoodOn, IsGood}
 use Rattle.worker_slices.specs.Homes.{IsHomeOf, shard_at}
 use Rattle.phase_transactions.specs.Putting.{IsAsTaken}
 use Rattle.phase_transactions.specs.Performing.{HaveOpening}

@@ -2,10 +2,8 @@
 use Rattle.std.proofs.Common.{◌≡◌, ◌≢◌, ℕ, ◌==◌, ◌||◌, not, Bool, true, false, cond, if◌then◌else◌, List, [], ◌∷◌, map, filter, Some, None, is_some, refl, sym, ap, ◌∙◌, ◌⊎◌, inl, inr}
 use Rattle.std.specs.List.{list_any}
 use Rattle.std.proofs.lemmas.Bool.Decides.{eqb_tells}
-use Rattle.auction_rows.specs.declared.requests.Object.{Object}
+use Rattle.auction_rows.specs.Types.{Object, Request, ItemStored}
 use Rattle.auction_rows.specs.Requests.{shard_of}
-use Rattle.auction_rows.specs.declared.replies.Reply.TheVariants.{ItemStored}
-use Rattle.auction_rows.specs.declared.requests.Request.{Request}
 use Rattle.auction_rows.specs.Footprint.{is_hot, objects_of as objects_named}
 use Rattle.auction_rows.specs.Refusals.{number_refusal}
 use Rattle.phase_transactions.specs.Performing.{asks}
@@ -15,7 +13,7 @@ use Rattle.worker_slices.specs.declared.homes.Home.TheVariants as home
 use Rattle.worker_slices.specs.declared.slices.Hot.{Hot}
 use Rattle.worker_slices.specs.Homes.{IsHomeOf, shard_at}
 use Rattle.worker_slices.specs.Slicing.{hot_objects, stocks_of}
-use Rattle.phase_transactions.specs.Takens.{each_once, is_one_of}
+use Rattle.phase_transactions.specs.inner.Takens.{each_once, is_one_of}
 
 -- the hot objects are those of what is fixed
 pub same_objects_of : (hots : List (Object × Hot)) → hot_objects (stocks_of hots) ≡ hot_objects hots

@@ -5,7 +5,7 @@ use Rattle.std.proofs.Math.Nat.{lt_of_not-le}
 use Rattle.std.proofs.lemmas.Bool.{true≢false}
 use Rattle.std.proofs.lemmas.Option.{same_Some}
 use Rattle.item_shards.specs.CommitNumbers.{last_number, next_number}
-use Rattle.phase_transactions.specs.declared.transaction.PermitFault.TheVariants.{NumberFull}
+use Rattle.phase_transactions.specs.declared.done.PermitFault.TheVariants.{NumberFull}
 
 chosen : (b : Bool) (m n : ℕ) → Some n ≡ (if b then Some (suc m) else None) → n ≡ suc m
 chosen true m n is = same_Some n (suc m) is

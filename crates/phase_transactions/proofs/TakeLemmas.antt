@@ -7,7 +7,7 @@ use Rattle.shard_boxes.specs.Keys.{KeyState, SeatState, taking, seen_at}
 use Rattle.shard_boxes.specs.Lines.{IsShardHistory, StartsWith}
 use Rattle.shard_boxes.specs.States.{ShardState, state_of}
 use Rattle.phase_transactions.specs.Workers.{IsIdle}
-use Rattle.phase_transactions.specs.Takens.{is_one_of, HasTakenAll}
+use Rattle.phase_transactions.specs.inner.Takens.{is_one_of, HasTakenAll}
 use Rattle.phase_transactions.proofs.KeyLemmas.{at_each, many, still_taken, held_seat, lines_still, lines_on, lines_taken}
 
 -- none

@@ -12,8 +12,7 @@ use Rattle.item_shards.specs.Events.{Event}
 use Rattle.item_shards.specs.Events as event
 use Rattle.item_shards.specs.Shown as shown
 use Rattle.phase_laws.specs.Replay.{SawInTurn}
-use Rattle.auction_rows.specs.declared.replies.Reply.{Reply}
-use Rattle.auction_rows.specs.declared.requests.Facts.{Facts}
+use Rattle.auction_rows.specs.Types.{Facts, Reply}
 use Rattle.item_shards.specs.Acting.{CanActIn}
 use Rattle.item_shards.specs.Contents.{Contents, after_act}
 use Rattle.item_shards.specs.Looking.{event_at, events_of}
@@ -23,12 +22,12 @@ use Rattle.shard_boxes.specs.Helds.{HeldState}
 use Rattle.shard_boxes.specs.Lines.{first_two}
 use Rattle.worker_slices.specs.declared.homes.Home.{Home}
 use Rattle.worker_slices.specs.declared.homes.Home.TheVariants as home
-use Rattle.phase_transactions.specs.declared.homes.Taken.{Taken}
-use Rattle.phase_transactions.specs.declared.homes.Taken.TheVariants as taken
-use Rattle.phase_transactions.specs.Deeds.{is_at, deeds_on, first_dealt, second_dealt, clocks_of, event_with, IsGood, AreGoodOn}
+use Rattle.phase_transactions.specs.declared.taken.Taken.{Taken}
+use Rattle.phase_transactions.specs.declared.taken.Taken.TheVariants as taken
+use Rattle.phase_transactions.specs.inner.Deeds.{is_at, deeds_on, first_dealt, second_dealt, clocks_of, event_with, IsGood, AreGoodOn}
 use Rattle.phase_transactions.specs.Putting.{alone_in}
 use Rattle.worker_slices.specs.Homes.{shard_at}
-use Rattle.phase_transactions.specs.Takens.{each_once, greatest_held, held_in, numbers_of, is_one_of, dealt, no_line, line_among, CanBeDoneOn, CanBeDoneOnAll}
+use Rattle.phase_transactions.specs.inner.Takens.{each_once, greatest_held, held_in, numbers_of, is_one_of, dealt, no_line, line_among, CanBeDoneOn, CanBeDoneOnAll}
 use Rattle.phase_transactions.specs.Txns.{clock_in}
 use Rattle.phase_transactions.proofs.DeedLemmas.{event_is}
 

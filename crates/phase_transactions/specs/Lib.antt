@@ -1,11 +1,7 @@
+pub mod inner
 pub mod Txns
 pub mod Works
 pub mod Workers
 pub mod WorkerFields
 pub mod Putting
-pub mod Takens
 pub mod Performing
-pub mod Homes
-pub mod Deeds
-pub mod Begun
-pub mod Viewing

@@ -1,21 +1,16 @@
 -- What becomes of a request.
 use Rattle.std.specs.Prelude.{◌≡◌, ℕ, suc, max, ◌<◌, ◌≤◌, Bool, true, false, List, [], length, Some, None, Result, Ok, Err, ⊤, slice_get}
 use Rattle.phase_laws.specs.Numbers.{greatest_by}
-use Rattle.auction_rows.specs.declared.values.Opening.{Opening}
-use Rattle.auction_rows.specs.declared.replies.Reply.{Reply}
-use Rattle.auction_rows.specs.declared.replies.Reply.TheVariants.{ItemStored}
-use Rattle.auction_rows.specs.declared.requests.Request.{Request}
-use Rattle.auction_rows.specs.declared.requests.Request.TheVariants.{StoreItem}
-use Rattle.auction_rows.specs.declared.rows.Entry.{Entry}
+use Rattle.auction_rows.specs.Types.{Opening, Request, Reply, Entry, StoreItem, ItemStored}
 use Rattle.auction_rows.specs.Footprint.{footprint, takes_shard}
 use Rattle.auction_rows.specs.Refusals.{number_refusal}
 use Rattle.item_shards.specs.CommitNumbers.{last_number}
 use Rattle.shard_boxes.specs.Keys.{BoxId, KeyState, seat_at}
 use Rattle.shard_boxes.specs.States.{ShardState, state_at}
-use Rattle.phase_transactions.specs.declared.transaction.Done.{Done}
-use Rattle.phase_transactions.specs.declared.transaction.Done.TheVariants.{Committed, Stashed}
-use Rattle.phase_transactions.specs.declared.transaction.PermitFault.{PermitFault}
-use Rattle.phase_transactions.specs.declared.transaction.PermitFault.TheVariants.{Memory, NumberFull}
+use Rattle.phase_transactions.specs.declared.done.Done.{Done}
+use Rattle.phase_transactions.specs.declared.done.Done.TheVariants.{Committed, Stashed}
+use Rattle.phase_transactions.specs.declared.done.PermitFault.{PermitFault}
+use Rattle.phase_transactions.specs.declared.done.PermitFault.TheVariants.{Memory, NumberFull}
 use Rattle.phase_transactions.specs.Putting.{HasPutAll, clock_seen, HasSameLines}
 use Rattle.worker_slices.specs.Slicing.{hot_objects}
 use Rattle.phase_transactions.specs.Txns.{Setting, Txn, hot_of, txn_number, takes, line_on, greatest_clock, is_put_off, IsAnswered, ReadSet}

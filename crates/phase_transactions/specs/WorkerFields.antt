@@ -1,14 +1,14 @@
 -- What the fields of a worker show.
 use Rattle.std.specs.Prelude.{◌≡◌, ℕ, ◌<◌}
 use Rattle.phase_transactions.specs.declared.worker.Worker.TheInside.{Inside}
-use Rattle.phase_transactions.specs.Workers.{WorkerState, IsLawfulWorker, begun_of}
+use Rattle.phase_transactions.specs.Workers.{WorkerState, IsLawfulWorker}
 
 -- the worker with these fields
 abbrev pub state_in : {N : Type 0} → Inside N → WorkerState
 state_in w = record {
   key = w.key;
   opening = w.opening;
-  begun = begun_of w.begun.items;
+  begun = w.begun.value;
   counters = w.counters;
   journal = w.journal;
   stash = w.stash;

@@ -1,14 +1,7 @@
 -- A worker in a phase.
 use Rattle.std.specs.Prelude.{◌≡◌, ℕ, suc, ◌+◌, ◌-◌, ◌<◌, ◌≤◌, Bool, true, false, List, [], ◌∷◌, ◌++◌, Option, None, length, option_map, slice_get, ⊤}
 use Rattle.phase_laws.specs.Numbers.{last_by}
-use Rattle.auction_rows.specs.declared.requests.BidId.{BidId}
-use Rattle.auction_rows.specs.declared.requests.ItemId.{ItemId}
-use Rattle.auction_rows.specs.declared.requests.Object.{Object}
-use Rattle.auction_rows.specs.declared.requests.Object.TheVariants.{Item}
-use Rattle.auction_rows.specs.declared.values.Opening.{Opening}
-use Rattle.auction_rows.specs.declared.replies.Reply.{Reply}
-use Rattle.auction_rows.specs.declared.requests.Request.{Request}
-use Rattle.auction_rows.specs.declared.rows.Entry.{Entry}
+use Rattle.auction_rows.specs.Types.{Opening, ItemId, BidId, Object, Request, Reply, Entry, Item}
 use Rattle.auction_rows.specs.Footprint.{is_hot}
 use Rattle.auction_rows.specs.Replies.{row_of}
 use Rattle.item_shards.specs.Writing.{writes_if}
@@ -197,11 +190,6 @@ IsUnused key = (shard : ℕ) → (holds_at key shard ≡ false) × (lines_at key
 -- counters that have counted nothing
 abbrev pub no_counters : Counters
 no_counters = record { items = 0; bids = 0; comments = 0; buys = 0; commits = 0 }
-
--- with what a worker began: the one pair of a log
-unfoldable pub begun_of : List (Counters × ℕ) → Counters × ℕ
-begun_of [] = (no_counters, 0)
-begun_of (begun ∷ more) = begun
 
 -- With this a worker can start a phase.
 pub record CanStart (w : WorkerState) : Type 0 where

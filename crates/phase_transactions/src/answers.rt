@@ -1,24 +1,24 @@
 //! What a store is answered, by what it sees of the item that it needs, and what a view shows.
 ghost use Rattle.std.specs.Prelude.{◌≡◌, ℕ, None, Some, false, true};
-ghost use Rattle.auction_rows.specs.declared.requests.Object.{Object as ObjectValue};
-ghost use Rattle.auction_rows.specs.declared.requests.ItemId.{ItemId as ItemIdValue};
+ghost use Rattle.auction_rows.specs.Types.{ItemId as ItemIdValue, Object as ObjectValue, ViewItem};
 ghost use Rattle.auction_rows.specs.Requests.{is_view, item_of};
 ghost use Rattle.auction_rows.specs.StoreReplies.{reply_of};
-ghost use Rattle.auction_rows.specs.declared.requests.Request.TheVariants.{ViewItem};
 ghost use Rattle.auction_rows.specs.ItemViews.{item_told};
 ghost use Rattle.item_shards.specs.declared.shard.acts.Look.TheVariants as look;
+ghost use Rattle.item_shards.specs.Answering.{bid_request};
 ghost use Rattle.item_shards.specs.Looking.{IsTrueOf};
 ghost use Rattle.item_shards.specs.ShardContents.{contents};
 ghost use Rattle.worker_slices.specs.declared.counters.Counters.{Counters as CountersValue};
-ghost use Rattle.phase_transactions.specs.Begun.{CanView, FirstHas, IsOnOne, IsRefusedBy, look_for};
-ghost use Rattle.phase_transactions.specs.Deeds.{IsReplyUnless, shown_with};
-ghost use Rattle.phase_transactions.specs.Homes.{HasHomes};
+ghost use Rattle.phase_transactions.specs.inner.Begun.{CanView, FirstHas, IsOnOne, IsRefusedBy, look_for};
+ghost use Rattle.phase_transactions.specs.inner.Deeds.{IsReplyUnless, shown_with};
+ghost use Rattle.phase_transactions.specs.inner.Homes.{HasHomes};
 ghost use Rattle.worker_slices.specs.Homes.{IsHomeOf, shard_at};
 ghost use Rattle.worker_slices.specs.Slicing.{stocks_of, stock_of};
 ghost use Rattle.phase_transactions.specs.Txns.{IsReplyTo};
-ghost use Rattle.phase_transactions.specs.Viewing.{IsShownBy};
+ghost use Rattle.phase_transactions.specs.inner.Viewing.{IsShownBy};
 
-use crate::homes::{Taken, refusal_in};
+use crate::deeds::BidCall;
+use crate::taken::{Taken, refusal_in};
 use crate::worker::Worker;
 use auction_rows::{
     BuyId, CommentId, Facts, ItemId, ItemView, Refusal, Reply, Request, StoreReply,
@@ -58,6 +58,18 @@ impl<N: PhaseName> Worker<N> {
         match home {
             Home::Slice(place) => self.slices.stock_at(place),
             Home::Nowhere | Home::Shard(_) => None,
+        }
+    }
+
+    /// The reply to a bid: the reason to refuse it, or else the worker's next id.
+    #[inline(always)]
+    pub(crate) fn reply_to_bid(&self, refused: Option<Refusal>, bid: &BidCall) -> StoreReply
+        ensures { IsReplyUnless self.now refused (bid_request bid.now.item bid.now.entry)
+            (reply_of result) }
+    {
+        match refused {
+            Some(reason) => StoreReply::Refused(reason),
+            None => StoreReply::BidStored(self.next_bid()),
         }
     }
 

@@ -1,17 +1,14 @@
-//! What a store does on the shards that it takes, and shards that go back with their lines.
+//! What a store does on the shards that it takes.
 ghost use Rattle.std.specs.Prelude.{◌≡◌, ℕ, false, Option};
 ghost use Rattle.auction_rows.specs.declared.requests.Facts.{Facts as FactsValue};
 ghost use Rattle.auction_rows.specs.Requests.{is_view};
 ghost use Rattle.auction_rows.specs.StoreReplies.{reply_of};
-ghost use Rattle.phase_transactions.specs.Begun.{AreGoodFor, AreOwedBy, HaveFootprint};
-ghost use Rattle.phase_transactions.specs.Deeds.{written_of};
-ghost use Rattle.phase_transactions.specs.Putting.{CanDo, written_acts, line_of, IsHeldFor, IsPutWith};
+ghost use Rattle.phase_transactions.specs.inner.Begun.{AreGoodFor, AreOwedBy, HaveFootprint};
+ghost use Rattle.phase_transactions.specs.inner.Deeds.{written_of};
 ghost use Rattle.phase_transactions.specs.Txns.{IsBid};
 
 use auction_rows::{BidEntry, ItemEntry, ItemId, Request, StoreReply};
 use item_shards::{Act, Look};
-use shard_boxes::{Boxes, Held, Key, PhaseName};
-use std::sync::Wait;
 use worker_journals::Answer;
 use worker_slices::{Home, Homes};
 
@@ -139,24 +136,4 @@ pub(crate) struct Written {
     pub(crate) index: u32,
     pub(crate) first: Act,
     pub(crate) second: Act,
-}
-
-/// Does two acts on a shard that is as it was taken, and puts it back with their line.
-#[inline(always)]
-pub(crate) fn put_with_line<N: PhaseName, R: Wait>(
-    rt: &R,
-    boxes: &Boxes<N>,
-    key: &mut Key<N>,
-    mut held: Held<N>,
-    written: Written,
-)
-    requires of { key.old.boxes ≡ boxes.now }
-    requires held { IsHeldFor N.initial key.old held written.number }
-    requires can { CanDo held.shard (written_acts written) }
-    ensures { IsPutWith N.initial key.old key.new held
-        (line_of written.number written.index (written_acts written) held.shard) }
-{
-    let acts = [written.first, written.second];
-    let trace = held.act(written.number, written.index, &acts);
-    boxes.put_acted(rt, key, held, trace);
 }

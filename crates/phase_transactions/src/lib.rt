@@ -4,9 +4,11 @@
 
 mod answers;
 mod deeds;
+mod done;
 mod homes;
+mod taken;
 mod transaction;
 mod worker;
 
-pub use transaction::{Done, PermitFault};
+pub use done::{Done, PermitFault};
 pub use worker::{Worker, WorkerStart};

@@ -7,52 +7,32 @@ ghost use Rattle.auction_rows.specs.StoreReplies.{reply_of};
 ghost use Rattle.item_shards.specs.Answering.{bid_request};
 ghost use Rattle.item_shards.specs.CommitNumbers.{last_number};
 ghost use Rattle.shard_boxes.specs.Keys.{KeyState};
-ghost use Rattle.phase_transactions.specs.declared.transaction.PermitFault.TheVariants.{NumberFull};
+ghost use Rattle.phase_transactions.specs.declared.done.PermitFault.TheVariants.{NumberFull};
 ghost use Rattle.phase_transactions.specs.Txns.{IsBid};
 
 use crate::answers::{item_on, view_on};
 use crate::deeds::{BidCall, Call, Deeds, Store, View, Written};
-use crate::homes::{Begun, make_room, number_on, put_all, put_back, take_all};
+use crate::done::PermitFault;
+use crate::taken::{Begun, make_room, number_on, put_all, put_back, take_all};
 use crate::worker::Worker;
-use auction_rows::{BidEntry, Refusal, Reply, Request, StoreReply, number_refusal};
+use auction_rows::{BidEntry, Refusal, Request, StoreReply, number_refusal};
 use item_shards::{Act, Look, next_number, refusal_with};
 use shard_boxes::{Boxes, PhaseName};
 use std::alloc::AllocError;
 use std::sync::Wait;
-use thiserror::Error;
 use worker_journals::{Answer, ReplyForm};
 use worker_slices::Homes;
 
-/// Why a permit did not perform a request. Only its tries and what its key has seen have changed.
-#[derive(Clone, Copy, Debug, PartialEq, Eq, Drop, Error)]
-pub enum PermitFault {
-    /// No memory was left for the place of a new item.
-    #[error("no memory")]
-    Memory,
-    /// The greatest clock found is at the end of numbers, 2^59.
-    #[error("commit numbers used up")]
-    NumberFull,
-}
-
-/// What a split permit did with a request.
-#[derive(Clone, Copy, Debug, PartialEq, Eq)]
-pub enum Done {
-    /// It was committed with this reply.
-    Committed(Reply),
-    /// It waits for the next joined phase.
-    Stashed,
-}
-
 impl<N: PhaseName> Worker<N> {
     ghost use Rattle.worker_slices.specs.declared.homes.Homes.{Homes as HomesValue};
-    ghost use Rattle.phase_transactions.specs.Begun.{step_of, HasBegun, HasFirst, HasRoomFor, IsAnsweredBy, states_in};
-    ghost use Rattle.phase_transactions.specs.Homes.{AreHomesOf, HasHomes};
+    ghost use Rattle.phase_transactions.specs.inner.Begun.{step_of, HasBegun, HasFirst, HasRoomFor, IsAnsweredBy, states_in};
+    ghost use Rattle.phase_transactions.specs.inner.Homes.{AreHomesOf, HasHomes};
     ghost use Rattle.worker_slices.specs.Homes.{IsHotStore, shard_at};
     ghost use Rattle.phase_transactions.specs.Performing.{asks, CanTransact, HasCommitted, HasCommittedSome, HasFailed, HasPerformed, HasStoredOrIsFull, HasStoredSome, HaveOpening, StoresItem};
     ghost use Rattle.worker_slices.specs.Slicing.{hot_objects};
-    ghost use Rattle.phase_transactions.specs.Takens.{footprint_of, is_one_of, IsReady};
+    ghost use Rattle.phase_transactions.specs.inner.Takens.{footprint_of, is_one_of, IsReady};
     ghost use Rattle.phase_transactions.specs.Txns.{is_put_off};
-    ghost use Rattle.phase_transactions.specs.Viewing.{IsShownBy};
+    ghost use Rattle.phase_transactions.specs.inner.Viewing.{IsShownBy};
     ghost use Rattle.phase_transactions.specs.Workers.{next_bid};
 
     /// Performs a request of the quota that is not put off. After a fault nothing has changed but
@@ -122,7 +102,7 @@ impl<N: PhaseName> Worker<N> {
         let store = Store {
             call,
             homes: &homes,
-            reply: self.reply(refused, request),
+            reply: self.reply_to_bid(refused, bid),
         };
         self.add_store(number, &store);
         Ok(())

@@ -12,9 +12,9 @@ ghost use Rattle.phase_transactions.specs.Workers.{WorkerState, CanStart, new_wo
 
 use crate::deeds::{Call, Store};
 use auction_rows::{BidId, ItemId, MOST_TRIES, Object, Opening, Reply, Request};
-use ghost_log::GhostList;
 use shard_boxes::{Key, MOST_COMMITS, PhaseName};
 use std::marker::Model;
+use std::snapshot::Snapshot;
 use worker_journals::{Answer, Journal, ReplyForm};
 use worker_slices::{Counters, Slices, Stash};
 
@@ -34,8 +34,8 @@ pub struct Worker<N: PhaseName> {
     pub(crate) left: u32,
     pub(crate) tries: u32,
     pub(crate) clock: u64,
-    // What it began with: only for proofs.
-    pub(crate) begun: GhostList<Counters, u64>,
+    // The counters and the clock with which it began: only for proofs.
+    pub(crate) begun: Snapshot<(Counters, u64)>,
 }
 
 /// What a worker starts a phase with.
@@ -88,7 +88,7 @@ impl<N: PhaseName> Worker<N> {
             left: quota,
             tries: 0,
             clock,
-            begun: GhostList::new().and(&counters, &clock),
+            begun: Snapshot::of(&(counters, clock)),
         }
     }
 

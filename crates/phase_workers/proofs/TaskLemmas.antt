@@ -5,7 +5,7 @@ use Rattle.std.specs.List.{AllByRecursion, AllZip}
 use Rattle.std.proofs.lemmas.List.{map-append, length-map}
 use Rattle.std.proofs.lemmas.Slice.Zip.{AllZip-long}
 use Rattle.auction_rows.specs.declared.requests.Request.{Request}
-use Rattle.phase_transactions.specs.declared.transaction.PermitFault.{PermitFault}
+use Rattle.phase_transactions.specs.declared.done.PermitFault.{PermitFault}
 use Rattle.phase_transactions.specs.Workers.{WorkerState}
 use Rattle.phase_laws.proofs.ListLemmas.{all-append}
 use Rattle.shard_boxes.specs.States.{ShardState}

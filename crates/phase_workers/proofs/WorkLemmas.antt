@@ -6,10 +6,7 @@ use Rattle.std.proofs.Math.Seq.{drop-nil}
 use Rattle.std.proofs.lemmas.Bool.{false≢true}
 use Rattle.std.proofs.lemmas.List.{append-nil, map-append, length-append, take-append-drop, drop-drop, drop_all}
 use Rattle.std.proofs.lemmas.List.Elements.{filter-append}
-use Rattle.auction_rows.specs.declared.requests.Object.{Object}
-use Rattle.auction_rows.specs.declared.replies.Reply.{Reply}
-use Rattle.auction_rows.specs.declared.requests.Request.{Request}
-use Rattle.auction_rows.specs.declared.rows.Entry.{Entry}
+use Rattle.auction_rows.specs.Types.{Object, Request, Reply, Entry}
 use Rattle.auction_rows.specs.Phases.{is_put_off}
 use Rattle.auction_rows.specs.Replies.{row_of}
 use Rattle.item_shards.specs.Writing.{writes_if}
@@ -19,7 +16,7 @@ use Rattle.phase_transactions.proofs.HomeLemmas.{same_objects_of}
 use Rattle.phase_transactions.proofs.LawfulLemmas.{objects-acts}
 use Rattle.worker_slices.proofs.StockLemmas.{stocks-acts}
 use Rattle.phase_permits.proofs.PermitLemmas.{none_put_off}
-use Rattle.phase_transactions.specs.declared.transaction.PermitFault.{PermitFault}
+use Rattle.phase_transactions.specs.declared.done.PermitFault.{PermitFault}
 use Rattle.phase_transactions.specs.Performing.{HasFailed, IsCause, HasCommitted, HasFailedFirst, HasDealt, HasPerformedFirstSome}
 use Rattle.phase_laws.proofs.ListLemmas.{all-append}
 use Rattle.job_threads.proofs.ThreadLemmas.{err_as}

@@ -4,7 +4,7 @@ use Rattle.auction_rows.specs.declared.limits.TheConstants.{MOST_TRIES, MOST_OF_
 use Rattle.auction_rows.specs.declared.requests.Request.{Request}
 use Rattle.shard_boxes.specs.Keys.{BoxId}
 use Rattle.shard_boxes.specs.States.{ShardState}
-use Rattle.phase_transactions.specs.declared.transaction.PermitFault.{PermitFault}
+use Rattle.phase_transactions.specs.declared.done.PermitFault.{PermitFault}
 use Rattle.phase_transactions.specs.Workers.{WorkerState}
 use Rattle.phase_transactions.specs.Performing.{HaveOpening}
 use Rattle.phase_workers.specs.declared.round.ServingFault.{ServingFault}

@@ -5,10 +5,7 @@ use Rattle.std.proofs.lemmas.List.{append_cancel_left}
 use Rattle.std.proofs.lemmas.List.Elements.{filter_map-append}
 use Rattle.std.proofs.lemmas.List.Sums.{sum_by-cons}
 use Rattle.std.specs.List.{AllByRecursion, cons_option, range_with_len}
-use Rattle.auction_rows.specs.declared.requests.Request.{Request}
-use Rattle.auction_rows.specs.declared.rows.Entry.{Entry}
-use Rattle.auction_rows.specs.declared.values.Opening.{Opening}
-use Rattle.auction_rows.specs.Book.{Book}
+use Rattle.auction_rows.specs.Types.{Opening, Request, Opened, Entry, Book}
 use Rattle.auction_text.specs.LiveLines.{begun_after, line_says, lines_say, then_say}
 use Rattle.auction_text.specs.LiveParts.{HasToSay, row_said, rows_said}
 use Rattle.auction_text.specs.LiveReading.{records_said}
@@ -18,7 +15,6 @@ use Rattle.auction_text.specs.Said.TheVariants as says
 use Rattle.auction_text.specs.LiveInput.{LiveInput}
 use Rattle.auction_text.specs.Record.{Record}
 use Rattle.auction_text.proofs.LivePartLemmas.{no_rows_said}
-use Rattle.item_shards.specs.declared.openings.Opened.{Opened}
 use Rattle.run_laws.specs.Serving.{script_of}
 use Rattle.program_opening.specs.Options.{opening_asked}
 use Rattle.program_opening.specs.declared.options.Options.{Options}

@@ -2,15 +2,12 @@
 use Rattle.std.proofs.Common.{◌≡◌, ◌≤◌, ◌++◌, ◌∙◌, ℕ, Bool, true, false, List, [], Option, None, Some, IfNone, IfSome, ap, arith, inl, inr, length, map, refl, sym, subst}
 use Rattle.std.proofs.lemmas.List.{length-map}
 use Rattle.auction_rows.specs.declared.limits.TheConstants.{MOST_WORKERS}
-use Rattle.auction_rows.specs.declared.requests.Request.{Request}
-use Rattle.auction_rows.specs.declared.values.Opening.{Opening}
-use Rattle.auction_rows.specs.Book.{Book}
+use Rattle.auction_rows.specs.Types.{Opening, Request, Opened, Book}
 use Rattle.auction_run.specs.Beginning.{AreShortFor}
 use Rattle.auction_run.specs.GoingOn.{AreShortOn, HasScripts}
 use Rattle.auction_text.specs.Moved.{BeforeView, CannotCount, Gone, gone_by}
 use Rattle.auction_text.specs.Scripts.{Asked}
 use Rattle.item_shards.specs.OpeningRows.{rows_by}
-use Rattle.item_shards.specs.declared.openings.Opened.{Opened}
 use Rattle.log_opening.specs.Parts.{HasAdded, rows_from}
 use Rattle.phase_floor.specs.Adding.{HasBook, IsSameAuction, IsStartOf}
 use Rattle.phase_floor.specs.NextRun.{for_next_run}

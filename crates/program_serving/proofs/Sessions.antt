@@ -5,8 +5,7 @@ use Rattle.std.proofs.lemmas.List.{length-append}
 use Rattle.std.proofs.lemmas.List.Elements.{filter_map-append}
 use Rattle.std.proofs.lemmas.List.Sums.{fold-append}
 use Rattle.std.specs.List.{cons_option}
-use Rattle.auction_rows.specs.declared.requests.Request.{Request}
-use Rattle.auction_rows.specs.Book.{Book}
+use Rattle.auction_rows.specs.Types.{Request, Opened, Book}
 use Rattle.auction_text.specs.LiveParts.{GoesOnAfter, IsLivePart, KeepsLiveWorkers, row_said, rows_said}
 use Rattle.auction_text.specs.LiveReading.{records_said}
 use Rattle.auction_text.specs.Moved.{Gone, gone_by}
@@ -22,7 +21,6 @@ use Rattle.auction_text.specs.LiveInput.{LiveInput}
 use Rattle.auction_text.specs.LivePart.{LivePart}
 use Rattle.auction_text.specs.Record.{Record}
 use Rattle.item_shards.specs.OpeningRows.{rows_by}
-use Rattle.item_shards.specs.declared.openings.Opened.{Opened}
 use Rattle.part_log.specs.declared.log.Teller.{Teller}
 use Rattle.shard_boxes.specs.declared.limits.TheConstants.{MOST_COMMITS}
 use Rattle.program_opening.specs.declared.faults.Fault.{Fault as AnyFault}

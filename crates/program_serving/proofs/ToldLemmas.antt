@@ -5,8 +5,7 @@ use Rattle.std.proofs.Math.Seq.{take-length}
 use Rattle.std.specs.Io.KnownBytes.{Appends}
 use Rattle.std.specs.List.{cons_option}
 use Rattle.std.specs.Result.{IsErr, IsErrAnd}
-use Rattle.auction_rows.specs.declared.rows.Entry.{Entry}
-use Rattle.auction_rows.specs.Book.{Book}
+use Rattle.auction_rows.specs.Types.{Entry, Book}
 use Rattle.auction_rows.specs.History.{row_of_entry, rows_of}
 use Rattle.auction_text.specs.Moved.{Gone, all_moved}
 use Rattle.auction_text.specs.RowLines.{row_line, rows_text}
@@ -53,10 +52,6 @@ same_gone gone other phases requests = λ i. record { phases = phases i; request
 pub if_known : (known : Option (List ℕ)) (P : Type 0) → P → IfSome known (λ _. P)
 if_known None P holds = tt
 if_known (Some bytes) P holds = holds
-
--- nothing is known of a log that keeps nothing
-pub if_unknown : (known : Option (List ℕ)) (P : Type 0) → known ≡ None → IfSome known (λ _. P)
-if_unknown known P none = subst (λ o. IfSome o (λ _. P)) (sym none) tt
 
 pub whole_part : (old new : Option (List ℕ)) (text : List ℕ) → Appends old new text → IsPartWritten old new text
 whole_part old new text whole = (length text, subst (Appends old new) (sym (take-length text)) whole)

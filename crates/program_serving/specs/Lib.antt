@@ -1,3 +1,4 @@
+pub mod FaultLines
 pub mod Serving
 pub mod PartRuns
 pub mod ServeFaults

@@ -1,8 +1,6 @@
 -- Why serving ends with a fault, and how far was told by then.
 use Rattle.std.specs.Prelude.{ℕ, ◌≡◌, ◌<◌, ◌≤◌, ◌+◌, ◌++◌, ◌∷◌, ◌⊎◌, List, [], Option, false, true, length, slice_index_or}
-use Rattle.auction_rows.specs.declared.requests.Request.{Request}
-use Rattle.auction_rows.specs.declared.values.Opening.{Opening}
-use Rattle.auction_rows.specs.Book.{Book}
+use Rattle.auction_rows.specs.Types.{Opening, Request, Opened, Book}
 use Rattle.auction_run.specs.Beginning.{AreShortFor, HasQuotas}
 use Rattle.auction_run.specs.Phases.{HaveMetLastNumber}
 use Rattle.auction_run.specs.RunFault.{RunFault}
@@ -19,7 +17,6 @@ use Rattle.auction_text.specs.Said.{Said}
 use Rattle.auction_text.specs.Said.TheVariants as says
 use Rattle.auction_text.specs.Record.{Record}
 use Rattle.auction_text.specs.declared.writing.WriteFault.TheVariants as write
-use Rattle.item_shards.specs.declared.openings.Opened.{Opened}
 use Rattle.log_opening.specs.Parts.{IsFirstRefused, rows_from}
 use Rattle.part_log.specs.declared.log.Teller.{Teller}
 use Rattle.phase_floor.specs.States.{JoinedState}

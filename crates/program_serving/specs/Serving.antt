@@ -1,13 +1,9 @@
 -- What the program answers while requests come.
 use Rattle.std.specs.Prelude.{ℕ, ◌≡◌, ◌==◌, ◌≤◌, ◌+◌, ◌++◌, ◌⊎◌, ◌||◌, Bool, false, List, [], ◌∷◌, Option, None, Some, codes, decimal, flat_map, fold, length, slice_index_or, if◌then◌else◌}
 use Rattle.std.specs.Io.KnownBytes.{Appends, Keeps}
-use Rattle.auction_rows.specs.declared.requests.Object.{Object}
-use Rattle.auction_rows.specs.declared.requests.Request.{Request}
-use Rattle.auction_rows.specs.declared.rows.Entry.{Entry}
-use Rattle.auction_rows.specs.declared.values.Opening.{Opening}
-use Rattle.auction_rows.specs.Book.{Book}
+use Rattle.auction_rows.specs.Types.{Opening, Object, Request, Opened, Entry, Book}
 use Rattle.auction_rows.specs.History.{book_after}
-use Rattle.auction_text.specs.FaultLines.{fault_line}
+use Rattle.program_serving.specs.FaultLines.{fault_line}
 use Rattle.auction_text.specs.LiveReading.{records_said}
 use Rattle.auction_text.specs.Moved.{Gone, all_moved}
 use Rattle.auction_text.specs.Replies.{labelled}
@@ -20,7 +16,6 @@ use Rattle.auction_text.specs.Said.{Said}
 use Rattle.auction_text.specs.Said.TheVariants as says
 use Rattle.auction_text.specs.Record.{Record}
 use Rattle.item_shards.specs.OpeningRows.{rows_by}
-use Rattle.item_shards.specs.declared.openings.Opened.{Opened}
 use Rattle.log_opening.specs.Parts.{AreRowsFrom, rows_from}
 use Rattle.part_log.specs.declared.log.Teller.{Teller}
 use Rattle.run_laws.specs.Answers.{IsAnswer}

@@ -2,10 +2,12 @@
 //! logged before one byte of its replies is written.
 #![tactic(auto)]
 
+mod fault_lines;
 mod limits;
 mod parts;
 mod session;
 
+pub use fault_lines::push_fault_line;
 pub use part_log::{Log, NoLog, Teller};
 pub use parts::LiveTeller;
 pub use session::{LoggedInput, parts_are_one_history, serve};

@@ -15,11 +15,12 @@ ghost use Rattle.program_serving.specs.PartRuns.{GoesOnTo, IsSession, IsStart, P
 ghost use Rattle.program_serving.specs.ServeFaults.{AreToldAt, IsServeFault, IsStop};
 ghost use Rattle.program_serving.specs.Serving.{AreStepRuns, AreTold, HasServedBook, IsLoggedBefore, IsServed, LogHasBook, RowsComeFirst, ServesAll, Step, added_rows, ends_at_fault, fault_answer, limit_answer, limit_line, limit_text, served_history, served_text};
 
+use crate::fault_lines::push_fault_line;
 use crate::limits::{ends_at_fault, most_of_a_part};
 use crate::parts::{LiveTeller, NextPart, Served, ServedPart, serve_part};
 use auction_text::{
-    Before, LineFault, LiveEnd, LiveInput, LivePart, ReadFault, WriteFault, push_fault_line,
-    push_labelled, push_number, push_text,
+    Before, LineFault, LiveEnd, LiveInput, LivePart, ReadFault, WriteFault, push_labelled,
+    push_number, push_text,
 };
 use part_log::Log;
 use phase_floor::Joined;

@@ -3,17 +3,15 @@ use Rattle.std.proofs.Common.{arith, ◌≡◌, ◌<◌, ◌+◌, ◌∷◌, ◌
 use Rattle.std.proofs.lemmas.Grind.{common_steps}
 use Rattle.std.proofs.lemmas.Bool.{lt-ltb}
 use Rattle.csv.specs.Records.{field_at}
-use Rattle.auction_rows.specs.declared.requests.Request.{Request}
+use Rattle.auction_rows.specs.Types.{Stars, ItemId, Request}
 use Rattle.auction_rows.specs.declared.requests.Request.TheVariants as request
-use Rattle.auction_rows.specs.declared.requests.ItemId.{ItemId}
-use Rattle.auction_rows.specs.declared.values.Stars.{Stars}
 use Rattle.record_reading.specs.Fields.{name, quantity, stars}
 use Rattle.record_reading.specs.Kinds.{has_count, kind_of}
 use Rattle.record_reading.specs.Records.{put_up, request_of}
 use Rattle.record_reading.specs.declared.fields.RequestKind.{RequestKind}
 use Rattle.record_reading.specs.declared.fields.RequestKind.TheVariants as kind
 use Rattle.record_reading.specs.Lines.{HasRead, HasWordAt, IsEndOfItem, IsFieldTo, IsItemTo, IsLastField, IsLastItem, IsLastNumber, IsLine, IsNumberTo, IsPutUp, IsRequestAt, IsRestOf, is_plain}
-use Rattle.record_reading.specs.QuotedFields.{HasNextField}
+use Rattle.record_reading.specs.inner.QuotedFields.{HasNextField}
 use Rattle.record_reading.proofs.LineLemmas.{first_and_comma, next_and_comma}
 use Rattle.record_reading.proofs.PlainFieldLemmas.{comma_in_place, digits_no_bom, digits_plain, end_in_place}
 

@@ -6,7 +6,7 @@ use Rattle.csv.specs.Machine.{next_record}
 use Rattle.csv.specs.Reading.{default_config}
 use Rattle.csv.specs.declared.parser.State.TheVariants as st
 use Rattle.record_reading.specs.Lines.{IsFieldTo, is_plain}
-use Rattle.record_reading.specs.QuotedFields.{HasNextField, IsQuotedTo, has_no_quote}
+use Rattle.record_reading.specs.inner.QuotedFields.{HasNextField, IsQuotedTo, has_no_quote}
 use Rattle.record_reading.proofs.DigitLemmas.{span, split_at}
 use Rattle.record_reading.proofs.PlainFieldLemmas.{comma_in_place, span_more}
 

@@ -1,8 +1,8 @@
+pub mod inner
 pub mod Asking
 pub mod Fields
 pub mod Kinds
 pub mod Lines
-pub mod QuotedFields
 pub mod Reading
 pub mod Records
 pub mod RecordsLeft

@@ -4,8 +4,7 @@ ghost use Rattle.record_reading.specs.Reading.{IsInputFault};
 ghost use Rattle.record_reading.specs.Asking.{asked_of, nothing_asked, with_record};
 
 use crate::record::Record;
-use auction_rows::MOST_ROWS;
-use item_shards::Opened;
+use auction_rows::{MOST_ROWS, Opened};
 use std::alloc::Global;
 use thiserror::Error;
 use worker_journals::Script;
@@ -13,8 +12,8 @@ use worker_journals::Script;
 /// The most records of an input: as many as a book has rows.
 pub const MOST_RECORDS: u32 = MOST_ROWS as u32;
 
-/// The most rows of a part of an input that is read line by line: rows may flood in before the first
-/// request.
+/// The most rows of a part of an input that is read line by line: rows may flood in before the
+/// first request.
 pub const MOST_ROWS_OF_A_PART: usize = 65_536;
 
 /// What records ask for: the rows that the auction is opened with, and each worker's script.

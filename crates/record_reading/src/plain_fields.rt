@@ -1,7 +1,7 @@
 //! Fields of a text, plain or in quotes, read where they lie.
 ghost use Rattle.std.specs.Prelude.{◌≡◌, ◌<◌, ◌≤◌, ◌-◌, true, drop, length, take, IfSome};
 ghost use Rattle.record_reading.specs.Lines.{EndsLine, HasWordAt, IsFieldTo, IsItemTo, IsLastField, IsLastItem, IsLastNumber, IsNumberTo, comma, has_no_feed, is_plain};
-ghost use Rattle.record_reading.specs.QuotedFields.{HasNextField, IsQuotedTo, has_no_quote};
+ghost use Rattle.record_reading.specs.inner.QuotedFields.{HasNextField, IsQuotedTo, has_no_quote};
 
 use crate::fields::SURE_DIGITS;
 use auction_rows::ItemId;

@@ -1,4 +1,5 @@
-//! A history of any engine is replayed on an auction of one thread, and what is found of it written as a line.
+//! A history of any engine is replayed on an auction of one thread, and what is found of it written
+//! as a line.
 #![tactic(auto)]
 
 use check_program::{Fault, UntilEnd, execute, read_options, status, verdict_status, write_fault};

@@ -4,16 +4,12 @@ use Rattle.std.specs.List.{AllByRecursion}
 use Rattle.std.proofs.lemmas.Bool.{ne_eqb, cases_eq, cases_order, cond-true}
 use Rattle.std.proofs.lemmas.List.{length-append, append-nil}
 use Rattle.std.proofs.lemmas.List.Elements.{filter-append}
-use Rattle.auction_rows.specs.declared.values.Opening.{Opening}
-use Rattle.auction_rows.specs.declared.requests.Object.{Object}
-use Rattle.auction_rows.specs.declared.requests.Request.{Request}
-use Rattle.auction_rows.specs.declared.rows.Entry.{Entry}
+use Rattle.auction_rows.specs.Types.{Policy, Opening, Object, Request, Entry}
 use Rattle.auction_rows.specs.Choosing.{choose}
 use Rattle.auction_rows.specs.Phases.{IsNumbered}
 use Rattle.phase_laws.proofs.OrderLemmas.{all-weaker}
 use Rattle.run_laws.specs.Phases.{is_split}
 use Rattle.phase_laws.proofs.ListLemmas.{filter_false}
-use Rattle.auction_rows.specs.declared.limits.Policy.{Policy}
 use Rattle.run_laws.specs.Serving.{hot_in, segment_of, AreNumbered}
 use Rattle.run_laws.specs.Run.{HasRun, IsPhasePerformed, AreChosen}
 use Rattle.run_laws.proofs.CommitLemmas.{hot_at_end, hot_elsewhere}

@@ -2,15 +2,12 @@
 use Rattle.std.proofs.Common.{◌≡◌, ℕ, zero, suc, ◌≤◌, List, [], ◌∷◌, ◌++◌, map, length, refl, ap, ◌∙◌, arith}
 use Rattle.std.specs.List.{AllByRecursion}
 use Rattle.std.proofs.lemmas.List.{map-append}
-use Rattle.auction_rows.specs.declared.requests.Object.{Object}
-use Rattle.auction_rows.specs.declared.requests.Request.{Request}
-use Rattle.auction_rows.specs.declared.rows.Entry.{Entry}
+use Rattle.auction_rows.specs.Types.{Policy, Object, Request, Entry}
 use Rattle.auction_rows.specs.Phases.{is_put_off}
 use Rattle.phase_laws.specs.Order.{IsOrderedBy, part}
 use Rattle.phase_laws.proofs.OrderLemmas.{all-weaker, all-from_map}
 use Rattle.run_laws.proofs.TurnLemmas.{commit_from, commit_until}
 use Rattle.run_laws.proofs.PartLemmas.{all_of_parts, part-append}
-use Rattle.auction_rows.specs.declared.limits.Policy.{Policy}
 use Rattle.run_laws.specs.Serving.{call_of, hot_in, phase_reached, commit_phase}
 use Rattle.run_laws.specs.Run.{calls_of}
 

@@ -4,10 +4,7 @@ use Rattle.std.specs.List.{AllByRecursion, list_any}
 use Rattle.std.specs.Option.{option_map_or}
 use Rattle.std.proofs.lemmas.Bool.{eqb-false, lt-ltb, cases_lt, and_left}
 use Rattle.std.proofs.lemmas.List.{nil_from_length}
-use Rattle.auction_rows.specs.declared.values.Opening.{Opening}
-use Rattle.auction_rows.specs.declared.requests.Object.{Object}
-use Rattle.auction_rows.specs.declared.requests.Request.{Request}
-use Rattle.auction_rows.specs.declared.rows.Entry.{Entry}
+use Rattle.auction_rows.specs.Types.{Policy, Opening, Object, Request, Entry}
 use Rattle.auction_rows.specs.Requests.{touches, is_splittable}
 use Rattle.auction_rows.specs.Footprint.{is_hot}
 use Rattle.auction_rows.specs.Phases.{is_put_off}
@@ -21,7 +18,6 @@ use Rattle.phase_laws.proofs.ListLemmas.{all-both, all-kept, filter_empty, order
 use Rattle.run_laws.proofs.PartLemmas.{all_of_parts, ordered_of_parts}
 use Rattle.run_laws.proofs.CountLemmas.{how_many, how_many-is, count-filter, count-map}
 use Rattle.run_laws.proofs.CallLemmas.{numbered_until, all_from_turns, turns_ordered, once_in_turns, requests_in_turns}
-use Rattle.auction_rows.specs.declared.limits.Policy.{Policy}
 use Rattle.run_laws.specs.Serving.{call_of, script_of, hot_in, phase_reached, commit_phase, AreNumbered, Serves}
 use Rattle.run_laws.specs.Run.{first_index, HasRun, IsDone}
 use Rattle.run_laws.proofs.CommitLemmas.{from, until}

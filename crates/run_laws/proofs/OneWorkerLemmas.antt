@@ -4,11 +4,7 @@ use Rattle.std.specs.List.{AllByRecursion}
 use Rattle.std.proofs.lemmas.Bool.{lt-ltb, ne_eqb, cases_lt, cases_Bool, and_right}
 use Rattle.std.proofs.lemmas.List.Sums.{length-filter}
 use Rattle.std.proofs.lemmas.Option.{slice_get_within}
-use Rattle.auction_rows.specs.declared.values.Opening.{Opening}
-use Rattle.auction_rows.specs.declared.requests.Object.{Object}
-use Rattle.auction_rows.specs.declared.requests.Request.{Request}
-use Rattle.auction_rows.specs.declared.rows.Entry.{Entry}
-use Rattle.auction_rows.specs.Book.{Book}
+use Rattle.auction_rows.specs.Types.{Policy, Opening, Object, Request, Entry, Book}
 use Rattle.auction_rows.specs.Choosing.{choose}
 use Rattle.auction_rows.specs.History.{after_entry, ReplaysFrom, book_after}
 use Rattle.auction_rows.specs.Phases.{is_put_off}
@@ -18,7 +14,6 @@ use Rattle.phase_laws.proofs.OrderLemmas.{all-filter, all-weaker, all-map, order
 use Rattle.run_laws.specs.Phases.{is_split}
 use Rattle.phase_laws.proofs.ListLemmas.{all-both, all-kept, filter_false, ordered-with, greatest_bounds}
 use Rattle.run_laws.proofs.CountLemmas.{how_many, how_many-is, count-filter, count-map, count-same}
-use Rattle.auction_rows.specs.declared.limits.Policy.{Policy}
 use Rattle.run_laws.specs.Serving.{call_of, script_of, hot_in, segment_of, phase_reached, commit_phase}
 use Rattle.run_laws.specs.Answers.{IsAnswer}
 use Rattle.run_laws.proofs.CommitLemmas.{from}

@@ -3,9 +3,7 @@ use Rattle.std.proofs.Common.{◌≡◌, ℕ, suc, ◌+◌, ◌<◌, ◌≤◌, 
 use Rattle.std.specs.List.{filter, AllByRecursion}
 use Rattle.std.proofs.lemmas.Bool.{le-ltb, ne_eqb, cases_lt, cases_Bool, and_left, and_right}
 use Rattle.std.proofs.lemmas.List.{length-append}
-use Rattle.auction_rows.specs.declared.requests.Object.{Object}
-use Rattle.auction_rows.specs.declared.requests.Request.{Request}
-use Rattle.auction_rows.specs.declared.rows.Entry.{Entry}
+use Rattle.auction_rows.specs.Types.{Policy, Object, Request, Entry}
 use Rattle.auction_rows.specs.Phases.{is_put_off}
 use Rattle.phase_laws.proofs.OrderLemmas.{all-weaker}
 use Rattle.run_laws.specs.Phases.{is_split}
@@ -15,7 +13,6 @@ use Rattle.run_laws.proofs.TurnLemmas.{filter_none, split_turn, waiting_next, wa
 use Rattle.phase_laws.proofs.ListLemmas.{all-append, all-both, filter_false, filter_same, all-any, ordered-append}
 use Rattle.run_laws.proofs.CallLemmas.{at_index, turn_commits, turns_alike}
 use Rattle.run_laws.proofs.QuotaLemmas.{given_reaches}
-use Rattle.auction_rows.specs.declared.limits.Policy.{Policy}
 use Rattle.run_laws.specs.Serving.{call_of, script_of, hot_in, phase_reached, commit_phase}
 use Rattle.run_laws.specs.Run.{calls_of, first_index, calls_given, HasRun, IsPhasePerformed, HasLeft}
 use Rattle.run_laws.proofs.CommitLemmas.{ordered_all, calls-append, of_calls, from, hot_at_end, hot_elsewhere}

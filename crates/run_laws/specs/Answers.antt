@@ -1,12 +1,7 @@
 -- What a run may answer.
 use Rattle.std.specs.Prelude.{List}
-use Rattle.auction_rows.specs.declared.values.Opening.{Opening}
-use Rattle.auction_rows.specs.declared.requests.Object.{Object}
-use Rattle.auction_rows.specs.declared.requests.Request.{Request}
-use Rattle.auction_rows.specs.declared.rows.Entry.{Entry}
-use Rattle.auction_rows.specs.Book.{Book}
+use Rattle.auction_rows.specs.Types.{Policy, Opening, Object, Request, Entry, Book}
 use Rattle.auction_rows.specs.History.{ReplaysFrom}
-use Rattle.auction_rows.specs.declared.limits.Policy.{Policy}
 use Rattle.run_laws.specs.Serving.{Serves}
 use Rattle.run_laws.specs.Run.{AreChosen}
 

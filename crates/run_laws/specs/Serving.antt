@@ -2,17 +2,13 @@
 use Rattle.std.specs.declared.alloc.Global.{Global}
 use Rattle.std.specs.Prelude.{ℕ, suc, ◌<◌, ◌≤◌, ◌≡◌, ◌==◌, ◌&&◌, nat_lt, true, if◌then◌else◌, List, [], length, map, slice_get, unwrap_or, count_by, Some, Vec}
 use Rattle.std.specs.List.{filter, AllByRecursion}
-use Rattle.auction_rows.specs.declared.values.Opening.{Opening}
-use Rattle.auction_rows.specs.declared.requests.Object.{Object}
-use Rattle.auction_rows.specs.declared.requests.Request.{Request}
-use Rattle.auction_rows.specs.declared.rows.Entry.{Entry}
+use Rattle.auction_rows.specs.Types.{Policy, Opening, Object, Request, Entry}
 use Rattle.auction_rows.specs.Requests.{is_splittable}
 use Rattle.auction_rows.specs.Phases.{is_put_off, IsNumbered}
 use Rattle.phase_laws.specs.Order.{IsOrderedBy}
 use Rattle.phase_laws.specs.Numbers.{greatest_by}
 use Rattle.run_laws.specs.Phases.{reach}
 use Rattle.run_laws.specs.Turns.{commits_in}
-use Rattle.auction_rows.specs.declared.limits.Policy.{Policy}
 
 -- an entry's call: its index and its request
 abbrev pub call_of : Entry → ℕ × Request

@@ -1,11 +1,13 @@
-//! When the requests of workers' scripts commit, in a run of phases that take them by quotas, and what such a run has to
-//! give: a history that serves its scripts, hot sets that are chosen from it, and books that it replays.
+//! When the requests of workers' scripts commit, in a run of phases that take them by quotas, and
+//! what such a run has to give: a history that serves its scripts, hot sets that are chosen from
+//! it, and books that it replays.
 //!
-//! Joined and split phases take turns (Doppel: Narula et al., OSDI 2014), and a split phase may put requests off to the
-//! next one. `specs/Phases.antt` and `specs/Turns.antt` say which phase takes a request of any kind.
-//! `specs/Serving.antt` says what serving scripts means, `specs/Run.antt` what is done of them
-//! before a phase and what a phase does, `specs/Books.antt` what becomes of the opening book, `specs/Answers.antt`
-//! what a run may answer. The functions compute nothing: each carries laws in its contract.
+//! Joined and split phases take turns (Doppel: Narula et al., OSDI 2014), and a split phase may put
+//! requests off to the next one. `specs/Phases.antt` and `specs/Turns.antt` say which phase takes a
+//! request of any kind. `specs/Serving.antt` says what serving scripts means, `specs/Run.antt` what
+//! is done of them before a phase and what a phase does, `specs/Books.antt` what becomes of the
+//! opening book, `specs/Answers.antt` what a run may answer. The functions compute nothing: each
+//! carries laws in its contract.
 #![tactic(auto)]
 
 mod runs;

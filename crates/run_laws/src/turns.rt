@@ -4,8 +4,8 @@ ghost use Rattle.std.specs.List.{filter, AllByRecursion};
 ghost use Rattle.run_laws.specs.Phases.{is_split, reach, first_of, quota};
 ghost use Rattle.run_laws.specs.Turns.{numbered, given, reaching, commits_in, turn, turns, waiting};
 
-/// The indexes that reach a phase or a later one are those from its first one on: a later request of
-/// a script reaches no earlier phase.
+/// The indexes that reach a phase or a later one are those from its first one on: a later request
+/// of a script reaches no earlier phase.
 pub fn phases_reached()
     ensures from_its_first { (joined split phase index : ℕ) → 0 < joined + split →
         (phase ≤ reach joined split index) ↔ (first_of joined split phase ≤ index) }
@@ -22,8 +22,8 @@ pub fn phases_follow()
         ≡ first_of joined split phase + (if is_split phase then split else joined) }
 {}
 
-/// What a phase's quota gives of a script is exactly what reaches the phase: as many requests as the
-/// quota says, one after the other from the phase's first index on.
+/// What a phase's quota gives of a script is exactly what reaches the phase: as many requests as
+/// the quota says, one after the other from the phase's first index on.
 pub fn quotas_give<R>()
     ensures reaching { (joined split phase : ℕ) (script : List R) → 0 < joined + split →
         given joined split phase script ≡ reaching (reach joined split) phase script }

@@ -5,10 +5,7 @@ use Rattle.std.proofs.lemmas.Bool.{eq-eqb, ne_eqb, false≢true, cases_lt}
 use Rattle.std.proofs.lemmas.List.{append-nil, length-map}
 use Rattle.std.proofs.lemmas.List.Sums.{length-filter}
 use Rattle.std.proofs.lemmas.List.Elements.{All-from_recursion, recursion_from_All, filter-append, filter_map-append}
-use Rattle.auction_rows.specs.declared.values.Opening.{Opening}
-use Rattle.auction_rows.specs.declared.requests.Request.{Request}
-use Rattle.auction_rows.specs.declared.rows.Row.{Row}
-use Rattle.auction_rows.specs.declared.rows.Entry.{Entry}
+use Rattle.auction_rows.specs.Types.{Policy, Opening, Request, Row, Entry}
 use Rattle.auction_rows.specs.Book.{Book, worker_of}
 use Rattle.auction_rows.specs.History.{IsBook, ReplaysFrom, after_entry, book_after, row_of_entry, rows_of}
 use Rattle.auction_rows.specs.Replies.{row_of}
@@ -28,7 +25,6 @@ use Rattle.phase_laws.proofs.ListLemmas.{all-append, all-both, all-kept, all-rig
 use Rattle.run_laws.proofs.PartLemmas.{all_of_parts}
 use Rattle.run_laws.proofs.TurnLemmas.{length-numbered}
 use Rattle.worker_journals.specs.Merged.{merged}
-use Rattle.auction_rows.specs.declared.limits.Policy.{Policy}
 use Rattle.run_laws.specs.Run.{calls_of}
 use Rattle.run_laws.specs.Serving.{script_of, segment_of, call_of, commit_phase}
 use Rattle.run_laws.proofs.ClosedLemmas.{none_chosen, none_numbered}
@@ -41,7 +37,7 @@ use Rattle.run_phases.specs.Beginning.{AreShort, AreShortFor}
 use Rattle.run_phases.specs.Boards.{CanShow, HasShownAfter, IsUpToDate, phase_rows}
 use Rattle.run_phases.specs.Outcomes.{HasShownFirstAfter}
 use Rattle.run_phases.specs.Phases.{hot_sets, waiting_in}
-use Rattle.run_phases.specs.Running.{IsRunning}
+use Rattle.run_phases.specs.inner.Running.{IsRunning}
 
 -- ---- numbers, counted one by one
 

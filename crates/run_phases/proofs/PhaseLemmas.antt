@@ -6,17 +6,13 @@ use Rattle.std.proofs.Math.ListN.{get_or-map}
 use Rattle.std.proofs.Math.Seq.{drop-nil, take-nil}
 use Rattle.std.proofs.lemmas.Bool.{eq-eqb, ne_eqb, cases_lt}
 use Rattle.std.proofs.lemmas.List.{length-map, get_or_past}
-use Rattle.auction_rows.specs.declared.requests.Object.{Object}
-use Rattle.auction_rows.specs.declared.requests.Facts.{Facts}
-use Rattle.auction_rows.specs.declared.requests.Request.{Request}
-use Rattle.auction_rows.specs.declared.rows.Entry.{Entry}
+use Rattle.auction_rows.specs.Types.{Policy, Facts, Object, Request, Entry}
 use Rattle.auction_rows.specs.History.{ReplaysFrom, book_after}
 use Rattle.auction_rows.specs.Phases.{IsNumbered}
 use Rattle.phase_laws.specs.Order.{part}
 use Rattle.run_laws.specs.Phases.{is_split, quota}
 use Rattle.run_laws.specs.Turns.{numbered}
 use Rattle.run_laws.proofs.PartLemmas.{all_of_parts}
-use Rattle.auction_rows.specs.declared.limits.Policy.{Policy}
 use Rattle.run_laws.specs.Run.{first_index, calls_of, calls_given, IsPhasePerformed}
 use Rattle.run_laws.specs.Serving.{call_of, script_of}
 use Rattle.run_laws.proofs.ScriptLemmas.{past_end}
@@ -24,7 +20,7 @@ use Rattle.shard_boxes.specs.Keys.{BoxId}
 use Rattle.shard_boxes.specs.States.{ShardState, state_of}
 use Rattle.worker_slices.specs.Slicing.{hot_objects, stocks_of, slices_of}
 use Rattle.worker_slices.specs.Stashes.{StashState}
-use Rattle.phase_transactions.specs.declared.transaction.PermitFault.TheVariants as permit
+use Rattle.phase_transactions.specs.declared.done.PermitFault.TheVariants as permit
 use Rattle.phase_transactions.specs.Workers.{WorkerState}
 use Rattle.phase_transactions.specs.Performing.{HaveOpening}
 use Rattle.closing_laws.specs.Phases.{no_receipt, receipt_at, journal_of, counters_of}
@@ -36,9 +32,9 @@ use Rattle.phase_floor.specs.Begins.{IsTooLong, empty_stash}
 use Rattle.phase_floor.specs.Closings.{AreReceiptsOf, Leaves, stash_of}
 use Rattle.phase_floor.specs.Floors.{FloorState, IsNewPermit, stash_at}
 use Rattle.phase_floor.specs.States.{JoinedState, states_of, StandsFor}
-use Rattle.run_phases.specs.Closed.{HasClosedPhase}
+use Rattle.run_phases.specs.inner.Closed.{HasClosedPhase}
 use Rattle.run_phases.specs.Phases.{told, IsMet, MayPerform, waiting_in, quota_of}
-use Rattle.run_phases.specs.Serving.{CanPerform, HasBegunPhase, HasEnded}
+use Rattle.run_phases.specs.inner.Serving.{CanPerform, HasBegunPhase, HasEnded}
 use Rattle.phase_workers.specs.declared.round.ServingFault.{ServingFault}
 use Rattle.phase_workers.specs.declared.round.ServingFault.TheVariants as serving
 use Rattle.phase_workers.specs.Tasks.{Task, task, tasks, to_do, calls_for, CanBeDone, HasDoneTask, IsFaultBy, IsFirstFault}

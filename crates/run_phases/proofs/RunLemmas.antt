@@ -5,11 +5,7 @@ use Rattle.std.proofs.lemmas.Bool.{cases_Bool, cases_lt, false≢true}
 use Rattle.std.proofs.Math.Seq.{drop-append_seam}
 use Rattle.std.proofs.lemmas.List.{length-append, length-map}
 use Rattle.std.proofs.lemmas.List.Filters.{length-filter_both}
-use Rattle.auction_rows.specs.declared.values.Opening.{Opening}
-use Rattle.auction_rows.specs.declared.requests.Object.{Object}
-use Rattle.auction_rows.specs.declared.requests.Request.{Request}
-use Rattle.auction_rows.specs.declared.rows.Entry.{Entry}
-use Rattle.auction_rows.specs.Book.{Book}
+use Rattle.auction_rows.specs.Types.{Policy, Opening, Object, Request, Entry, Book}
 use Rattle.auction_rows.specs.Choosing.{choose}
 use Rattle.auction_rows.specs.History.{IsBook, ReplaysFrom, book_after}
 use Rattle.auction_rows.specs.Phases.{is_put_off, IsNumbered}
@@ -21,7 +17,6 @@ use Rattle.run_laws.proofs.QuotaLemmas.{given_length}
 use Rattle.run_laws.proofs.ReachLemmas.{first_next, split_then_joined}
 use Rattle.run_laws.proofs.TurnLemmas.{length-numbered, waiting_none}
 use Rattle.worker_journals.specs.Merged.{added, merged}
-use Rattle.auction_rows.specs.declared.limits.Policy.{Policy}
 use Rattle.run_laws.specs.Books.{HasReplayed, ReplaysOn}
 use Rattle.run_laws.specs.Run.{first_index, calls_of, calls_given, HasRun, IsPhasePerformed, HasLeft, AreChosen}
 use Rattle.run_laws.specs.Serving.{script_of, segment_of, hot_in, phase_reached, AreNumbered}
@@ -33,10 +28,10 @@ use Rattle.run_laws.proofs.StepLemmas.{run_begins, phase_runs}
 use Rattle.run_laws.proofs.ScriptLemmas.{past_end}
 use Rattle.run_phases.specs.declared.phase.Running.{Running}
 use Rattle.run_phases.specs.Beginning.{HasQuotas, AreShortFor}
-use Rattle.run_phases.specs.Closed.{HasClosedPhase}
+use Rattle.run_phases.specs.inner.Closed.{HasClosedPhase}
 use Rattle.run_phases.specs.Outcomes.{IsOutcome}
 use Rattle.run_phases.specs.Phases.{hot_sets, waiting_in, quota_of, MayPerform}
-use Rattle.run_phases.specs.Running.{IsRunning, CanGoOn}
+use Rattle.run_phases.specs.inner.Running.{IsRunning, CanGoOn}
 use Rattle.run_phases.proofs.HotThere.{chosen_exist}
 
 -- ---- what a worker committed, and what waits, after one phase more

@@ -2,17 +2,13 @@
 use Rattle.std.proofs.Common.{◌≡◌, ℕ, ◌+◌, ◌<◌, ◌≤◌, ◌^◌, ◌⊎◌, false, List, [], ◌∷◌, Option, Some, None, length, refl, inl, inr, arith}
 use Rattle.std.specs.Prelude.{IsSome}
 use Rattle.std.proofs.lemmas.Bool.{cases_lt, false≢true}
-use Rattle.auction_rows.specs.declared.requests.Object.{Object}
-use Rattle.auction_rows.specs.declared.requests.Object.TheVariants.{Item, User, Category}
-use Rattle.auction_rows.specs.declared.values.Opening.{Opening}
-use Rattle.auction_rows.specs.declared.requests.Request.{Request}
+use Rattle.auction_rows.specs.Types.{Policy, Opening, Object, Request, Item, User, Category}
 use Rattle.item_shards.specs.Values.{stock}
 use Rattle.closing_laws.specs.Phases.{value_on}
 use Rattle.closing_laws.specs.Standing.{counters_at}
 use Rattle.worker_slices.specs.Stashes.{StashState}
 use Rattle.phase_floor.specs.States.{JoinedState, states_of, DoesExist, DoAllExist}
 use Rattle.run_laws.specs.Phases.{is_split}
-use Rattle.auction_rows.specs.declared.limits.Policy.{Policy}
 use Rattle.run_laws.specs.Serving.{script_of}
 use Rattle.shard_boxes.specs.States.{ShardState}
 use Rattle.run_phases.specs.Phases.{waiting_in, quota_of, MayPerform}

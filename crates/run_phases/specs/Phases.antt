@@ -2,8 +2,7 @@
 use Rattle.std.specs.Prelude.{ℕ, ◌≡◌, ◌+◌, ◌<◌, ◌≤◌, ◌^◌, Bool, true, false, List, [], map, length, ⊤}
 use Rattle.std.specs.HashSet.{HashSet}
 use Rattle.auction_rows.specs.declared.limits.TheConstants.{MOST_OF_A_WORKER}
-use Rattle.auction_rows.specs.declared.requests.Object.{Object}
-use Rattle.auction_rows.specs.declared.requests.Request.{Request}
+use Rattle.auction_rows.specs.Types.{Policy, Object, Request}
 use Rattle.shard_boxes.specs.States.{ShardState}
 use Rattle.worker_slices.specs.Stashes.{StashState}
 use Rattle.phase_transactions.specs.Workers.{WorkerState}
@@ -11,10 +10,9 @@ use Rattle.closing_laws.specs.Standing.{counters_at}
 use Rattle.phase_floor.specs.Floors.{stash_at}
 use Rattle.phase_floor.specs.States.{JoinedState, states_of, DoAllExist}
 use Rattle.run_laws.specs.Phases.{is_split, quota}
-use Rattle.auction_rows.specs.declared.limits.Policy.{Policy}
 use Rattle.run_laws.specs.Run.{first_index}
 use Rattle.run_laws.specs.Serving.{script_of}
-use Rattle.phase_transactions.specs.declared.transaction.PermitFault.TheVariants as worker_fault
+use Rattle.phase_transactions.specs.declared.done.PermitFault.TheVariants as worker_fault
 use Rattle.phase_workers.specs.declared.round.ServingFault.{ServingFault}
 use Rattle.phase_workers.specs.declared.round.ServingFault.TheVariants as serving
 use Rattle.phase_workers.specs.Tasks.{IsFirstFault, tasks}

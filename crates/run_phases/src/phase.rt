@@ -11,8 +11,8 @@ ghost use Rattle.phase_floor.specs.States.{states_of};
 ghost use Rattle.phase_workers.specs.Tasks.{tasks};
 ghost use Rattle.run_phases.specs.Phases.{IsMet, IsPlanOf, MayPerform};
 ghost use Rattle.run_phases.specs.declared.faults.RunFault.{RunFault};
-ghost use Rattle.run_phases.specs.Closed.{HasPerformedPhase};
-ghost use Rattle.run_phases.specs.Serving.{CanPerform, HasBegunPhase, HasEnded};
+ghost use Rattle.run_phases.specs.inner.Closed.{HasPerformedPhase};
+ghost use Rattle.run_phases.specs.inner.Serving.{CanPerform, HasBegunPhase, HasEnded};
 
 use crate::faults::RunFault;
 use auction_rows::{Object, Policy};

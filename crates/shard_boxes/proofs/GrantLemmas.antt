@@ -10,7 +10,7 @@ use Rattle.shard_boxes.specs.Seats.{own_of, seat_of, boxes_of, key_of, IsFor, Ar
 use Rattle.shard_boxes.specs.States.{ShardState, state_of, state_at, no_shard, IsInitial}
 use Rattle.shard_boxes.specs.Lines.{Line, after_lines, IsShardHistory, lines_of}
 use Rattle.shard_boxes.specs.Closed.{IsSpent, AreSpent}
-use Rattle.shard_boxes.specs.Grants.{AreSpare, IsNewView, IsFree, AreFree, own_at, IsTaken}
+use Rattle.shard_boxes.specs.inner.Grants.{AreSpare, IsNewView, IsFree, AreFree, own_at, IsTaken}
 use Rattle.shard_boxes.proofs.Each.{map_push, each_push}
 use Rattle.shard_boxes.proofs.BoxSteps.{maker_spare}
 use Rattle.shard_boxes.proofs.KeySteps.{read}

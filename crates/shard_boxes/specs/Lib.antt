@@ -1,3 +1,4 @@
+pub mod inner
 pub mod States
 pub mod Lines
 pub mod Limits
@@ -5,6 +6,5 @@ pub mod Rule
 pub mod Passes
 pub mod Keys
 pub mod Seats
-pub mod Grants
 pub mod Helds
 pub mod Closed

@@ -19,7 +19,7 @@ ghost use Rattle.shard_boxes.specs.Keys.{taking, putting, lines_at, seen_at, hol
 ghost use Rattle.shard_boxes.specs.Helds.{taken_at, MayPut};
 ghost use Rattle.shard_boxes.specs.Passes.{GrantState};
 ghost use Rattle.shard_boxes.specs.Seats.{IsBoxAt};
-ghost use Rattle.shard_boxes.specs.Grants.{AreFree, own_at};
+ghost use Rattle.shard_boxes.specs.inner.Grants.{AreFree, own_at};
 ghost use Rattle.shard_boxes.specs.contracts.key.Held.{the_row};
 ghost use Rattle.shard_boxes.specs.Limits.{SumsFit};
 
@@ -27,9 +27,9 @@ use crate::boxes::PhaseName;
 use crate::line::{LineName, Trace};
 use crate::shard_box::{Grant, ShardBox};
 use auction_rows::{BidEntry, ItemId, ItemView, Refusal, Request};
-use ghost_log::Ghost;
 use item_shards::{Act, Look, Shard, next_number};
 use std::marker::{Model, PhantomData};
+use std::snapshot::Snapshot;
 use std::sync::Wait;
 
 /// A worker's right to take the shards of a phase. Contracts see of each shard whether the key
@@ -257,10 +257,10 @@ impl<N: PhaseName> Held<N> {
         ensures number { self.new.number ≡ self.old.number }
     {
         let trace = Trace {
-            number: Ghost::of(&number),
-            index: Ghost::of(&index),
-            found: Ghost::of(&self.shard),
-            acts: Ghost::of(acts),
+            number: Snapshot::of(&number),
+            index: Snapshot::of(&index),
+            found: Snapshot::of(&self.shard),
+            acts: Snapshot::of(acts),
         };
         self.shard.apply_acts(number, acts);
         trace
@@ -289,15 +289,15 @@ impl<N: PhaseName> Held<N> {
         ensures after { state_of self.new.shard ≡ after_line (state_of self.old.shard) result.0 }
         ensures number { self.new.number ≡ self.old.number }
     {
-        let found = Ghost::of(&self.shard);
+        let found = Snapshot::of(&self.shard);
         let refused = self.shard.try_bid(item, bid);
         self.shard.set_clock(number);
         let acts = bid_acts(item, bid, refused);
         let trace = Trace {
-            number: Ghost::of(&number),
-            index: Ghost::of(&index),
+            number: Snapshot::of(&number),
+            index: Snapshot::of(&index),
             found,
-            acts: Ghost::of(&acts),
+            acts: Snapshot::of(&acts),
         };
         (trace, refused)
     }

@@ -1,7 +1,7 @@
 //! What one transaction did on one shard: a line that a caller makes, and the trace of acts.
-use ghost_log::Ghost;
 use item_shards::{Act, Shard};
 use std::marker::{Brand, Model};
+use std::snapshot::Snapshot;
 
 /// What one transaction did on one shard. Contracts see it as `seen_line`: with what its looks
 /// showed of the shard as it was taken.
@@ -20,10 +20,10 @@ pub struct Line {
 /// The line that acts left on a shard, only for proofs: it has no bytes.
 #[derive(Drop)]
 pub struct Trace {
-    pub(crate) number: Ghost<u64>,
-    pub(crate) index: Ghost<u32>,
-    pub(crate) found: Ghost<Shard>,
-    pub(crate) acts: Ghost<[Act; 2]>,
+    pub(crate) number: Snapshot<u64>,
+    pub(crate) index: Snapshot<u32>,
+    pub(crate) found: Snapshot<Shard>,
+    pub(crate) acts: Snapshot<[Act; 2]>,
 }
 
 impl Model for Trace {
@@ -31,7 +31,7 @@ impl Model for Trace {
 
     ghost Value = { Line };
 
-    ghost view = { λ t. line_of t.number t.index t.acts t.found };
+    ghost view = { λ t. line_of t.number.value t.index.value t.acts.value t.found.value };
 }
 
 /// Names the line with which a shard is put back.

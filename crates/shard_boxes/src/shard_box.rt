@@ -4,7 +4,7 @@ ghost use Rattle.crossbeam_queue.specs.Passes.{view, IsPassOf};
 ghost use Rattle.shard_boxes.specs.States.{state_of, IsWithin};
 ghost use Rattle.shard_boxes.specs.Lines.{after_lines};
 ghost use Rattle.shard_boxes.specs.Helds.{MayPut};
-ghost use Rattle.shard_boxes.specs.Grants.{CanUnite};
+ghost use Rattle.shard_boxes.specs.inner.Grants.{CanUnite};
 ghost use Rattle.shard_boxes.specs.Rule.{Speaks, SpeaksForAll, IsSpare, TakenBy, start_of, maker, opened, put, first_of, rest_of, joined};
 
 use crate::boxes::PhaseName;

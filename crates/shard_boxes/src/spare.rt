@@ -1,6 +1,6 @@
 //! Boxes between two phases: each is empty, and may be opened for another phase.
 ghost use Rattle.std.specs.Prelude.{◌≡◌, IfOk, vec_len};
-ghost use Rattle.shard_boxes.specs.Grants.{AreSpare};
+ghost use Rattle.shard_boxes.specs.inner.Grants.{AreSpare};
 
 use crate::shard_box::{Grant, ShardBox};
 use std::alloc::{AllocError, Global};
@@ -23,7 +23,7 @@ impl Drop for Spare {
 
 impl Model for Spare {
     ghost use Rattle.std.specs.Prelude.{ℕ, length};
-    ghost use Rattle.shard_boxes.specs.Grants.{AreSpare};
+    ghost use Rattle.shard_boxes.specs.inner.Grants.{AreSpare};
 
     ghost Value = { ℕ };
 

@@ -16,8 +16,8 @@ use Rattle.split_engine.specs.Rules.{Rules}
 use Rattle.split_engine.specs.declared.state.TheConstants.{MOST_COMMITS}
 use Rattle.split_engine.specs.Serial.{IsWithin}
 use Rattle.split_engine.specs.Serving.{calls_before, call_of, entries_of, total, IsScript, AreScripts}
-use Rattle.split_engine.specs.Phases.{is_taken, split_calls, put_off, HasStashed, HasServed, HaveServed, IsRunState}
-use Rattle.split_engine.specs.Assignments.{Assignment, assignments, HasDone, left_of, all_left}
+use Rattle.split_engine.specs.inner.Phases.{is_taken, split_calls, put_off, HasStashed, HasServed, HaveServed, IsRunState}
+use Rattle.split_engine.specs.inner.Assignments.{Assignment, assignments, HasDone, left_of, all_left}
 use Rattle.split_engine.proofs.Sessions.{long_before}
 
 -- ---- scripts

@@ -7,7 +7,7 @@ use Rattle.split_engine.specs.declared.entry.Entry.{Entry}
 use Rattle.split_engine.specs.declared.state.Cursor.{Cursor}
 use Rattle.split_engine.specs.Rules.{Rules}
 use Rattle.split_engine.specs.Serving.{calls_before, count, Serves, AllServe, IsOutcome}
-use Rattle.split_engine.specs.Phases.{HasServed, HaveServed, IsRunState, AreFresh, AllFinished}
+use Rattle.split_engine.specs.inner.Phases.{HasServed, HaveServed, IsRunState, AreFresh, AllFinished}
 use Rattle.split_engine.proofs.Sessions.{order_at_first}
 
 module _ {Request : Type 0} where

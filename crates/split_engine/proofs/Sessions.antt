@@ -12,7 +12,7 @@ use Rattle.split_engine.specs.declared.entry.Entry.{Entry}
 use Rattle.split_engine.specs.declared.state.Cursor.{Cursor}
 use Rattle.split_engine.specs.Rules.{Rules}
 use Rattle.split_engine.specs.Serving.{calls_before, call_of, IsInTurn}
-use Rattle.split_engine.specs.Phases.{InOrder, HasStashed}
+use Rattle.split_engine.specs.inner.Phases.{InOrder, HasStashed}
 
 abbrev Ascends : {Q : Type 0} → List (ℕ × Q) → Type 0
 Ascends {Q} = IsOrderedBy (λ (c e : ℕ × Q). c.0 < e.0)

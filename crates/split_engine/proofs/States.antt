@@ -18,8 +18,8 @@ use Rattle.split_engine.specs.Rules.{Rules, SplitLaws}
 use Rattle.split_engine.specs.Serial.{IsWithin, after_entry, ReplaysFrom, table_after}
 use Rattle.split_engine.specs.Splitting.{Interleaves, Neither, First, Second, InterleavesAll, IsSplitEntry, slices_of, merged_all, all_merged, joined}
 use Rattle.split_engine.specs.Serving.{lists, calls_before, call_of, calls_of, count, IsScript}
-use Rattle.split_engine.specs.Phases.{is_taken, split_calls, put_off, HasStashed, HasServed, HaveServed, HasTurned, IsRunState}
-use Rattle.split_engine.specs.Assignments.{Assignment, assignment, assignments, left_of, HasDone, HaveDone, HasClosed}
+use Rattle.split_engine.specs.inner.Phases.{is_taken, split_calls, put_off, HasStashed, HasServed, HaveServed, HasTurned, IsRunState}
+use Rattle.split_engine.specs.inner.Assignments.{Assignment, assignment, assignments, left_of, HasDone, HaveDone, HasClosed}
 use Rattle.split_engine.proofs.Splits.{replay, opened_merged}
 use Rattle.split_engine.proofs.Counts.{left-append}
 use Rattle.split_engine.proofs.Works.{all_both, replays_both}
@@ -389,12 +389,6 @@ pub same_table : {Record Request : Type 0} (table : List Record) (hot : List Boo
 same_table table hot quota v [] ds = tt
 same_table table hot quota v (s ∷ ss) [] = tt
 same_table table hot quota v (s ∷ ss) (d ∷ ds) = (refl, same_table table hot quota (suc v) ss ds)
-
-pub drop_whole : {X : Type 0} (xs : List X) (k : ℕ) → length xs ≤ k → drop k xs ≡ []
-drop_whole [] zero le = refl
-drop_whole [] (suc k) le = refl
-drop_whole (x ∷ xs) zero le = absurd (omega (arith, le))
-drop_whole (x ∷ xs) (suc k) le = drop_whole xs k (omega (arith, le))
 
 pub if_ok_so : {T E : Type 0} (P Q : T → Type 0) (answer : Result T E) → ((t : T) → P t → Q t) → IfOk answer P → IfOk answer Q
 if_ok_so P Q (Ok t) so h = so t h

@@ -13,7 +13,7 @@ use Rattle.split_engine.specs.Rules.{Rules}
 use Rattle.split_engine.specs.Splitting.{IsSplitEntry, after_split, merged_all}
 use Rattle.split_engine.specs.Serial.{next, reply, after_entry, ReplaysFrom, table_after}
 use Rattle.split_engine.specs.Serving.{calls_before, call_of, commit}
-use Rattle.split_engine.specs.Phases.{is_taken, split_calls, put_off, HasPerformedOnSlices, HasPerformed}
+use Rattle.split_engine.specs.inner.Phases.{is_taken, split_calls, put_off, HasPerformedOnSlices, HasPerformed}
 
 pub all_more : {X : Type 0} (P : X → Type 0) (xs : List X) (x : X) → AllByRecursion P xs → P x → AllByRecursion P (xs ++ x ∷ [])
 all_more P [] x h p = (p, tt)

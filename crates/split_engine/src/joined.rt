@@ -5,7 +5,7 @@ ghost use Rattle.split_engine.specs.declared.entry.Entry.{Entry as Commit};
 ghost use Rattle.split_engine.specs.Rules.{most_acts, most_before, index_end};
 ghost use Rattle.split_engine.specs.Serial.{IsWithin, after_act, next, reply};
 ghost use Rattle.split_engine.specs.Serving.{lists, total, commit, IsScript};
-ghost use Rattle.split_engine.specs.Phases.{HasPerformed, HasServed, HasStashed, HasTurned, IsRunState, AllFinished};
+ghost use Rattle.split_engine.specs.inner.Phases.{HasPerformed, HasServed, HasStashed, HasTurned, IsRunState, AllFinished};
 
 use crate::application::Application;
 use crate::entry::Entry;

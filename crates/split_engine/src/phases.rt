@@ -7,8 +7,8 @@ ghost use Rattle.split_engine.specs.Rules.{most_acts, most_before, index_end};
 ghost use Rattle.split_engine.specs.Splitting.{merged_all};
 ghost use Rattle.split_engine.specs.Serving.{lists, total, IsScript};
 ghost use Rattle.split_engine.specs.Faults.{IsRunFault};
-ghost use Rattle.split_engine.specs.Phases.{HaveServed, IsRunState};
-ghost use Rattle.split_engine.specs.Assignments.{Assignment, assignment, assignments, all_left, CanDo, HasDone, HasClosed};
+ghost use Rattle.split_engine.specs.inner.Phases.{HaveServed, IsRunState};
+ghost use Rattle.split_engine.specs.inner.Assignments.{Assignment, assignment, assignments, all_left, CanDo, HasDone, HasClosed};
 
 use crate::application::Application;
 use crate::fault::RunFault;

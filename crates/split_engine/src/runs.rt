@@ -4,7 +4,7 @@ ghost use Rattle.std.specs.List.{AllByRecursion};
 ghost use Rattle.split_engine.specs.Rules.{most_before, index_end};
 ghost use Rattle.split_engine.specs.Serving.{lists, total, IsScript, AreScripts, IsOutcome};
 ghost use Rattle.split_engine.specs.Faults.{IsRunFault};
-ghost use Rattle.split_engine.specs.Phases.{IsRunState, AreFresh, AllFinished};
+ghost use Rattle.split_engine.specs.inner.Phases.{IsRunState, AreFresh, AllFinished};
 
 use crate::application::Application;
 use crate::fault::RunFault;

@@ -4,8 +4,8 @@ ghost use Rattle.std.specs.List.{AllByRecursion};
 ghost use Rattle.split_engine.specs.Rules.{most_acts};
 ghost use Rattle.split_engine.specs.Serial.{IsWithin};
 ghost use Rattle.split_engine.specs.Splitting.{split_decision, after_slice_both};
-ghost use Rattle.split_engine.specs.Phases.{is_taken, HasPerformedOnSlices, IsUnused};
-ghost use Rattle.split_engine.specs.Assignments.{assignment, CanDo, HasDone};
+ghost use Rattle.split_engine.specs.inner.Phases.{is_taken, HasPerformedOnSlices, IsUnused};
+ghost use Rattle.split_engine.specs.inner.Assignments.{assignment, CanDo, HasDone};
 
 use crate::application::Application;
 use crate::entry::Entry;
@@ -164,7 +164,7 @@ pub(crate) struct SplitTask<'a, A: Application> {
 
 impl<'a, A: Application> Job for SplitTask<'a, A> {
     ghost use Rattle.std.specs.Prelude.{IfOk};
-    ghost use Rattle.split_engine.specs.Assignments.{assignment, CanDo, HasDone};
+    ghost use Rattle.split_engine.specs.inner.Assignments.{assignment, CanDo, HasDone};
 
     type Answer = Result<SplitData<A>, AllocError>;
 

@@ -3,16 +3,10 @@ use Rattle.std.proofs.Common.{◌≡◌, ◌<◌, ◌≤◌, ◌+◌, ℕ, List,
 use Rattle.std.specs.List.{AllByRecursion}
 use Rattle.std.proofs.lemmas.List.{get_or_append_left, drop-append-le, take-append-le, map-append, length-map}
 use Rattle.phase_laws.proofs.OrderLemmas.{all_push, all-weaker}
-use Rattle.auction_rows.specs.declared.requests.Request.{Request}
-use Rattle.auction_rows.specs.declared.replies.BidShown.{BidShown}
-use Rattle.auction_rows.specs.declared.replies.ItemShown.{ItemShown}
-use Rattle.auction_rows.specs.declared.replies.Reply.{Reply}
-use Rattle.auction_rows.specs.declared.replies.Reply.TheVariants.{BidsSeen, CategorySeen}
-use Rattle.auction_rows.specs.declared.rows.Entry.{Entry}
+use Rattle.auction_rows.specs.Types.{Request, Reply, ItemView, BidShown, ItemShown, Entry, BidsSeen, CategorySeen}
 use Rattle.worker_journals.specs.declared.heads.Head.{Head}
 use Rattle.worker_journals.specs.declared.heads.ShortReply.{ShortReply}
 use Rattle.worker_journals.specs.declared.heads.ShortReply.TheVariants as told
-use Rattle.auction_rows.specs.declared.replies.ItemView.{ItemView}
 use Rattle.worker_journals.specs.declared.heads.UserSeen.{UserSeen as SeenUser}
 use Rattle.worker_journals.specs.Journals.{JournalView, ComesAfter, IsLawfulJournal, closed_journal, seen, with_commit}
 use Rattle.auction_rows.specs.ItemViews.{item_reply}

@@ -13,7 +13,8 @@ use auction_rows::{
 use std::alloc::AllocError;
 use std::marker::Model;
 
-/// An entry of a journal, where it lies: what is asked of it makes no more than is answered. Contracts see the entry.
+/// An entry of a journal, where it lies: what is asked of it makes no more than is answered.
+/// Contracts see the entry.
 #[derive(Drop)]
 pub struct EntryRef<'a> {
     journal: &'a Journal,
@@ -150,7 +151,8 @@ impl<'a> EntryRef<'a> {
     }
 }
 
-/// The reply that a commit is told of, in few bytes: a whole reply has room for ten bids. Contracts see the reply.
+/// The reply that a commit is told of, in few bytes: a whole reply has room for ten bids. Contracts
+/// see the reply.
 #[derive(Drop)]
 pub struct Answer<'a> {
     /// How it is told.

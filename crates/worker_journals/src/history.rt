@@ -16,11 +16,11 @@ use auction_rows::{Entry, MOST_WORKERS};
 use std::alloc::{AllocError, Global};
 use std::marker::Model;
 
-/// The commits of all phases that have closed: one phase after the other, in a phase by number, and then by worker.
-/// Contracts see the entries of these commits, and the journals of the last phase.
+/// The commits of all phases that have closed: one phase after the other, in a phase by number, and
+/// then by worker. Contracts see the entries of these commits, and the journals of the last phase.
 ///
-/// A history keeps the journals of each phase as they were written: no entry is copied into it, and the entries are merged
-/// while they are read.
+/// A history keeps the journals of each phase as they were written: no entry is copied into it, and
+/// the entries are merged while they are read.
 #[derive(Drop)]
 pub struct History {
     phases: Vec<Vec<Journal>>,
@@ -48,8 +48,9 @@ impl History {
         }
     }
 
-    /// Adds a phase at the end, by the journals of its at most 16 workers, in the order of these. Memory that they don't fill is
-    /// given back. Where memory is refused, the history stays as it was; a count of entries past 64 bits is want of memory.
+    /// Adds a phase at the end, by the journals of its at most 16 workers, in the order of these.
+    /// Memory that they don't fill is given back. Where memory is refused, the history stays as it
+    /// was; a count of entries past 64 bits is want of memory.
     pub fn add_phase(&mut self, journals: Vec<Journal>) -> Result<(), AllocError>
         requires few { vec_len journals ≤ MOST_WORKERS }
         requires by_worker { AreByWorker journals.items }
@@ -110,7 +111,8 @@ impl History {
         last
     }
 
-    /// The entries, one phase after the other, those of a phase by number, and those of one number by worker.
+    /// The entries, one phase after the other, those of a phase by number, and those of one number
+    /// by worker.
     pub fn iter(&self) -> Entries<'_>
         ensures { result ≡ self.now.entries }
     {

@@ -13,11 +13,12 @@ use auction_rows::{Entry, ItemView, Object, Reply, Request, StoreReply};
 use std::alloc::{AllocError, Global};
 use std::marker::Model;
 
-/// The commits of one worker in one phase, in the order of their numbers. Room for all of them is asked
-/// for ahead. Contracts see the phase, the worker, the entries, and the room: for how many entries in all
-/// a place was asked.
+/// The commits of one worker in one phase, in the order of their numbers. Room for all of them is
+/// asked for ahead. Contracts see the phase, the worker, the entries, and the room: for how many
+/// entries in all a place was asked.
 ///
-/// An entry is kept as a short head; the facts of an item, and what views show, lie in lists of their own.
+/// An entry is kept as a short head; the facts of an item, and what views show, lie in lists of
+/// their own.
 pub struct Journal {
     phase: u64,
     worker: u32,
@@ -60,8 +61,9 @@ impl Model for Journal {
 }
 
 impl Journal {
-    /// An empty journal with room for so many entries: for their heads and, at most, what all may have beside them, of which
-    /// memory is touched only as it is filled. It errs only for want of memory.
+    /// An empty journal with room for so many entries: for their heads and, at most, what all may
+    /// have beside them, of which memory is touched only as it is filled. It errs only for want of
+    /// memory.
     pub fn with_room(
         alloc: Global,
         phase: u64,
@@ -80,8 +82,8 @@ impl Journal {
         })
     }
 
-    /// Adds a commit of this worker in this phase, at a number greater than the last one's, if there
-    /// is room. It takes no memory.
+    /// Adds a commit of this worker in this phase, at a number greater than the last one's, if
+    /// there is room. It takes no memory.
     pub fn push(&mut self, number: u64, index: u32, request: Request, reply: Reply)
         requires room { length self.old.entries < self.old.room }
         requires after { ComesAfter self.old.entries number }
@@ -90,8 +92,8 @@ impl Journal {
         self.push_answer(number, index, &request, &Answer::of(&reply));
     }
 
-    /// Adds a commit as `push` does, of which the request is lent and the reply told as an answer: no reply with room for ten
-    /// bids is made of a store's.
+    /// Adds a commit as `push` does, of which the request is lent and the reply told as an answer:
+    /// no reply with room for ten bids is made of a store's.
     #[inline(always)]
     pub fn push_answer(&mut self, number: u64, index: u32, request: &Request, reply: &Answer<'_>)
         requires room { length self.old.entries < self.old.room }

@@ -17,7 +17,8 @@ use auction_rows::{Entry, MOST_WORKERS};
 use std::alloc::{AllocError, Global};
 use std::marker::Model;
 
-/// The entries of a phase's journals that are left, by number, and those of one number by worker. It takes no memory.
+/// The entries of a phase's journals that are left, by number, and those of one number by worker.
+/// It takes no memory.
 #[derive(Drop)]
 pub(crate) struct Merging<'a> {
     journals: &'a [Journal],
@@ -78,7 +79,8 @@ impl<'a> Iterator for Merging<'a> {
     }
 }
 
-/// The entries of the journals of one phase as one list: by number, and those of one number by worker.
+/// The entries of the journals of one phase as one list: by number, and those of one number by
+/// worker.
 pub fn merge_journals(alloc: Global, journals: Vec<Journal>) -> Result<Vec<Entry>, AllocError>
     requires by_worker { AreByWorker journals.items }
     ensures merged { IfOk result (λ entries. entries.items ≡ merged journals.items) }
@@ -165,8 +167,8 @@ pub(crate) fn count_of(journals: &[Journal]) -> Option<usize>
     Some(count)
 }
 
-/// A worker's entries in journals that are in the order of their workers are those of its one journal; a worker
-/// without a journal has none.
+/// A worker's entries in journals that are in the order of their workers are those of its one
+/// journal; a worker without a journal has none.
 pub fn entries_by_worker()
     ensures own { (journals : List JournalView) (journal : JournalView) → AreByWorker journals →
         Contains journals journal → entries_of journal.worker journals ≡ journal.entries }
@@ -181,8 +183,9 @@ pub fn numbers_come_after()
         ComesAfter entries number }
 {}
 
-/// The merged entries of lawful journals, which are in the order of their workers, strictly ascend by number and then
-/// worker; the part of each worker is its journal; and each entry of a journal is there once.
+/// The merged entries of lawful journals, which are in the order of their workers, strictly ascend
+/// by number and then worker; the part of each worker is its journal; and each entry of a journal
+/// is there once.
 pub fn journals_merge()
     ensures ascending { (journals : List JournalView) → AreByWorker journals →
         AllByRecursion IsLawfulJournal journals →

@@ -10,7 +10,8 @@ use request_scripts::{ShortRequest, SideIndex, keep_one, keep_request};
 use std::alloc::{AllocError, Global};
 use std::marker::Model;
 
-/// The facts that the requests of a journal store, and what its views show, with room for those of `left` commits more.
+/// The facts that the requests of a journal store, and what its views show, with room for those of
+/// `left` commits more.
 #[derive(Drop)]
 pub(crate) struct Sides {
     facts: Vec<Facts>,
@@ -86,7 +87,8 @@ impl Sides {
         self.left = 0;
     }
 
-    /// Keeps what is large of a commit, and gives what is small with the places of the rest. It takes no memory.
+    /// Keeps what is large of a commit, and gives what is small with the places of the rest. It
+    /// takes no memory.
     #[inline(always)]
     pub(crate) fn keep(
         &mut self,
@@ -168,7 +170,8 @@ impl Sides {
         }
     }
 
-    /// The object that a head of this journal writes, if it is an accepted splittable store of the worker.
+    /// The object that a head of this journal writes, if it is an accepted splittable store of the
+    /// worker.
     pub(crate) fn object_written(
         &self,
         worker: u32,
@@ -199,7 +202,8 @@ impl Sides {
     }
 }
 
-// Puts the values that a view shows at the end of a list, and gives the place of the first. It takes no memory.
+// Puts the values that a view shows at the end of a list, and gives the place of the first. It
+// takes no memory.
 fn keep_all<T: Copy>(list: &mut Vec<T>, shown: &Ten<T>) -> SideIndex
     requires { HasListRoom MOST_SHOWN (vec_len list.old) (vec_capacity list.old) }
     ensures place { result ≡ vec_len list.old }

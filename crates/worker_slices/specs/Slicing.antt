@@ -1,13 +1,7 @@
 -- A worker's slices of the objects that are split.
 use Rattle.std.specs.Prelude.{None, [], ◌∷◌, ◌≡◌, ℕ, ◌≤◌, ◌*◌, unsigned_abs, if◌then◌else◌, List, map, fold, Option, Some, IsSome, IsNone, slice_get, ⊤}
 use Rattle.std.specs.List.{AllByRecursion}
-use Rattle.auction_rows.specs.declared.requests.BidEntry.{BidEntry}
-use Rattle.auction_rows.specs.declared.requests.ItemEntry.{ItemEntry}
-use Rattle.auction_rows.specs.declared.requests.Object.{Object}
-use Rattle.auction_rows.specs.declared.requests.Object.TheVariants.{Item, User, Category}
-use Rattle.auction_rows.specs.declared.values.Stars.{Stars}
-use Rattle.auction_rows.specs.declared.requests.Facts.{Facts}
-use Rattle.auction_rows.specs.Book.{Book}
+use Rattle.auction_rows.specs.Types.{Stars, Facts, BidEntry, ItemEntry, Object, Book, Item, User, Category}
 use Rattle.auction_rows.specs.Requests.{same_object}
 use Rattle.item_shards.specs.Events.{Event, ListItem, Bid, Comment}
 use Rattle.item_shards.specs.declared.shard.slices.Slice.{Slice}

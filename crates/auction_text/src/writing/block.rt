@@ -40,7 +40,7 @@ struct Numeral {
 
 impl Model for Numeral {
     ghost use Rattle.std.specs.Prelude.{ℕ};
-    ghost use Rattle.auction_text.specs.Numerals.{HasDigits};
+    ghost use Rattle.auction_text.specs.inner.Numerals.{HasDigits};
 
     ghost Value = { ℕ };
 
@@ -120,8 +120,8 @@ impl Numeral {
         self.number = number;
     }
 
-    // Puts its digits down at a place, as `put_digits` does: a fixed number of bytes without a call,
-    // and a copy of the digits without a test for overlap.
+    // Puts its digits down at a place, as `put_digits` does: a fixed number of bytes without a
+    // call, and a copy of the digits without a test for overlap.
     #[inline(always)]
     fn put(&self, bytes: &mut [u8], at: usize) -> usize
         requires { at + MOST_DIGITS ≤ length bytes.old }

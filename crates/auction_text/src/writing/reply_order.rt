@@ -7,8 +7,8 @@ ghost use Rattle.worker_journals.specs.Journals.{entry_worker};
 ghost use Rattle.auction_text.specs.Moved.{gone_by, all_moved, line_after};
 ghost use Rattle.auction_text.specs.Order.{comes_before, in_order};
 ghost use Rattle.auction_text.specs.Replies.{lines, replies_text};
-ghost use Rattle.auction_text.specs.Turns.{front, late, rest};
-ghost use Rattle.auction_text.specs.Workers.{AreEach, late_of, replies_of};
+ghost use Rattle.auction_text.specs.inner.Turns.{front, late, rest};
+ghost use Rattle.auction_text.specs.inner.Workers.{AreEach, late_of, replies_of};
 ghost use Rattle.auction_text.specs.Writing.{PutsText};
 
 use crate::writing::block::{Block, ROOM};

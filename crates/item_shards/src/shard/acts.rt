@@ -1,4 +1,5 @@
-//! What a transaction does and looks at on a shard, and rows written on a shard that holds every object.
+//! What a transaction does and looks at on a shard, and rows written on a shard that holds every
+//! object.
 ghost use Rattle.std.specs.Prelude.{◌≡◌, ◌<◌, ◌≤◌, OnOk, OnErr};
 ghost use Rattle.item_shards.specs.CommitNumbers.{last_number};
 
@@ -6,8 +7,8 @@ use crate::shard::Shard;
 use auction_rows::{BidEntry, Facts, ItemEntry, ItemId, Quantity, Row, Stars};
 use std::alloc::AllocError;
 
-/// What a transaction looks at on a shard. Each look but the one at nothing names its object; what it shows is
-/// what the shard has, so a look carries no value.
+/// What a transaction looks at on a shard. Each look but the one at nothing names its object; what
+/// it shows is what the shard has, so a look carries no value.
 #[derive(Clone, Copy)]
 pub enum Look {
     Nothing,
@@ -68,7 +69,8 @@ impl Shard {
         }
     }
 
-    /// Does the acts of a commit, one after the other, and sets the clock to its number. It takes no memory.
+    /// Does the acts of a commit, one after the other, and sets the clock to its number. It takes
+    /// no memory.
     #[inline(always)]
     pub fn apply_acts(&mut self, number: u64, acts: &[Act; 2])
         requires later { clock self.old < number }

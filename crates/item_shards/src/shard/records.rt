@@ -85,7 +85,8 @@ impl ItemRecord {
     }
 }
 
-// A quantity is at most 1,000,000: its type keeps this, and says it here, so that sums of purchases fit.
+// A quantity is at most 1,000,000: its type keeps this, and says it here, so that sums of purchases
+// fit.
 #[inline(always)]
 fn quantity_fits(quantity: Quantity)
     ensures { quantity ≤ MOST_QUANTITY }
@@ -93,8 +94,9 @@ fn quantity_fits(quantity: Quantity)
     quantity.value();
 }
 
-/// The place of each worker's items in the map of items, by an item's serial over the number of shards: a look-up there
-/// needs no hash. A place is a guess: whoever asks looks at the id that is there, and a place may be missing.
+/// The place of each worker's items in the map of items, by an item's serial over the number of
+/// shards: a look-up there needs no hash. A place is a guess: whoever asks looks at the id that is
+/// there, and a place may be missing.
 #[derive(Drop)]
 pub(crate) struct ItemHints {
     by_worker: Vec<Vec<u32>>,
@@ -120,7 +122,8 @@ impl ItemHints {
         Some(*place as usize)
     }
 
-    /// Notes the place of an item of one shard of so many, if its worker's items before it are noted and memory is left.
+    /// Notes the place of an item of one shard of so many, if its worker's items before it are
+    /// noted and memory is left.
     pub(crate) fn note(&mut self, item: ItemId, shards: u32, place: usize)
         requires { 0 < shards }
     {

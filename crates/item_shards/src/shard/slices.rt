@@ -9,7 +9,8 @@ use auction_rows::{BidEntry, ItemEntry, ItemId, MOST_SHOWN, Stars};
 use split_records::{AddRec, MaxRec, OPutRec, Splittable};
 use top_records::TopRec;
 
-/// What bids on an item come to: the greatest amount, the greatest bid, how many they are, and the ten greatest.
+/// What bids on an item come to: the greatest amount, the greatest bid, how many they are, and the
+/// ten greatest.
 #[derive(Drop)]
 pub struct ItemSlice {
     pub highest: MaxRec,

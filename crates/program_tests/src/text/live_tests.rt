@@ -2,9 +2,9 @@
 use crate::comparing::assert_same;
 use crate::testing::extend;
 use crate::text::part_tests::Pieces;
+use auction_program::push_fault_line;
 use auction_text::{
     Cause, LineFault, LiveEnd, LiveInput, LivePart, MOST_ROWS_OF_A_PART, ReadFault, UntilEnd,
-    push_fault_line,
 };
 use std::alloc::Global;
 use std::fmt::Write;
@@ -52,8 +52,8 @@ fn requests_of(scripts: &[Script], worker: usize) -> usize {
     }
 }
 
-// What a text says of two workers, in parts of at most nine requests: for each part how many rows and requests it has, how many
-// requests of each, and its fault.
+// What a text says of two workers, in parts of at most nine requests: for each part how many rows
+// and requests it has, how many requests of each, and its fault.
 fn told(rt: &impl Abort, alloc: Global, text: &[u8], at_a_time: usize) -> String {
     let mut words = String::new(alloc);
     let reader = Slowly {

@@ -10,8 +10,8 @@ use std::io::{ErrorKind, Write};
 use std::process::Abort;
 use worker_journals::{History, Journal};
 
-// Takes one byte a call, but one call of `write` has an error, and it takes more after it. Its flush
-// fails where `is_stuck` says so. Counts what is called.
+// Takes one byte a call, but one call of `write` has an error, and it takes more after it. Its
+// flush fails where `is_stuck` says so. Counts what is called.
 #[derive(Drop)]
 struct Lapse {
     held: Vec<u8>,

@@ -1,6 +1,6 @@
 use Rattle.std.proofs.Common.{◌≡◌, ◌<◌, ◌≤◌, ◌++◌, ℕ, List, Some, take, length, vec_len}
 use Rattle.record_reading.specs.declared.inputs.TheConstants.{MOST_RECORDS}
-use Rattle.auction_reading.specs.Progress.{ReadsOn}
+use Rattle.auction_reading.specs.inner.Progress.{ReadsOn}
 use Rattle.auction_reading.proofs.by_threads.read_lines.Given as goal
 
 abbrev pub invariant-loop : goal.invariant-loop

@@ -1,6 +1,6 @@
 use Rattle.std.proofs.Common.{◌+◌, ◌||◌, ℕ, Bool, ap}
 use Rattle.record_reading.specs.Asking.{Asked}
-use Rattle.auction_reading.specs.Said.{WasRead}
+use Rattle.auction_reading.specs.inner.Said.{WasRead}
 use Rattle.auction_reading.proofs.joins.join.Goals as goal
 
 abbrev was : Asked → ℕ → Bool → WasRead

@@ -1,8 +1,7 @@
 use Rattle.std.proofs.Common.{◌≡◌, ◌∙◌, ◌++◌, List, arith, ap, ap₂, length}
-use Rattle.auction_rows.specs.declared.requests.Request.{Request}
-use Rattle.item_shards.specs.declared.openings.Opened.{Opened}
+use Rattle.auction_rows.specs.Types.{Request, Opened}
 use Rattle.record_reading.specs.Asking.{Asked}
-use Rattle.auction_reading.specs.Parcels.{scripts_joined}
+use Rattle.auction_reading.specs.inner.Parcels.{scripts_joined}
 use Rattle.auction_reading.proofs.JoinLemmas.{lent_back}
 use Rattle.auction_reading.proofs.joins.join_inputs.Goals as goal
 

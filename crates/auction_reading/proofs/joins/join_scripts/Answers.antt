@@ -1,6 +1,6 @@
 use Rattle.std.proofs.Common.{◌≡◌, ◌<◌, ◌+◌, ◌++◌, ◌∙◌, ℕ, suc, List, arith, ap, drop, length, set, get_or, subst, take}
 use Rattle.auction_rows.specs.declared.requests.Request.{Request}
-use Rattle.auction_reading.specs.Parcels.{scripts_joined}
+use Rattle.auction_reading.specs.inner.Parcels.{scripts_joined}
 use Rattle.auction_reading.proofs.JoinLemmas.{all_joined, one_joined}
 use Rattle.auction_reading.proofs.joins.join_scripts.Goals as goal
 

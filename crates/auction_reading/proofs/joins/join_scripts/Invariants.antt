@@ -1,5 +1,5 @@
 use Rattle.std.proofs.Common.{◌≡◌, ◌≤◌, ◌++◌, take, drop, length}
-use Rattle.auction_reading.specs.Parcels.{scripts_joined}
+use Rattle.auction_reading.specs.inner.Parcels.{scripts_joined}
 use Rattle.auction_reading.proofs.joins.join_scripts.Given as goal
 
 abbrev pub invariant-loop-worker : goal.invariant-loop-worker

@@ -1,7 +1,7 @@
 use Rattle.std.proofs.Common.{arith, ℕ, List, drop, subst, sym}
-use Rattle.auction_reading.specs.Said.{read_by}
+use Rattle.auction_reading.specs.inner.Said.{read_by}
 use Rattle.auction_reading.proofs.SaidLemmas.{has_read_none, has_read_then}
-use Rattle.auction_reading.specs.Parcels.{AreParcels, IsParcel}
+use Rattle.auction_reading.specs.inner.Parcels.{AreParcels, IsParcel}
 use Rattle.auction_reading.proofs.parcels.join_parcels.Goals as goal
 
 pub loop-parcel-init : goal.loop-parcel-init

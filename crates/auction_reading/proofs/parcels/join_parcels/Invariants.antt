@@ -1,7 +1,7 @@
 use Rattle.std.proofs.Common.{◌≤◌, ℕ, List, drop, length}
 use Rattle.record_reading.specs.declared.inputs.TheConstants.{MOST_RECORDS}
-use Rattle.auction_reading.specs.Said.{HasRead, read_by}
-use Rattle.auction_reading.specs.Parcels.{AreParcels}
+use Rattle.auction_reading.specs.inner.Said.{HasRead, read_by}
+use Rattle.auction_reading.specs.inner.Parcels.{AreParcels}
 use Rattle.auction_reading.proofs.parcels.join_parcels.Given as goal
 
 abbrev pub invariant-loop-parcel : goal.invariant-loop-parcel

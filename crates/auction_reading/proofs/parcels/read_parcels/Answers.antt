@@ -1,5 +1,5 @@
 use Rattle.std.proofs.Common.{arith, subst}
-use Rattle.auction_reading.specs.Parcels.{IsParcel}
+use Rattle.auction_reading.specs.inner.Parcels.{IsParcel}
 use Rattle.auction_reading.proofs.parcels.read_parcels.Goals as goal
 
 pub returns : goal.returns

@@ -1,5 +1,5 @@
 use Rattle.std.proofs.Common.{◌≡◌, ◌&&◌, Bool, arith, ap, drop, false, inr, refl, true}
-use Rattle.auction_reading.specs.Said.{read_by}
+use Rattle.auction_reading.specs.inner.Said.{read_by}
 use Rattle.auction_reading.proofs.SaidLemmas.{has_read_line, has_read_none}
 use Rattle.auction_reading.proofs.plain_text.add_line.Goals.{else-said-via-then-said+else-progress, else-said-via-else-said}
 use Rattle.auction_reading.proofs.plain_text.add_line.Goals as goal

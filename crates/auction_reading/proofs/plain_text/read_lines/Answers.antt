@@ -1,5 +1,5 @@
 use Rattle.std.proofs.Common.{arith, ◌++◌, ◌∙◌, ap, refl, subst, take}
-use Rattle.auction_reading.specs.Progress.{ReadsOn}
+use Rattle.auction_reading.specs.inner.Progress.{ReadsOn}
 use Rattle.auction_reading.proofs.ProgressLemmas.{reads_on_further, reads_on_none}
 use Rattle.auction_reading.proofs.plain_text.read_lines.Goals as goal
 

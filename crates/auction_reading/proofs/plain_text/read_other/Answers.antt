@@ -1,6 +1,6 @@
 use Rattle.std.proofs.Common.{arith, drop, inl, inr}
 use Rattle.std.proofs.lemmas.Result.{IfOk-weaker}
-use Rattle.auction_reading.specs.Said.{read_by}
+use Rattle.auction_reading.specs.inner.Said.{read_by}
 use Rattle.auction_reading.proofs.SaidLemmas.{has_read_none}
 use Rattle.auction_reading.proofs.plain_text.read_other.Goals as goal
 

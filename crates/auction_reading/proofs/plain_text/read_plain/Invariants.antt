@@ -1,5 +1,5 @@
 use Rattle.std.proofs.Common.{◌≤◌, ◌-◌, drop, length}
-use Rattle.auction_reading.specs.Said.{HasRead, read_by}
+use Rattle.auction_reading.specs.inner.Said.{HasRead, read_by}
 use Rattle.auction_reading.proofs.plain_text.read_plain.Given as goal
 
 abbrev pub invariant-loop-at : goal.invariant-loop-at

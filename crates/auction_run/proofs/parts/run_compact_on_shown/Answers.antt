@@ -1,11 +1,6 @@
-use Rattle.std.proofs.Common.{◌≡◌, List, refl, subst}
+use Rattle.std.proofs.Common.{◌≡◌, refl, subst}
 use Rattle.std.specs.Prelude.{Err, IfErr}
-use Rattle.auction_rows.specs.declared.rows.Row.{Row}
-use Rattle.auction_rows.specs.Book.{Book}
-use Rattle.auction_window.specs.Published.{book_of}
-use Rattle.phase_floor.specs.States.{IsBookOf}
-use Rattle.auction_run.specs.GoingOn.{AnswersNextRun, IsCheckedOn, IsReadyFor, fault_of}
-use Rattle.run_phases.specs.Outcomes.{HasShownFirstAfter}
+use Rattle.auction_run.specs.GoingOn.{AnswersNextRun, HasShownFirstNext, IsCheckedOn, IsReadyFor}
 use Rattle.auction_run.proofs.AnswerLemmas.{not_given_back}
 use Rattle.run_phases.proofs.BoardLemmas.{none_shown}
 use Rattle.auction_run.proofs.CheckLemmas.{checked_on, checked_on_first, few_on}
@@ -27,9 +22,7 @@ returns-clause-answer g c =
 pub returns-clause-board_after_fault : goal.returns-clause-board_after_fault
 returns-clause-board_after_fault g c =
     let B = g.B.Board in let state = c.args.state in
-    subst (λ scripts. IfErr c.run_on_checked.result (λ stopped. (rows : Book) (before : List (List Row)) → B.has c.args.board.now state.opening rows before →
-    IsBookOf state (book_of rows before) →
-    HasShownFirstAfter B.has B.has_refused state.opening rows before c.args.policy scripts c.run_on_checked.new.board (fault_of stopped)))
+    subst (λ scripts. IfErr c.run_on_checked.result (HasShownFirstNext B.has B.has_refused state c.args.policy scripts c.args.board.now c.run_on_checked.new.board))
     c.as_slice.ensures.value c.run_on_checked.ensures.board_after_fault
 
 pub returns-in-Err-clause-answer : goal.returns-in-Err-clause-answer

@@ -1,5 +1,4 @@
-use Rattle.std.proofs.Common.{◌≤◌, ◌∙◌, List, ap, length, refl, subst, sym}
-use Rattle.auction_rows.specs.declared.rows.Row.{Row}
+use Rattle.std.proofs.Common.{◌≤◌, ◌∙◌, ap, length, refl, subst, sym}
 use Rattle.auction_rows.specs.Book.{Book}
 use Rattle.auction_window.specs.Published.{book_of}
 use Rattle.phase_floor.specs.States.{JoinedState, IsBookOf}
@@ -7,7 +6,7 @@ use Rattle.job_threads.proofs.ThreadLemmas.{err_as}
 use Rattle.auction_run.specs.declared.checks.Stopped.TheVariants.{Failed}
 use Rattle.run_phases.specs.Boards.{HasShownAfter}
 use Rattle.run_phases.specs.Beginning.{BeginsWith}
-use Rattle.auction_run.specs.GoingOn.{fault_of}
+use Rattle.auction_run.specs.GoingOn.{HasShownFirstNext}
 use Rattle.run_phases.specs.Outcomes.{HasShownFirstAfter, IsOutcome}
 use Rattle.auction_run.proofs.AnswerLemmas.{answered_stopped}
 use Rattle.run_phases.proofs.BoardLemmas.{up_to_date}
@@ -76,8 +75,7 @@ returns-in_err-outcome-clause-board_after_fault g c =
     let B = g.B.Board in
     let next = c.for_next_run-state.ensures in let state = c.args.state in let policy = c.args.work.policy in let scripts = c.args.work.scripts.now in let fault = c.in_err-outcome.field-0.0 in
     err_as c.from_residual.result (Failed fault)
-    (λ stopped. (rows : Book) (before : List (List Row)) → B.has c.args.board.now state.opening rows before → IsBookOf state (book_of rows before) →
-    HasShownFirstAfter B.has B.has_refused state.opening rows before policy scripts c.run_from.new.board (fault_of stopped))
+    (HasShownFirstNext B.has B.has_refused state policy scripts c.args.board.now c.run_from.new.board)
     c.from_residual.ensures.1
     (λ rows before has of.
     let begins = begins_of state c.for_next_run-state.result (book_of rows before) policy _ scripts of refl c.requires.few c.requires.ready next.next next.stands in

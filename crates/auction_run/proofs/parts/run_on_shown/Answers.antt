@@ -1,15 +1,10 @@
-use Rattle.std.proofs.Common.{◌≡◌, ◌≤◌, ◌∙◌, List, ap, length, refl, subst, sym}
+use Rattle.std.proofs.Common.{◌≡◌, ◌≤◌, ◌∙◌, ap, length, refl, subst, sym}
 use Rattle.std.specs.Prelude.{Err, IfErr}
 use Rattle.auction_rows.specs.declared.limits.TheConstants.{MOST_WORKERS}
-use Rattle.auction_rows.specs.declared.rows.Row.{Row}
-use Rattle.auction_rows.specs.Book.{Book}
-use Rattle.auction_window.specs.Published.{book_of}
-use Rattle.phase_floor.specs.States.{IsBookOf}
 use Rattle.job_threads.proofs.ThreadLemmas.{err_as}
 use Rattle.run_phases.specs.declared.faults.RunFault.TheVariants.{Memory}
 use Rattle.auction_run.specs.declared.checks.Stopped.TheVariants.{Failed}
-use Rattle.auction_run.specs.GoingOn.{AnswersNextRun, IsCheckedOn, IsReadyFor, fault_of}
-use Rattle.run_phases.specs.Outcomes.{HasShownFirstAfter}
+use Rattle.auction_run.specs.GoingOn.{AnswersNextRun, HasShownFirstNext, IsCheckedOn, IsReadyFor}
 use Rattle.run_laws.specs.Serving.{lists}
 use Rattle.auction_run.proofs.AnswerLemmas.{answered_stopped, not_given_back}
 use Rattle.run_phases.proofs.BoardLemmas.{none_shown}
@@ -34,9 +29,7 @@ returns-clause-answer g c =
 pub returns-clause-board_after_fault : goal.returns-clause-board_after_fault
 returns-clause-board_after_fault g c =
     let B = g.B.Board in let state = c.args.state in
-    subst (λ scripts. IfErr c.run_on_checked.result (λ stopped. (rows : Book) (before : List (List Row)) → B.has c.args.board.now state.opening rows before →
-    IsBookOf state (book_of rows before) →
-    HasShownFirstAfter B.has B.has_refused state.opening rows before c.args.policy scripts c.run_on_checked.new.board (fault_of stopped)))
+    subst (λ scripts. IfErr c.run_on_checked.result (HasShownFirstNext B.has B.has_refused state c.args.policy scripts c.args.board.now c.run_on_checked.new.board))
     (c.as_slice-2.ensures.value ∙ c.in_ok-compact.ensures) c.run_on_checked.ensures.board_after_fault
 
 pub returns-in_err-compact-clause-answer : goal.returns-in_err-compact-clause-answer
@@ -49,8 +42,7 @@ pub returns-in_err-compact-clause-board_after_fault : goal.returns-in_err-compac
 returns-in_err-compact-clause-board_after_fault g c =
     let B = g.B.Board in let state = c.args.state in let policy = c.args.policy in
     err_as c.from_residual.result (Failed Memory)
-    (λ stopped. (rows : Book) (before : List (List Row)) → B.has c.args.board.now state.opening rows before → IsBookOf state (book_of rows before) →
-    HasShownFirstAfter B.has B.has_refused state.opening rows before policy (lists c.args.scripts.items) c.args.board.now (fault_of stopped))
+    (HasShownFirstNext B.has B.has_refused state policy (lists c.args.scripts.items) c.args.board.now c.args.board.now)
     c.from_residual.ensures.1
     (λ rows before has of. none_shown B.has B.has_refused state.opening rows before policy (lists c.args.scripts.items) c.args.board.now has Memory)
 

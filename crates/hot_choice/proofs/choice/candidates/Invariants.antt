@@ -1,5 +1,5 @@
 use Rattle.std.proofs.Common.{◌≡◌, ◌++◌}
-use Rattle.hot_choice.specs.Ranking.{hot_ones}
+use Rattle.hot_choice.specs.inner.Ranking.{hot_ones}
 use Rattle.hot_choice.proofs.choice.candidates.Given as goal
 
 -- the candidates so far and those of the rows that are left are those of the table

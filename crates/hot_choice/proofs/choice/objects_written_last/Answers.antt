@@ -4,7 +4,7 @@ use Rattle.auction_rows.specs.declared.requests.Object.{Object}
 use Rattle.auction_rows.specs.Choosing.{objects_written}
 use Rattle.worker_journals.specs.Merged.{merged}
 use Rattle.worker_journals.proofs.MergedLemmas.{all_entries}
-use Rattle.hot_choice.specs.Ranking.{AreWritten}
+use Rattle.hot_choice.specs.inner.Ranking.{AreWritten}
 use Rattle.hot_choice.proofs.HeatLemmas.{written_in_turn, written_in_any_order}
 use Rattle.hot_choice.proofs.choice.objects_written_last.Goals as goal
 

@@ -2,7 +2,7 @@ use Rattle.std.proofs.Common.{◌≡◌, ℕ, ◌<◌, ◌≤◌, ◌↔◌, Boo
 use Rattle.std.specs.List.{HoldsAt, AllWithin}
 use Rattle.std.proofs.lemmas.Iterator.{cases_from_any, YieldsList-from_slice}
 use Rattle.std.proofs.lemmas.Bool.{false≢true}
-use Rattle.item_shards.specs.declared.openings.Opened.{Opened}
+use Rattle.auction_rows.specs.declared.requests.Opened.{Opened}
 use Rattle.item_shards.specs.OpeningRows.{asked_by, IsTooLong}
 use Rattle.item_shards.proofs.openings.is_too_long.Goals as goal
 

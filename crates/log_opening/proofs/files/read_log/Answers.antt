@@ -1,5 +1,5 @@
 use Rattle.std.proofs.Common.{◌≡◌, ◌∙◌, ℕ, List, Option, None, Some, IfErr, IfOk, IfSome, length, refl, subst}
-use Rattle.log_opening.specs.Files.{bytes_from}
+use Rattle.log_opening.specs.inner.Files.{bytes_from}
 use Rattle.log_opening.specs.Opening.{IsRefused, Opens, TellsFirst}
 use Rattle.log_opening.proofs.files.read_log.Goals as goal
 

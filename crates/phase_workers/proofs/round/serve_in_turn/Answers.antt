@@ -2,7 +2,7 @@ use Rattle.std.proofs.Common.{◌≡◌, ℕ, suc, ◌+◌, ◌<◌, ◌≤◌, 
 use Rattle.std.specs.List.{AllByRecursion, AllZip}
 use Rattle.std.specs.Vec.Iter.{into_iter_items, into_iter_len}
 use Rattle.std.specs.Prelude.{OnOk, IfErr, Result}
-use Rattle.phase_transactions.specs.declared.transaction.PermitFault.{PermitFault}
+use Rattle.phase_transactions.specs.declared.done.PermitFault.{PermitFault}
 use Rattle.phase_workers.specs.Tasks.{Task, task, tasks, CanBeDone, HasDoneTask, HasMetFault}
 use Rattle.phase_workers.specs.Working.{ArePermitsOf, IsPermitOf}
 use Rattle.job_threads.proofs.ThreadLemmas.{none_left, all_done, worked_more}

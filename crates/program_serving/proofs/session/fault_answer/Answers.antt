@@ -1,5 +1,5 @@
 use Rattle.std.proofs.Common.{◌∙◌, ◌++◌, ◌||◌, [], ap, if◌then◌else◌, sym}
-use Rattle.auction_text.specs.FaultLines.{fault_line}
+use Rattle.program_serving.specs.FaultLines.{fault_line}
 use Rattle.auction_text.specs.Moved.{gone_by}
 use Rattle.program_serving.specs.Serving.{named_answer}
 use Rattle.program_serving.proofs.session.fault_answer.Goals as goal

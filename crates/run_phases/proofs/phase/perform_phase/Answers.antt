@@ -1,6 +1,6 @@
 use Rattle.std.proofs.Common.{sym, subst}
 use Rattle.std.specs.Prelude.{IfOk}
-use Rattle.run_phases.specs.Closed.{HasPerformedPhase}
+use Rattle.run_phases.specs.inner.Closed.{HasPerformedPhase}
 use Rattle.run_phases.specs.Phases.{MayPerform}
 use Rattle.run_phases.proofs.PhaseLemmas.{even_joined, odd_split}
 use Rattle.run_phases.proofs.phase.perform_phase.Goals as goal

@@ -5,7 +5,7 @@ use Rattle.shard_boxes.specs.States.{state_at}
 use Rattle.shard_boxes.specs.Rule.{Speaks}
 use Rattle.shard_boxes.specs.Passes.{GrantState}
 use Rattle.shard_boxes.specs.Keys.{lines_at}
-use Rattle.shard_boxes.specs.Grants.{IsFree, own_at}
+use Rattle.shard_boxes.specs.inner.Grants.{IsFree, own_at}
 use Rattle.shard_boxes.proofs.Each.{drop_next, at_head, is_next, one_on, all_gone}
 use Rattle.shard_boxes.proofs.Sweeps.{swept_more}
 use Rattle.shard_boxes.proofs.KeySteps.{same_places}

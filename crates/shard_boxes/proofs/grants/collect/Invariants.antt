@@ -4,7 +4,7 @@ use Rattle.shard_boxes.specs.States.{state_at}
 use Rattle.shard_boxes.specs.Passes.{GrantState}
 use Rattle.shard_boxes.specs.Keys.{lines_at}
 use Rattle.shard_boxes.specs.Seats.{boxes_of}
-use Rattle.shard_boxes.specs.Grants.{IsFree, own_at}
+use Rattle.shard_boxes.specs.inner.Grants.{IsFree, own_at}
 use Rattle.shard_boxes.proofs.Sweeps.{Swept}
 use Rattle.shard_boxes.proofs.grants.collect.Given as goal
 

@@ -1,7 +1,7 @@
 use Rattle.std.proofs.Common.{◌≡◌, ℕ, ◌<◌, List, ◌++◌, length, map, vec_len}
 use Rattle.shard_boxes.specs.Passes.{GrantState}
 use Rattle.shard_boxes.specs.Keys.{KeyState, lines_at}
-use Rattle.shard_boxes.specs.Grants.{AreFree, own_at}
+use Rattle.shard_boxes.specs.inner.Grants.{AreFree, own_at}
 use Rattle.shard_boxes.proofs.grants.collect_all.Given as goal
 
 -- the keys that are left, and then those whose grants were collected

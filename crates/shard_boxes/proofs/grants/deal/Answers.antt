@@ -3,7 +3,7 @@ use Rattle.shard_boxes.specs.declared.shard_box.Knowledge.{Knowledge}
 use Rattle.shard_boxes.specs.States.{state_at}
 use Rattle.shard_boxes.specs.Passes.{GrantState}
 use Rattle.shard_boxes.specs.Rule.{Speaks, ready}
-use Rattle.shard_boxes.specs.Grants.{IsNewView}
+use Rattle.shard_boxes.specs.inner.Grants.{IsNewView}
 use Rattle.shard_boxes.proofs.Each.{each_push}
 use Rattle.shard_boxes.proofs.Sweeps.{swept_more}
 use Rattle.shard_boxes.proofs.KeySteps.{same_places}

@@ -3,7 +3,7 @@ use Rattle.shard_boxes.specs.States.{state_of, state_at}
 use Rattle.shard_boxes.specs.Passes.{GrantState}
 use Rattle.shard_boxes.specs.Rule.{IsSpare}
 use Rattle.shard_boxes.specs.Seats.{boxes_of}
-use Rattle.shard_boxes.specs.Grants.{IsTaken, own_at}
+use Rattle.shard_boxes.specs.inner.Grants.{IsTaken, own_at}
 use Rattle.shard_boxes.proofs.Sweeps.{Swept}
 use Rattle.shard_boxes.proofs.grants.take_all.Given as goal
 

@@ -1,5 +1,5 @@
 use Rattle.std.proofs.Common.{◌≡◌, vec_len}
-use Rattle.shard_boxes.specs.Grants.{AreSpare}
+use Rattle.shard_boxes.specs.inner.Grants.{AreSpare}
 use Rattle.shard_boxes.proofs.spare.make_boxes.Given as goal
 
 abbrev pub invariant-loop : goal.invariant-loop

@@ -1,7 +1,7 @@
 use Rattle.std.proofs.Common.{◌≡◌, ◌+◌, ℕ, List, length, get_or, ap, sym, ◌∙◌, subst, arith}
 use Rattle.std.proofs.lemmas.List.{length-map}
 use Rattle.split_engine.specs.Serving.{lists, IsScript}
-use Rattle.split_engine.specs.Phases.{HasServed}
+use Rattle.split_engine.specs.inner.Phases.{HasServed}
 use Rattle.split_engine.proofs.Works.{all_at}
 use Rattle.split_engine.proofs.States.{listed, have_at, have_length, state_turned}
 use Rattle.split_engine.specs.declared.state.TheConstants.{MOST_COMMITS}

@@ -5,7 +5,7 @@ use Rattle.std.proofs.lemmas.List.{length-set, append-nil}
 use Rattle.std.specs.List.{AllByRecursion}
 use Rattle.split_engine.specs.Serial.{after_act, reply, IsWithin}
 use Rattle.split_engine.specs.Serving.{commit}
-use Rattle.split_engine.specs.Phases.{HasPerformed}
+use Rattle.split_engine.specs.inner.Phases.{HasPerformed}
 use Rattle.split_engine.proofs.Works.{all_at, performed_both, performed_none, performed_one}
 use Rattle.split_engine.proofs.joined.perform_all.Goals as goal
 

@@ -3,7 +3,7 @@ use Rattle.std.proofs.lemmas.List.{length-append, length-map}
 use Rattle.std.specs.List.{AllByRecursion}
 use Rattle.split_engine.specs.Serial.{IsWithin}
 use Rattle.split_engine.specs.Serving.{call_of}
-use Rattle.split_engine.specs.Phases.{HasServed}
+use Rattle.split_engine.specs.inner.Phases.{HasServed}
 use Rattle.split_engine.proofs.Counts.{stashed_long}
 use Rattle.split_engine.proofs.States.{stashed_within, served_stashed}
 use Rattle.split_engine.proofs.joined.take_turn.Goals as goal

@@ -2,7 +2,7 @@ use Rattle.std.proofs.Common.{length, ap, ◌∙◌, IfOk}
 use Rattle.job_threads.proofs.ThreadLemmas.{err_as}
 use Rattle.split_engine.specs.Faults.{IsRunFault, fault_of_jobs}
 use Rattle.split_engine.specs.Serving.{lists}
-use Rattle.split_engine.specs.Assignments.{assignment, assignments, HasDone}
+use Rattle.split_engine.specs.inner.Assignments.{assignment, assignments, HasDone}
 use Rattle.split_engine.proofs.Counts.{unstarted}
 use Rattle.split_engine.proofs.States.{zip_map}
 use Rattle.split_engine.proofs.phases.split_phase.Goals as goal

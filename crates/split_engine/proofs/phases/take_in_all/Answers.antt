@@ -2,7 +2,7 @@ use Rattle.std.proofs.Common.{◌≡◌, ◌++◌, ◌∷◌, [], ◌+◌, lengt
 use Rattle.std.specs.List.{AllByRecursion, AllZip}
 use Rattle.std.specs.Vec.Iter.{into_iter_items}
 use Rattle.phase_laws.proofs.ListLemmas.{all-right}
-use Rattle.split_engine.specs.Assignments.{HasClosed, left_of, all_left}
+use Rattle.split_engine.specs.inner.Assignments.{HasClosed, left_of, all_left}
 use Rattle.split_engine.proofs.Splits.{length-merged}
 use Rattle.split_engine.proofs.Counts.{done_few, left-append}
 use Rattle.split_engine.proofs.States.{closed_none, closed_more, zip_first, zip_none, if_ok, nothing_left}

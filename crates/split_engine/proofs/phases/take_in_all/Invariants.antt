@@ -1,7 +1,7 @@
 use Rattle.std.proofs.Common.{◌≡◌, ◌++◌, ◌≤◌, List, length, IfOk}
 use Rattle.std.specs.List.{AllByRecursion, AllZip}
 use Rattle.std.specs.Vec.Iter.{into_iter_items}
-use Rattle.split_engine.specs.Assignments.{Assignment, HasDone, HasClosed}
+use Rattle.split_engine.specs.inner.Assignments.{Assignment, HasDone, HasClosed}
 use Rattle.split_engine.proofs.phases.take_in_all.Given as goal
 
 abbrev pub invariant-loop-answer : goal.invariant-loop-answer

@@ -2,8 +2,8 @@ use Rattle.std.proofs.Common.{◌≡◌, ◌++◌, ◌+◌, List, length, map, d
 use Rattle.std.specs.List.{AllByRecursion}
 use Rattle.std.specs.Vec.Iter.{into_iter_items}
 use Rattle.split_engine.specs.Serving.{lists}
-use Rattle.split_engine.specs.Phases.{HaveServed}
-use Rattle.split_engine.specs.Assignments.{assignment, assignments, CanDo}
+use Rattle.split_engine.specs.inner.Phases.{HaveServed}
+use Rattle.split_engine.specs.inner.Assignments.{assignment, assignments, CanDo}
 use Rattle.split_engine.proofs.phases.tasks.Given as goal
 
 abbrev pub invariant-loop-worker : goal.invariant-loop-worker

@@ -1,7 +1,7 @@
 use Rattle.std.proofs.Common.{length, ap, sym, ◌∙◌, subst, arith}
 use Rattle.std.proofs.lemmas.List.{length-map}
 use Rattle.split_engine.specs.Serving.{lists}
-use Rattle.split_engine.specs.Phases.{AllFinished}
+use Rattle.split_engine.specs.inner.Phases.{AllFinished}
 use Rattle.split_engine.proofs.Counts.{are_scripts}
 use Rattle.split_engine.proofs.States.{have_length}
 use Rattle.split_engine.proofs.Ends.{state_at_first}

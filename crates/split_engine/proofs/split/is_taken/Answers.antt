@@ -1,5 +1,5 @@
 use Rattle.std.proofs.Common.{◌&&◌, ◌∙◌, sym}
-use Rattle.split_engine.specs.Phases.{is_hot}
+use Rattle.split_engine.specs.inner.Phases.{is_hot}
 use Rattle.split_engine.proofs.split.is_taken.Goals as goal
 
 pub returns-then-hot-first : goal.returns-then-hot-first

@@ -1,6 +1,6 @@
 use Rattle.std.proofs.Common.{arith, ◌≡◌, ℕ, drop, subst, sym}
-use Rattle.auction_reading.specs.Parcels.{read_with}
-use Rattle.auction_reading.specs.Said.{HasRead, WasRead, read_by}
+use Rattle.auction_reading.specs.inner.Parcels.{read_with}
+use Rattle.auction_reading.specs.inner.Said.{HasRead, WasRead, read_by}
 use Rattle.auction_reading.proofs.JoinLemmas.{parcel_read_on}
 use Rattle.auction_reading.proofs.SaidLemmas.{has_read_none}
 use Rattle.auction_reading.proofs.parcels.Parcel.join_at.Goals as goal

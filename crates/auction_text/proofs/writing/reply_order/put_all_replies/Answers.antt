@@ -6,7 +6,7 @@ use Rattle.worker_journals.specs.Journals.{entry_worker}
 use Rattle.auction_text.specs.Moved.{BeforeView, all_moved, gone_by, line_after}
 use Rattle.auction_text.specs.Order.{in_order}
 use Rattle.auction_text.specs.Replies.{lines}
-use Rattle.auction_text.specs.Workers.{late_of, replies_of}
+use Rattle.auction_text.specs.inner.Workers.{late_of, replies_of}
 use Rattle.auction_text.proofs.EachLemmas.{each_at}
 use Rattle.auction_text.proofs.MovedLemmas.{replies_of-moved, workers-moved}
 use Rattle.auction_text.proofs.PutLemmas.{put_failed, told_all, told_more, told_none, told_part}

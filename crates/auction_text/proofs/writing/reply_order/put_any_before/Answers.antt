@@ -3,7 +3,7 @@ use Rattle.std.proofs.lemmas.List.{drop_all}
 use Rattle.auction_text.specs.Moved.{line_after}
 use Rattle.auction_text.specs.Order.{comes_before}
 use Rattle.auction_text.specs.Replies.{lines}
-use Rattle.auction_text.specs.Turns.{front, rest}
+use Rattle.auction_text.specs.inner.Turns.{front, rest}
 use Rattle.auction_text.proofs.PutLemmas.{nothing_put}
 use Rattle.auction_text.proofs.TurnLemmas.{front-none, rest-none}
 use Rattle.auction_text.proofs.writing.reply_order.put_any_before.Goals as goal

@@ -3,7 +3,7 @@ use Rattle.std.proofs.lemmas.List.{drop_all}
 use Rattle.auction_text.specs.Moved.{line_after}
 use Rattle.auction_text.specs.Order.{comes_before}
 use Rattle.auction_text.specs.Replies.{lines}
-use Rattle.auction_text.specs.Turns.{front, rest}
+use Rattle.auction_text.specs.inner.Turns.{front, rest}
 use Rattle.auction_text.proofs.PutLemmas.{put_failed, told_all, told_more, told_none, told_part}
 use Rattle.auction_text.proofs.TurnLemmas.{drop_next, front-end, front-more, front-none, rest-end, rest-more, rest-none}
 use Rattle.auction_text.proofs.writing.reply_order.put_before.Goals as goal

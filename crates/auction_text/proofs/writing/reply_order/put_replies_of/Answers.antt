@@ -7,7 +7,7 @@ use Rattle.worker_journals.specs.Journals.{entry_worker}
 use Rattle.auction_text.specs.Moved.{line_after}
 use Rattle.auction_text.specs.Order.{comes_before, sorted}
 use Rattle.auction_text.specs.Replies.{lines}
-use Rattle.auction_text.specs.Turns.{front, in_turn, is_late, late, rest}
+use Rattle.auction_text.specs.inner.Turns.{front, in_turn, is_late, late, rest}
 use Rattle.auction_text.proofs.OwnTurns.{AreOf, late_by_index, part_own}
 use Rattle.auction_text.proofs.PartLemmas.{entry_order}
 use Rattle.auction_text.proofs.PutLemmas.{put_failed, put_last, told_more, told_none, told_part}

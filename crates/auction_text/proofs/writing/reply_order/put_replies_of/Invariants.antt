@@ -4,7 +4,7 @@ use Rattle.worker_journals.specs.Journals.{entry_worker}
 use Rattle.auction_text.specs.Moved.{line_after}
 use Rattle.auction_text.specs.Order.{comes_before, in_order, sorted}
 use Rattle.auction_text.specs.Replies.{lines}
-use Rattle.auction_text.specs.Turns.{in_turn}
+use Rattle.auction_text.specs.inner.Turns.{in_turn}
 use Rattle.auction_text.proofs.OwnTurns.{AreOf, HasLast}
 use Rattle.auction_text.proofs.PartLemmas.{entry_order}
 use Rattle.auction_text.proofs.PutLemmas.{IsTold}

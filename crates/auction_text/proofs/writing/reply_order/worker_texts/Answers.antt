@@ -1,6 +1,6 @@
 use Rattle.std.proofs.Common.{arith, Ok}
 use Rattle.std.proofs.lemmas.Result.{IfOk-weaker}
-use Rattle.auction_text.specs.Workers.{AreEach, replies_of}
+use Rattle.auction_text.specs.inner.Workers.{AreEach, replies_of}
 use Rattle.auction_text.proofs.EachLemmas.{made_at}
 use Rattle.auction_text.proofs.writing.reply_order.worker_texts.Goals as goal
 

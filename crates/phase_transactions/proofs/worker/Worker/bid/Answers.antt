@@ -8,8 +8,8 @@ use Rattle.shard_boxes.specs.Helds.{MayPut, taken_at}
 use Rattle.shard_boxes.specs.Keys.{holds_at, putting}
 use Rattle.shard_boxes.specs.Lines.{bid_acts, line_of}
 use Rattle.shard_boxes.specs.States.{state_of}
-use Rattle.phase_transactions.specs.Begun.{step_of}
-use Rattle.phase_transactions.specs.Deeds.{IsReplyUnless}
+use Rattle.phase_transactions.specs.inner.Begun.{step_of}
+use Rattle.phase_transactions.specs.inner.Deeds.{IsReplyUnless}
 use Rattle.worker_slices.specs.Homes.{IsWrittenAt, shard_at}
 use Rattle.phase_transactions.specs.Performing.{HasCommitted, HaveOpening}
 use Rattle.worker_slices.specs.Counting.{IsOwn}
@@ -95,8 +95,8 @@ add_store-requires-clause-own g c =
     let w = c.begin.new.self in
     let bid = c.args.bid.now in
     let refused = c.bid-trace.result.1 in
-    let reply = reply_of c.reply.result in
-    let told = subst (λ (s : WorkerState). IsReplyUnless s refused (bid_request bid.item bid.entry) reply) c.self-2.view_is c.reply.ensures in
+    let reply = reply_of c.reply_to_bid.result in
+    let told = subst (λ (s : WorkerState). IsReplyUnless s refused (bid_request bid.item bid.entry) reply) c.self-2.view_is c.reply_to_bid.ensures in
     subst (λ (s : WorkerState). IsOwn s.journal.worker reply) (sym c.self-2.view_is)
     (bid_own step w bid.item bid.entry c.in_ok-begun.begun c.in_ok-begun.ensures.begun c.one-held.result c.one-held.ensures refused reply c.bid-trace.ensures.by told)
 
@@ -113,7 +113,7 @@ returns g c =
     let held = c.one-held.result in
     let made = c.bid-trace.ensures in
     let refused = c.bid-trace.result.1 in
-    let reply = reply_of c.reply.result in
+    let reply = reply_of c.reply_to_bid.result in
     let new = c.add_store.new.self in
     let key_is : new.key ≡ c.put_acted.new.key = ap (λ (s : WorkerState). s.key) c.add_store.ensures in
     let line = line_of begun.number bid.index (bid_acts bid.item bid.entry refused) held.shard in
@@ -121,7 +121,7 @@ returns g c =
     acted_put (bid_held step w bid.item bid.entry begun its held c.one-held.ensures) c.bid-trace.new.self c.bid-trace.result.0 made.number made.follows made.after new.key line made.line
     (key_is ∙ c.put_acted.ensures ∙ ap (λ (s : WorkerState). putting s.key c.bid-trace.new.self.number (Some c.bid-trace.result.0)) c.self-2.view_is) in
     let opened = subst (HaveOpening initial) (sym (ap (λ (s : WorkerState). s.opening) c.begin.ensures.worker)) c.requires.can.opened in
-    let told = subst (λ (s : WorkerState). IsReplyUnless s refused request reply) c.self-2.view_is c.reply.ensures in (
+    let told = subst (λ (s : WorkerState). IsReplyUnless s refused request reply) c.self-2.view_is c.reply_to_bid.ensures in (
       reply,
       subst (λ (s : WorkerState). HasCommitted initial s new request bid.index reply) (λ i. record (c.begin.ensures.worker i) { key = old.key })
           (bid_commits step w bid.item bid.entry begun its held c.one-held.ensures refused reply made.by told (c.requires.id ∙ sym (ap next_bid c.begin.ensures.worker)) new bid.index opened put

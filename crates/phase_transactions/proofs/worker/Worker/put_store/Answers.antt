@@ -2,11 +2,11 @@ use Rattle.std.proofs.Common.{◌≡◌, length, sym, ap, subst, ◌∙◌}
 use Rattle.auction_rows.specs.StoreReplies.{reply_of}
 use Rattle.shard_boxes.specs.Keys.{KeyState}
 use Rattle.phase_transactions.specs.declared.deeds.Written.{Written}
-use Rattle.phase_transactions.specs.Begun.{step_of}
-use Rattle.phase_transactions.specs.Deeds.{written_of}
+use Rattle.phase_transactions.specs.inner.Begun.{step_of}
+use Rattle.phase_transactions.specs.inner.Deeds.{written_of}
 use Rattle.worker_slices.specs.Homes.{IsWrittenAt}
 use Rattle.phase_transactions.specs.Putting.{HasPutAll, written_acts}
-use Rattle.phase_transactions.specs.Takens.{held_in, numbers_of, is_one_of, dealt, line_among, CanBeDoneOnAll}
+use Rattle.phase_transactions.specs.inner.Takens.{held_in, numbers_of, is_one_of, dealt, line_among, CanBeDoneOnAll}
 use Rattle.worker_slices.specs.Counting.{IsOwn}
 use Rattle.phase_transactions.specs.Workers.{WorkerState, after_commit}
 use Rattle.phase_transactions.proofs.AnswerLemmas.{own_reply, written_at}

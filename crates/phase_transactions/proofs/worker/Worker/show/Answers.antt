@@ -1,7 +1,7 @@
 use Rattle.std.proofs.Common.{◌≡◌, Some, length, sym, ap, subst, ◌∙◌}
 use Rattle.auction_rows.specs.declared.requests.Request.{Request}
 use Rattle.auction_rows.specs.Refusals.{number_refusal}
-use Rattle.phase_transactions.specs.Begun.{IsOnOne, step_of}
+use Rattle.phase_transactions.specs.inner.Begun.{IsOnOne, step_of}
 use Rattle.phase_transactions.specs.Performing.{HasCommittedSome, HaveOpening}
 use Rattle.phase_transactions.specs.Workers.{WorkerState}
 use Rattle.phase_transactions.proofs.EmptyLemmas.{stored_performed, refused_untaken}

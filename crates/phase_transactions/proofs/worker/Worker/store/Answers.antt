@@ -2,10 +2,10 @@ use Rattle.std.proofs.Common.{◌≡◌, true, Some, None, length, Result, Ok, E
 use Rattle.std.specs.Prelude.{is_err, IfErr}
 use Rattle.auction_rows.specs.Refusals.{number_refusal}
 use Rattle.auction_rows.specs.StoreReplies.{reply_of}
-use Rattle.phase_transactions.specs.declared.transaction.PermitFault.TheVariants.{Memory}
-use Rattle.phase_transactions.specs.Begun.{step_of}
+use Rattle.phase_transactions.specs.declared.done.PermitFault.TheVariants.{Memory}
+use Rattle.phase_transactions.specs.inner.Begun.{step_of}
 use Rattle.phase_transactions.specs.Performing.{HasCommitted, HasFailed}
-use Rattle.phase_transactions.specs.Takens.{AreBack}
+use Rattle.phase_transactions.specs.inner.Takens.{AreBack}
 use Rattle.phase_transactions.specs.WorkerFields.{state_in}
 use Rattle.phase_transactions.specs.Workers.{WorkerState, IsLawfulWorker}
 use Rattle.phase_transactions.proofs.AnswerLemmas.{reply_by}

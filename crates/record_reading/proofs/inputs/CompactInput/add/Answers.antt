@@ -3,7 +3,7 @@ use Rattle.std.proofs.lemmas.List.{get_or_default}
 use Rattle.std.specs.Prelude.{Ok, Err, OnOk, Result}
 use Rattle.std.specs.Result.{is_ok}
 use Rattle.std.proofs.lemmas.Bool.{false≢true}
-use Rattle.item_shards.specs.declared.openings.Opened.{Opened}
+use Rattle.auction_rows.specs.declared.requests.Opened.{Opened}
 use Rattle.record_reading.proofs.inputs.CompactInput.add.Goals as goal
 use Rattle.record_reading.proofs.inputs.CompactInput.add.Goals.{then-said, else-said}
 

@@ -12,7 +12,7 @@ returns-clause-after g c =
     let old = c.self.inside.shard in
     let new = c.apply_acts.new.self in
     let made = c.apply_acts.ensures in
-    let line = line_of c.of.result c.of-2.result c.of-4.result c.of-3.result in
+    let line = line_of c.of.result.value c.of-2.result.value c.of-4.result.value c.of-3.result.value in
     subst (λ (h : HeldState). state_of new ≡ after_line (state_of h.shard) line) c.self.view_is
     (line_done old c.args.number c.args.index c.args.acts.now line
     (λ i. line_of (c.of.ensures i) (c.of-2.ensures i) (c.of-4.ensures i) (c.of-3.ensures i))

@@ -1,9 +1,6 @@
 use Rattle.std.proofs.Common.{◌≡◌, Option, Some, None, refl, ap, subst, ◌∙◌}
 use Rattle.std.specs.Prelude.{IfSome, IfNone}
-use Rattle.auction_rows.specs.declared.replies.Refusal.{Refusal}
-use Rattle.auction_rows.specs.declared.requests.BidEntry.{BidEntry}
-use Rattle.auction_rows.specs.declared.requests.ItemId.{ItemId}
-use Rattle.auction_rows.specs.declared.requests.Object.TheVariants.{Item}
+use Rattle.auction_rows.specs.Types.{ItemId, BidEntry, Refusal, Item}
 use Rattle.item_shards.specs.declared.shard.Shard.{Shard}
 use Rattle.item_shards.specs.Contents.{after_acts, bid_on}
 use Rattle.item_shards.specs.Looking.{events_of}
@@ -37,7 +34,7 @@ returns-clause-after g c =
     let tried = c.try_bid-refused in
     let clocked = c.set_clock.ensures in
     let acts = c.of-3.ensures ∙ c.bid_acts-acts.ensures in
-    let line = line_of c.of.result c.of-2.result c.of-3.result c.of-found.result in
+    let line = line_of c.of.result.value c.of-2.result.value c.of-3.result.value c.of-found.result.value in
     subst (λ (h : HeldState). state_of new ≡ after_line (state_of h.shard) line) c.self.view_is
     (line_done old c.args.number c.args.index (bid_acts c.args.item c.args.bid tried.result) line
     (λ i. line_of (c.of.ensures i) (c.of-2.ensures i) (acts i) (c.of-found.ensures i))

@@ -1,0 +1,6 @@
+-- What no contract of a public function names.
+pub mod Begun
+pub mod Deeds
+pub mod Homes
+pub mod Takens
+pub mod Viewing

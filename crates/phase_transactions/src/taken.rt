@@ -1,0 +1,202 @@
+//! The shards that a transaction takes, its number, and how they go back with their lines.
+ghost use Rattle.std.specs.Prelude.{◌≡◌, ◌<◌, ◌≤◌, suc, max, length, Some, IfNone, IfSome, IfOk};
+ghost use Rattle.std.specs.List.{AllByRecursion};
+ghost use Rattle.auction_rows.specs.Requests.{item_of};
+ghost use Rattle.auction_rows.specs.declared.requests.ItemId.{ItemId as ItemIdValue};
+ghost use Rattle.item_shards.specs.Answering.{refusal_with};
+ghost use Rattle.item_shards.specs.CommitNumbers.{last_number};
+ghost use Rattle.phase_transactions.specs.Putting.{CanDo, written_acts, line_of, HasPutAll, IsHeldFor, IsPutWith};
+ghost use Rattle.phase_transactions.specs.inner.Begun.{states_in, FirstHas, FirstHasRoom};
+ghost use Rattle.phase_transactions.specs.inner.Deeds.{stock_taken};
+ghost use Rattle.phase_transactions.specs.inner.Takens.{footprint_of, is_one_of, greatest_held, held_in, numbers_of, dealt, line_among, HasTakenAll, AreHeldAll, AreBack, CanBeDoneOnAll, IsReady};
+
+use crate::deeds::Written;
+use auction_rows::{ItemId, Refusal, Request};
+use item_shards::{Act, Look, next_number, refusal_with};
+use shard_boxes::{Boxes, Held, Key, PhaseName};
+use std::alloc::AllocError;
+use std::sync::Wait;
+use worker_slices::Homes;
+
+/// The shards of a transaction, each once. They must be put back.
+pub(crate) enum Taken<N: PhaseName> {
+    /// None is needed.
+    Nothing,
+    /// One, in which all lies that is needed.
+    One(Held<N>),
+    /// That of an item, and another one, that of a user or a category.
+    Two(Held<N>, Held<N>),
+}
+
+impl<N: PhaseName> Taken<N> {
+    ghost use Rattle.phase_transactions.specs.declared.taken.Taken.TheVariants.{One};
+
+    /// The shard of a transaction that has taken one.
+    #[inline(always)]
+    pub(crate) fn one(self) -> Held<N>
+        requires { length (held_in self) ≡ 1 }
+        ensures { self ≡ One result }
+    {
+        match self {
+            Taken::One(one) => one,
+            _ => unreachable!(),
+        }
+    }
+}
+
+/// A transaction that has taken its shards, with its number.
+pub(crate) struct Begun<N: PhaseName> {
+    pub(crate) taken: Taken<N>,
+    pub(crate) number: u64,
+}
+
+/// Takes the shards of a footprint, in ascending order, each once.
+#[inline(always)]
+pub(crate) fn take_all<N: PhaseName, R: Wait>(
+    rt: &R,
+    boxes: &Boxes<N>,
+    key: &mut Key<N>,
+    homes: &Homes,
+) -> Taken<N>
+    requires ready { IsReady boxes.now key.old }
+    requires known { AllByRecursion (λ s. s < length N.initial) (footprint_of homes.now) }
+    ensures { HasTakenAll N.initial N.workers key.old key.new
+        (footprint_of homes.now) (held_in result) }
+{
+    match (homes.item.shard(), homes.other.shard()) {
+        (None, None) => Taken::Nothing,
+        (Some(item), None) => Taken::One(boxes.take(rt, key, item)),
+        (None, Some(other)) => Taken::One(boxes.take(rt, key, other)),
+        (Some(item), Some(other)) if item < other => {
+            let on_item = boxes.take(rt, key, item);
+            let on_other = boxes.take(rt, key, other);
+            Taken::Two(on_item, on_other)
+        }
+        (Some(item), Some(other)) if other < item => {
+            let on_other = boxes.take(rt, key, other);
+            let on_item = boxes.take(rt, key, item);
+            Taken::Two(on_item, on_other)
+        }
+        (Some(both), Some(_same)) => Taken::One(boxes.take(rt, key, both)),
+    }
+}
+
+/// The number after a worker's clock and those of the shards, if there is one.
+#[inline(always)]
+pub(crate) fn number_on<N: PhaseName>(taken: &Taken<N>, own: u64) -> Option<u64>
+    ensures number { IfSome result (λ number.
+        number ≡ suc (max own (greatest_held (held_in taken.now)))) }
+    ensures within { IfSome result (λ number. number ≤ last_number) }
+    ensures full { IfNone result (last_number ≤ max own (greatest_held (held_in taken.now))) }
+{
+    match taken {
+        Taken::Nothing => next_number(own, 0),
+        Taken::One(one) => one.next_number(own),
+        Taken::Two(item, other) => item.next_number(own.max(other.clock())),
+    }
+}
+
+/// The first reason for which its item, which lies in the first of the shards, refuses a request.
+#[inline(always)]
+pub(crate) fn refusal_in<N: PhaseName>(taken: &Taken<N>, request: &Request) -> Option<Refusal>
+    requires { (item : ItemIdValue) → item_of request.now ≡ Some item → FirstHas taken.now item }
+    ensures { result ≡ refusal_with (stock_taken taken.now request.now) request.now }
+{
+    match taken {
+        Taken::Nothing => refusal_with(&None, request),
+        Taken::One(one) => one.refusal(request),
+        Taken::Two(one, _) => one.refusal(request),
+    }
+}
+
+/// Makes room for an item on the first of the shards, which shows nothing of it.
+pub(crate) fn make_room<N: PhaseName>(taken: &mut Taken<N>, item: ItemId) -> Result<(), AllocError>
+    requires { FirstHas taken.old item }
+    ensures same { states_in taken.new ≡ states_in taken.old }
+    ensures room { IfOk result (λ _. FirstHasRoom taken.new item) }
+{
+    match taken {
+        Taken::Nothing => Ok(()),
+        Taken::One(one) => one.shard_mut().prepare_item(item),
+        Taken::Two(one, _) => one.shard_mut().prepare_item(item),
+    }
+}
+
+/// Puts the shards back as they were taken.
+pub(crate) fn put_back<N: PhaseName, R: Wait>(
+    rt: &R,
+    boxes: &Boxes<N>,
+    key: &mut Key<N>,
+    taken: Taken<N>,
+)
+    requires { AreHeldAll N.initial N.workers boxes.now key.old (held_in taken) }
+    ensures { AreBack key.old key.new }
+{
+    match taken {
+        Taken::Nothing => {}
+        Taken::One(one) => boxes.put(rt, key, one, None),
+        Taken::Two(item, other) => {
+            boxes.put(rt, key, item, None);
+            boxes.put(rt, key, other, None);
+        }
+    }
+}
+
+/// Does two acts on the one shard, or one on each of two, and puts them back with their lines.
+#[inline(always)]
+pub(crate) fn put_all<N: PhaseName, R: Wait>(
+    rt: &R,
+    boxes: &Boxes<N>,
+    key: &mut Key<N>,
+    taken: Taken<N>,
+    written: Written,
+)
+    requires held { AreHeldAll N.initial N.workers boxes.now key.old (held_in taken) }
+    requires within { written.number ≤ last_number }
+    requires can { CanBeDoneOnAll written.number (held_in taken)
+        (dealt taken (written_acts written)) }
+    ensures { HasPutAll N.initial key.old key.new (is_one_of (numbers_of (held_in taken)))
+        (line_among written.number written.index (held_in taken)
+        (dealt taken (written_acts written))) }
+{
+    match taken {
+        Taken::Nothing => {}
+        Taken::One(one) => put_with_line(rt, boxes, key, one, written),
+        Taken::Two(item, other) => {
+            let on_item = Written {
+                number: written.number,
+                index: written.index,
+                first: written.first,
+                second: Act::Look(Look::Nothing),
+            };
+            put_with_line(rt, boxes, key, item, on_item);
+            let on_other = Written {
+                number: written.number,
+                index: written.index,
+                first: written.second,
+                second: Act::Look(Look::Nothing),
+            };
+            put_with_line(rt, boxes, key, other, on_other);
+        }
+    }
+}
+
+/// Does two acts on a shard that is as it was taken, and puts it back with their line.
+#[inline(always)]
+pub(crate) fn put_with_line<N: PhaseName, R: Wait>(
+    rt: &R,
+    boxes: &Boxes<N>,
+    key: &mut Key<N>,
+    mut held: Held<N>,
+    written: Written,
+)
+    requires of { key.old.boxes ≡ boxes.now }
+    requires held { IsHeldFor N.initial key.old held written.number }
+    requires can { CanDo held.shard (written_acts written) }
+    ensures { IsPutWith N.initial key.old key.new held
+        (line_of written.number written.index (written_acts written) held.shard) }
+{
+    let acts = [written.first, written.second];
+    let trace = held.act(written.number, written.index, &acts);
+    boxes.put_acted(rt, key, held, trace);
+}

@@ -1,0 +1,36 @@
+-- The texts of faults, and the answers to lines that have one.
+use Rattle.std.specs.Prelude.{ℕ, List, ◌++◌, codes, decimal}
+use Rattle.auction_text.specs.Replies.{labelled}
+use Rattle.auction_text.specs.Cause.{Cause}
+use Rattle.auction_text.specs.Cause.TheVariants as cause
+use Rattle.auction_text.specs.ReadFault.{ReadFault}
+use Rattle.auction_text.specs.ReadFault.TheVariants as fault
+use Rattle.auction_text.specs.InputLimits.{MOST_RECORDS}
+
+abbrev pub cause_text : Cause → List ℕ
+cause_text cause.Number = codes "not a number"
+cause_text cause.Kind = codes "unknown kind"
+cause_text cause.Late = codes "row after a request"
+cause_text cause.Fields = codes "wrong number of fields"
+cause_text cause.Item = codes "not an item id"
+cause_text cause.Name = codes "not a name"
+cause_text cause.Quantity = codes "not a quantity"
+cause_text cause.Stars = codes "not stars"
+cause_text cause.Long = codes "too long"
+
+-- what is wrong with the record of this number
+abbrev pub record_text : ℕ → List ℕ → List ℕ
+record_text place words = labelled (codes "record ") place ++ codes ": " ++ words
+
+abbrev pub fault_text : ReadFault → List ℕ
+fault_text (fault.Line place cause) = record_text place (cause_text cause)
+fault_text (fault.Worker place) = record_text place (codes "no such worker")
+fault_text fault.Read = codes "input cannot be read"
+fault_text fault.Memory = codes "no memory"
+fault_text fault.Long = labelled (codes "more than ") MOST_RECORDS ++ codes " records"
+
+-- the answer to a line of this worker with this fault, and with the index that the worker's next
+-- request will have
+abbrev pub fault_line : ℕ → ℕ → ReadFault → List ℕ
+fault_line worker index fault =
+    decimal worker ++ labelled (codes ",") index ++ codes ",fault " ++ fault_text fault ++ codes "\n"

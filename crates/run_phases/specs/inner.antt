@@ -1,0 +1,4 @@
+-- What no contract of a public function names.
+pub mod Closed
+pub mod Running
+pub mod Serving
