@@ -1,6 +1,6 @@
 pub mod Blank
 pub mod Shards
-pub mod Begins
+pub mod BeginLemmas
 pub mod Every
 pub mod PartLemmas
 pub mod StoredItems

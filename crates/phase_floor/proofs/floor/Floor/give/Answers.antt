@@ -5,7 +5,7 @@ use Rattle.shard_boxes.proofs.Each.{at_head, each_push, drop_next}
 use Rattle.phase_transactions.specs.Workers.{IsEmptyIf, new_worker, no_counters}
 use Rattle.closing_laws.specs.Standing.{counters_at}
 use Rattle.phase_floor.specs.Floors.{FloorState, IsOpen, IsNewPermit, stash_at}
-use Rattle.phase_floor.proofs.Begins.{begun_next, can_start, kit_cold}
+use Rattle.phase_floor.proofs.BeginLemmas.{begun_next, can_start, kit_cold}
 use Rattle.phase_floor.proofs.floor.Floor.give.Given as given
 use Rattle.phase_floor.proofs.floor.Floor.give.Goals as goal
 use Rattle.phase_floor.proofs.floor.Floor.give.Goals.{After-index-counters}

@@ -6,7 +6,7 @@ use Rattle.worker_slices.specs.Stashes.{StashState}
 use Rattle.phase_floor.specs.Begins.{AreKits, asked_in_all}
 use Rattle.phase_floor.specs.Floors.{AreStocksOf, stash_at}
 use Rattle.phase_floor.specs.States.{JoinedState, IsKept, joined_of, states_of}
-use Rattle.phase_floor.proofs.Begins.{waiting_within, within}
+use Rattle.phase_floor.proofs.BeginLemmas.{waiting_within, within}
 use Rattle.phase_floor.proofs.Shards.{one_of_kept}
 use Rattle.phase_floor.proofs.joined.Joined.begin.Goals as goal
 
