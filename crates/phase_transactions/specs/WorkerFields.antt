@@ -8,7 +8,7 @@ abbrev pub state_in : {N : Type 0} → Inside N → WorkerState
 state_in w = record {
   key = w.key;
   opening = w.opening;
-  begun = w.begun.value;
+  begun = w.begun;
   counters = w.counters;
   journal = w.journal;
   stash = w.stash;

@@ -14,7 +14,6 @@ use crate::deeds::{Call, Store};
 use auction_rows::{BidId, ItemId, MOST_TRIES, Object, Opening, Reply, Request};
 use shard_boxes::{Key, MOST_COMMITS, PhaseName};
 use std::marker::Model;
-use std::snapshot::Snapshot;
 use worker_journals::{Answer, Journal, ReplyForm};
 use worker_slices::{Counters, Slices, Stash};
 
@@ -34,8 +33,8 @@ pub struct Worker<N: PhaseName> {
     pub(crate) left: u32,
     pub(crate) tries: u32,
     pub(crate) clock: u64,
-    // The counters and the clock with which it began: only for proofs.
-    pub(crate) begun: Snapshot<(Counters, u64)>,
+    // The counters and the clock with which it began: only proofs read them.
+    pub(crate) begun: (Counters, u64),
 }
 
 /// What a worker starts a phase with.
@@ -88,7 +87,7 @@ impl<N: PhaseName> Worker<N> {
             left: quota,
             tries: 0,
             clock,
-            begun: Snapshot::of(&(counters, clock)),
+            begun: (counters, clock),
         }
     }
 

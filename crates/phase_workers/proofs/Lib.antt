@@ -1,3 +1,2 @@
 pub mod WorkLemmas
 pub mod TaskLemmas
-pub mod SendLemmas

@@ -1,12 +1,9 @@
 use Rattle.std.proofs.Common.{◌≤◌, length, vec_capacity, sym, subst, ◌∙◌}
-use denote.Param.Send.{sendable}
 use Rattle.job_threads.proofs.ThreadLemmas.{err_as}
 use Rattle.phase_workers.specs.declared.round.ServingFault.TheVariants.{Worker}
 use Rattle.phase_workers.specs.Tasks.{task, tasks, IsFirstFault, IsFaultBy}
 use Rattle.phase_workers.specs.Threads.{fault_of_jobs}
 use Rattle.phase_workers.proofs.TaskLemmas.{as_many, all_done, fault_met, unstarted_by, tasks_of_few}
-use Rattle.phase_workers.proofs.SendLemmas.{receipt_send, task_send}
-use Rattle.phase_workers.proofs.round.WorkerAnswer.TheSendSync as answer
 use Rattle.phase_workers.proofs.round.serve_all.Goals as goal
 
 pub receipts_of-requires-clause-room : goal.receipts_of-requires-clause-room
@@ -39,9 +36,3 @@ returns-in_err-receipts_of-clause-fault g c =
     (fault_met (λ own. task own.permit own.script.now own.first) g.K.Kind.IS_JOINED g.N.PhaseName.initial
     c.in_ok-own_tasks.own_tasks.items c.in_ok-answers.answers.items all c.in_err-receipts_of.field-0.0 c.in_ok-answers.ensures.answers c.in_err-receipts_of.ensures.fault
     c.in_ok-own_tasks.ensures.tasks)
-
-pub work_all-requires-send-J : goal.work_all-requires-send-J
-work_all-requires-send-J g c κs within = search (sendable, task_send)
-
-pub work_all-requires-send-J-Answer : goal.work_all-requires-send-J-Answer
-work_all-requires-send-J-Answer g c κs within = search (sendable, answer.the_send, receipt_send)

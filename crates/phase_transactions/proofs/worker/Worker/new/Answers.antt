@@ -1,5 +1,4 @@
-use Rattle.std.proofs.Common.{sym, subst}
-use Rattle.phase_transactions.specs.Workers.{IsLawfulWorker, new_worker}
+use Rattle.phase_transactions.specs.Workers.{new_worker}
 use Rattle.phase_transactions.proofs.StartLemmas.{start_lawful}
 use Rattle.phase_transactions.proofs.worker.Worker.new.Goals as goal
 
@@ -7,13 +6,8 @@ pub invariant_of-result : goal.invariant_of-result
 invariant_of-result g c =
     let w = new_worker c.args.start.key c.args.start.opening c.args.start.counters c.args.start.journal c.args.start.stash c.args.start.slices c.args.start.quota c.args.start.clock in
     record {
-      lawful = subst IsLawfulWorker (λ i. record w { begun = sym c.of.ensures i }) (start_lawful w c.requires);
+      lawful = start_lawful w c.requires;
       worker_is = c.worker.ensures;
       shards_is = c.shards.ensures.count;
       some = c.shards.ensures.some;
     }
-
-pub returns : goal.returns
-returns g c =
-    let w = new_worker c.args.start.key c.args.start.opening c.args.start.counters c.args.start.journal c.args.start.stash c.args.start.slices c.args.start.quota c.args.start.clock in
-    λ i. record w { begun = c.of.ensures i }
