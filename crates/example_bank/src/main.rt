@@ -81,18 +81,17 @@ fn print_outcome(rt: &impl Print, outcome: &Outcome<Bank>) -> io::Result<()> {
     Ok(())
 }
 
-// Tells what the referee finds of two histories of one script over an empty account: the place of
-// the first wrong line, if there is one.
+// Tells what the referee finds of two histories of one script over an empty account.
 fn judge_two(rt: &impl Print, alloc: Global) -> Result<()> {
     let script = vec![in alloc; Deposit { to: 0, amount: 5 }, Balance { of: 0 }]?;
     let scripts = [script];
     let right = [line(0, BankReply::Done), line(1, BankReply::Holds(5))];
     let mut accounts = vec![in alloc; EMPTY]?;
-    let verdict = check_history::<Bank>(&mut accounts, &scripts, &right);
+    let verdict = check_history::<Bank>(alloc, &mut accounts, &scripts, &right);
     println!(rt; "right: {verdict:?}")?;
     let wrong = [line(1, BankReply::Holds(0)), line(0, BankReply::NotEnough)];
     let mut accounts = vec![in alloc; EMPTY]?;
-    let verdict = check_history::<Bank>(&mut accounts, &scripts, &wrong);
+    let verdict = check_history::<Bank>(alloc, &mut accounts, &scripts, &wrong);
     println!(rt; "wrong: {verdict:?}")?;
     Ok(())
 }

@@ -5,3 +5,4 @@ mod Ends
 mod Lines
 mod Sessions
 mod Counts
+mod Marks

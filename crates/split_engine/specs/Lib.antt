@@ -5,4 +5,5 @@ pub mod Faults
 pub mod Splitting
 pub mod Phases
 pub mod Assignments
+pub mod Marking
 pub mod Checking
