@@ -1,5 +1,5 @@
 #!/usr/bin/env python3
-"""Tests what helps to use the auction: bench/tune, whose command has to run, bench/starts, and the help of example_watch.
+"""Tests what helps to use the auction: bench/tune, whose command has to run, bench/starts, the help of example_watch, and the loads of applications.
 
     tests/tools.py [PROGRAM]
 """
@@ -48,12 +48,31 @@ def helps_of_windows(tally: Tally, program: Path) -> None:
         tally.same(f"example_watch {words}", run([watch, *words]), Outcome(1, b"", said.encode()))
 
 
+# Loads of applications, of 4,000 requests, and what they leave by any number of workers and any policy: likes of page 1, or what 100 accounts hold at first.
+LEFT = {
+    "example_likes": (("--pages=1 --views=0", 4000), ("--pages=1 --views=100", 0), ("--pages=1 --views=0 --threshold=8 --users=1", 4000)),
+    "example_bank": (("--accounts=100 --views=100", 100_000_000), ("--accounts=100 --views=0 --transfers=100", 100_000_000)),
+}
+
+
+def loads_of_applications(tally: Tally, _program: Path) -> None:
+    """loads of applications, and their help"""
+    for name, loads in LEFT.items():
+        program = built(name)
+        helps.help_and_version(tally, program, name, None)
+        for words, sum_left in loads:
+            for workers in (1, 4):
+                got = run([program, "--requests=4000", f"--workers={workers}", *words.split()])
+                right = re.fullmatch(rf"4000 requests: [0-9.]+(s|ms|µs|ns), sum {sum_left}\n", got.stdout.decode())
+                tally.check(got.status == 0 and bool(right), f"{name} {words}, {workers} workers: {described(got)}")
+
+
 def main() -> None:
     parser = argparse.ArgumentParser(description=__doc__, formatter_class=argparse.RawDescriptionHelpFormatter)
     parser.add_argument("program", type=Path, nargs="?", default=BUILT)
     program = parser.parse_args().program.resolve()
     tally = Tally()
-    for check in (tuned, starts, helps_of_windows):
+    for check in (tuned, starts, helps_of_windows, loads_of_applications):
         passed = tally.passed
         check(tally, program)
         print(f"{tally.passed - passed:6} passed: {check.__doc__}")
