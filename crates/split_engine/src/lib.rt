@@ -30,7 +30,7 @@ pub use application::Application;
 pub use entry::{Decision, Entry};
 pub use fault::RunFault;
 pub use joined::perform;
-pub use laws::split_phases_replay;
+pub use laws::{runs_replay_as_one, split_phases_replay};
 pub use referee::{Checkable, HistoryFault, Line, check_history};
 pub use runs::{Policy, run};
 pub use scripts::{ScriptFault, check_scripts};

@@ -108,10 +108,14 @@ where
 // What the run gives, once all scripts are performed.
 fn finish<A: Application>(scripts: &[Vec<A::Request>], state: RunState<A>) -> Outcome<A>
     requires { AllFinished (lists scripts.now) state.cursors.items }
-    ensures { (n : ℕ) (opened : List A.Record) →
+    ensures outcome { (n : ℕ) (opened : List A.Record) →
         IsRunState A.rules A.fits n opened (lists scripts.now)
         state.so_far.table.items state.so_far.history.items state.cursors.items →
         IsOutcome A.rules opened (lists scripts.now) result.history.items result.table.items }
+    ensures fits { (n : ℕ) (opened : List A.Record) →
+        IsRunState A.rules A.fits n opened (lists scripts.now)
+        state.so_far.table.items state.so_far.history.items state.cursors.items →
+        AllByRecursion (A.fits (n + 2 * length result.history.items)) result.table.items }
 {
     let RunState { so_far, cursors: _ } = state;
     so_far
@@ -121,7 +125,8 @@ fn finish<A: Application>(scripts: &[Vec<A::Request>], state: RunState<A>) -> Ou
 /// has each request of each script once, replays on one thread, and leaves the table.
 ///
 /// `check_scripts` is the test of `scripts`. `fits`: each record is one that fewer than 2^31 acts
-/// can make.
+/// can make. A run may go on from the table that another has left, if both together are that short:
+/// each commit is two acts.
 pub fn run<A: Application + Send + Sync, R: Threads + Wait + Sync>(
     rt: &R,
     alloc: Global,
@@ -140,6 +145,9 @@ where
     requires fits { (n : ℕ) × (n < most_before) × AllByRecursion (A.fits n) table.items }
     ensures outcome { IfOk result (λ outcome. IsOutcome A.rules table.items (lists scripts.now)
         outcome.history.items outcome.table.items) }
+    ensures fits { (n : ℕ) → n < most_before → AllByRecursion (A.fits n) table.items →
+        IfOk result (λ outcome.
+        AllByRecursion (A.fits (n + 2 * length outcome.history.items)) outcome.table.items) }
     ensures fault { IfErr result (IsRunFault (length scripts.now)) }
 {
     let cursors = new_cursors::<A::Request>(alloc, scripts.len())?;

@@ -27,7 +27,7 @@ finish-requires g c = subst (λ ds. AllFinished (lists c.args.scripts.now) ds) c
 pub returns-then-is_finished-clause-outcome : goal.returns-then-is_finished-clause-outcome
 returns-then-is_finished-clause-outcome g c =
     let fits = c.requires.fits in
-    c.finish.ensures fits.0 c.args.table.items (c.loop-round.invariant.state fits.0 fits.1 fits.2)
+    c.finish.ensures.outcome fits.0 c.args.table.items (c.loop-round.invariant.state fits.0 fits.1 fits.2)
 
 pub perform_round-requires-clause-state : goal.perform_round-requires-clause-state
 perform_round-requires-clause-state g c =
@@ -50,7 +50,7 @@ finish-requires-2 g c = c.in_ok-joined_phase.ensures.ends (omega arith)
 pub returns-clause-outcome : goal.returns-clause-outcome
 returns-clause-outcome g c =
     let fits = c.requires.fits in
-    c.finish-2.ensures fits.0 c.args.table.items
+    c.finish-2.ensures.outcome fits.0 c.args.table.items
     (c.in_ok-joined_phase.ensures.state fits.0 c.args.table.items fits.1 (are_scripts g.A.Application.rules (length c.args.table.items) (lists c.args.scripts.now) c.requires.scripts) (c.loop-round.invariant.state fits.0 fits.1 fits.2))
 
 pub perform_round-requires-clause-few : goal.perform_round-requires-clause-few
@@ -64,3 +64,11 @@ joined_phase-requires-clause-few g c = let few = c.requires.scripts.few in omega
 
 pub joined_phase-requires-clause-total : goal.joined_phase-requires-clause-total
 joined_phase-requires-clause-total g c = let few = c.requires.scripts.few in omega (arith, few)
+
+pub returns-then-is_finished-clause-fits : goal.returns-then-is_finished-clause-fits
+returns-then-is_finished-clause-fits g c n few fits = c.finish.ensures.fits n c.args.table.items (c.loop-round.invariant.state n few fits)
+
+pub returns-clause-fits : goal.returns-clause-fits
+returns-clause-fits g c n few fits =
+    c.finish-2.ensures.fits n c.args.table.items
+    (c.in_ok-joined_phase.ensures.state n c.args.table.items few (are_scripts g.A.Application.rules (length c.args.table.items) (lists c.args.scripts.now) c.requires.scripts) (c.loop-round.invariant.state n few fits))
