@@ -14,7 +14,7 @@ from phases import GROUND, INK, text
 # From the lowest to the highest, each crate with its place across.
 LAYERS = {
     "theory": {"phase_laws": 420, "ghost_log": 860},
-    "model and records": {"auction_rows": 420, "split_records": 670, "top_records": 670, "item_shards": 690, "request_scripts": 540, "worker_journals": 420, "run_laws": 210,
+    "model and records": {"auction_rows": 420, "split_records": 670, "top_records": 670, "item_shards": 690, "request_scripts": 540, "worker_journals": 420, "run_laws": 210, "keyed_laws": 100,
                           "auction_window": 350, "hot_choice": 510, "example_mean": 880},
     "engine": {"job_threads": 440, "split_engine": 240, "application_tests": 325, "shard_boxes": 690, "auction_shards": 770,
                "worker_slices": 600, "phase_transactions": 600, "phase_permits": 600, "closing_laws": 640, "phase_floor": 630, "phase_workers": 455,
