@@ -2,6 +2,7 @@ pub mod Rules
 pub mod Serial
 pub mod Serving
 pub mod Faults
+pub mod Kept
 pub mod Splitting
 pub mod Phases
 pub mod Assignments

@@ -117,7 +117,11 @@ fn finish<A: Application>(scripts: &[Vec<A::Request>], state: RunState<A>) -> Ou
         state.so_far.table.items state.so_far.history.items state.cursors.items →
         AllByRecursion (A.fits (n + 2 * length result.history.items)) result.table.items }
 {
-    let RunState { so_far, cursors: _ } = state;
+    let RunState {
+        so_far,
+        cursors: _,
+        guesses: _,
+    } = state;
     so_far
 }
 
@@ -157,6 +161,7 @@ where
             table,
         },
         cursors,
+        guesses: Vec::new(alloc),
     };
     for _round in 0..policy.rounds {
         if is_finished(scripts, &state.cursors) {
