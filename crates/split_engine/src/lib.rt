@@ -14,11 +14,11 @@
 mod application;
 mod entry;
 mod fault;
-mod hot;
 mod joined;
 mod laws;
 mod marks;
 mod phases;
+mod phasing;
 mod referee;
 mod runs;
 mod scripts;

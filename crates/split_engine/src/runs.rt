@@ -8,9 +8,9 @@ ghost use Rattle.split_engine.specs.Phases.{IsRunState, AreFresh, AllFinished};
 
 use crate::application::Application;
 use crate::fault::RunFault;
-use crate::hot::{hot_keys, key_counts};
 use crate::joined::joined_phase;
 use crate::phases::split_phase;
+use crate::phasing::Phasing;
 use crate::split::SplitPlan;
 use crate::state::{Cursor, MOST_COMMITS, Outcome, RunState};
 use std::alloc::{AllocError, Global};
@@ -69,7 +69,7 @@ fn perform_round<A: Application + Send + Sync, R: Threads + Wait + Sync>(
     rt: &R,
     alloc: Global,
     scripts: &[Vec<A::Request>],
-    policy: &Policy,
+    phasing: &mut Phasing,
     state: RunState<A>,
 ) -> Result<RunState<A>, RunFault>
 where
@@ -81,10 +81,12 @@ where
     A::Act: Send,
     requires few { length scripts.now < index_end }
     requires total { total (lists scripts.now) ≤ MOST_COMMITS }
+    requires hot { length phasing.old.hot.items ≡ length state.so_far.table.items }
     requires state { (n : ℕ) × (opened : List A.Record) × (n < most_before)
         × AllByRecursion (IsScript A.rules (length opened)) (lists scripts.now)
         × IsRunState A.rules A.fits n opened (lists scripts.now)
         state.so_far.table.items state.so_far.history.items state.cursors.items }
+    ensures hot { length phasing.new.hot.items ≡ length phasing.old.hot.items }
     ensures fault { IfErr result (IsRunFault (length scripts.now)) }
     ensures state { (n : ℕ) (opened : List A.Record) → n < most_before →
         AllByRecursion (IsScript A.rules (length opened)) (lists scripts.now) →
@@ -95,12 +97,11 @@ where
 {
     let mut state = state;
     let from = state.so_far.history.len();
-    joined_phase::<A>(scripts, policy.joined_quota, &mut state)?;
-    let counts = key_counts::<A>(alloc, state.so_far.table.len(), &state.so_far.history, from)?;
-    let hot = hot_keys(alloc, &counts, policy.threshold)?;
+    joined_phase::<A>(scripts, phasing.policy.joined_quota, &mut state)?;
+    phasing.choose::<A>(&state.so_far.history, from)?;
     let plan = SplitPlan {
-        hot: &hot,
-        quota: policy.split_quota.min(MOST_COMMITS),
+        hot: &phasing.hot,
+        quota: phasing.policy.split_quota.min(MOST_COMMITS),
     };
     split_phase::<A, R>(rt, alloc, scripts, plan, state)
 }
@@ -154,6 +155,7 @@ where
         AllByRecursion (A.fits (n + 2 * length outcome.history.items)) outcome.table.items) }
     ensures fault { IfErr result (IsRunFault (length scripts.now)) }
 {
+    let mut phasing = Phasing::new(alloc, table.len(), policy)?;
     let cursors = new_cursors::<A::Request>(alloc, scripts.len())?;
     let mut state = RunState {
         so_far: Outcome {
@@ -167,7 +169,7 @@ where
         if is_finished(scripts, &state.cursors) {
             return Ok(finish::<A>(scripts, state));
         }
-        state = perform_round::<A, R>(rt, alloc, scripts, &policy, state)?;
+        state = perform_round::<A, R>(rt, alloc, scripts, &mut phasing, state)?;
     }
     joined_phase::<A>(scripts, usize::MAX, &mut state)?;
     Ok(finish::<A>(scripts, state))
