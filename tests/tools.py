@@ -1,6 +1,6 @@
 #!/usr/bin/env python3
-"""Shows that the tools do as they say: bench/tune, whose command has to run, bench/starts, the help of example_watch, man pages, and what each script says of
-wrong words, of what is not there, and of an interruption.
+"""Shows that the tools do as they say: bench/tune, whose command has to run, bench/starts, the help of example_watch, loads of applications, man pages, and what
+each script says of wrong words, of what is not there, and of an interruption.
 
     tests/tools.py [PROGRAM]
 """
@@ -218,12 +218,31 @@ def lines_of_help(said: str) -> list[str]:
     return [" ".join(line.split()) for line in words.splitlines() if line]
 
 
+# Loads of applications, of 4,000 requests, and what they leave by any number of workers and any policy: likes of page 1, or what 100 accounts hold at first.
+LEFT = {
+    "example_likes": (("--pages=1 --views=0", 4000), ("--pages=1 --views=100", 0), ("--pages=1 --views=0 --threshold=8 --users=1", 4000)),
+    "example_bank": (("--accounts=100 --views=100", 100_000_000), ("--accounts=100 --views=0 --transfers=100", 100_000_000)),
+}
+
+
+def loads_of_applications(tally: Tally, _program: Path) -> None:
+    """loads of applications, and their help"""
+    for name, loads in LEFT.items():
+        program = built(name)
+        helps.help_and_version(tally, program, name, None)
+        for words, sum_left in loads:
+            for workers in (1, 4):
+                got = run([program, "--requests=4000", f"--workers={workers}", *words.split()])
+                right = re.fullmatch(rf"4000 requests: [0-9.]+(s|ms|µs|ns), sum {sum_left}\n", got.stdout.decode())
+                tally.check(got.status == 0 and bool(right), f"{name} {words}, {workers} workers: {described(got)}")
+
+
 def main() -> None:
     parser = parser_of(__doc__)
     parser.add_argument("program", type=executable, nargs="?", default=str(BUILT))
     program = parser.parse_args().program
     tally = Tally()
-    for check in (tuned, starts, helps_of_windows, answers, interruptions, builds, man_pages):
+    for check in (tuned, starts, helps_of_windows, loads_of_applications, answers, interruptions, builds, man_pages):
         passed = tally.passed
         check(tally, program)
         print(f"{tally.passed - passed:6} passed: {check.__doc__}")

@@ -1,11 +1,15 @@
-//! Two users like one page, each by a worker with a thread of its own.
+//! Two users like one page, each by a worker with a thread of its own; or a load, by its options.
 #![tactic(auto)]
 
 mod likes;
+mod load;
 
-use crate::likes::{LikeRequest, Likes, Tally};
+use crate::likes::{LikeRequest, Likes, NONE};
+use crate::load::measure;
 use anyhow::Result;
+use program_options::program_words;
 use split_engine::{Policy, run};
+use std::process::ExitCode;
 
 // A joined phase with a request of each script and a split one with two, twice.
 const POLICY: Policy = Policy {
@@ -15,14 +19,29 @@ const POLICY: Policy = Policy {
     threshold: 1,
 };
 
-fn main(rt: HostRuntime) -> Result<()> {
+fn main(rt: HostRuntime) -> ExitCode {
+    let Err(fault) = perform(&rt) else {
+        return ExitCode::SUCCESS;
+    };
+    // What can't be written still has its status.
+    let _ = eprintln!(rt; "{fault}");
+    ExitCode::FAILURE
+}
+
+// Performs a load if the program has words, and else the example.
+fn perform(rt: &HostRuntime) -> Result<()> {
+    let words = program_words(rt)?;
+    if words.len() > 1 {
+        return measure(rt, &words);
+    }
+    show(rt)
+}
+
+// Two scripts over two users and a page.
+fn show(rt: &HostRuntime) -> Result<()> {
     let alloc = rt.alloc();
     // Keys 0 and 1 are users, key 2 is a page.
-    let none = Tally {
-        likes: 0,
-        last: None,
-    };
-    let tallies = vec![in alloc; none, none, none]?;
+    let tallies = vec![in alloc; NONE, NONE, NONE]?;
     let first = vec![in alloc;
         LikeRequest::Like {
             user: 0,
@@ -45,7 +64,7 @@ fn main(rt: HostRuntime) -> Result<()> {
         LikeRequest::View { user: 1, page: 2 },
     ]?;
     let scripts = [first, second];
-    let outcome = run::<Likes, HostRuntime>(&rt, alloc, tallies, &scripts, POLICY)?;
+    let outcome = run::<Likes, HostRuntime>(rt, alloc, tallies, &scripts, POLICY)?;
     for entry in &outcome.history {
         println!(rt;
             "worker {}, request {}: {:?}",
