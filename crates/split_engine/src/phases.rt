@@ -71,10 +71,7 @@ fn tasks<'a, A: Application>(
 }
 
 // Takes in what a worker did: merges its slices.
-fn take_in<A: Application>(
-    state: RunState<A>,
-    own: SplitData<A>,
-) -> Result<RunState<A>, AllocError>
+fn take_in<A: Application>(state: RunState<A>, own: SplitData<A>) -> Result<RunState<A>, AllocError>
     requires done { (given : Assignment A.Record A.Request)
         × (length given.table ≡ length state.so_far.table.items)
         × HasDone A.rules A.is_small given own.cursor own.journal.items own.slices }

@@ -65,11 +65,7 @@ fn place_of<A: Application>(
 
 impl<A: Application> Slices<A> {
     /// No slices of so many records. Guesses for as many are used again; others are made anew.
-    pub(crate) fn new(
-        alloc: Global,
-        size: usize,
-        guesses: Guesses,
-    ) -> Result<Slices<A>, AllocError>
+    pub(crate) fn new(alloc: Global, size: usize, guesses: Guesses) -> Result<Slices<A>, AllocError>
         ensures { IfOk result (λ slices. slices ≡ replicate size A.rules.empty) }
     {
         let guesses = if guesses.len() == size {
