@@ -38,16 +38,15 @@ where
 }
 
 /// What a run of scripts leaves, and how long it took. Scripts that cannot be run are refused.
-pub fn time_run<
-    A: Application + Send + Sync,
-    R: Threads + Wait + Sync + Clock + Alloc<A = Global>,
->(
+pub fn time_run<A, R>(
     rt: &R,
     opened: Opened<A::Record>,
     scripts: &[Vec<A::Request>],
     policy: Policy,
 ) -> Result<(Outcome<A>, Duration)>
 where
+    A: Application + Send + Sync,
+    R: Threads + Wait + Sync + Clock + Alloc<A = Global>,
     A::Record: Copy + Send + Sync,
     A::Slice: Send,
     A::Fixed: Send,
@@ -66,11 +65,6 @@ where
 }
 
 /// Prints how long so many requests took, and the sum of what they leave.
-pub fn print_spent<R: Print>(
-    rt: &R,
-    requests: usize,
-    spent: Duration,
-    sum: u64,
-) -> io::Result<()> {
+pub fn print_spent<R: Print>(rt: &R, requests: usize, spent: Duration, sum: u64) -> io::Result<()> {
     println!(rt; "{requests} requests: {spent:?}, sum {sum}")
 }

@@ -6,6 +6,9 @@ use application_loads::{
 };
 use program_options::{Description, FROM_ONE, described_number, described_program, number_of};
 use std::alloc::{AllocError, Global};
+use std::rt::Clock;
+use std::sync::Wait;
+use std::thread::Threads;
 use zipf_draws::Popularity;
 
 const DESCRIPTION: Description<'static> = Description {
@@ -40,7 +43,10 @@ struct Mix {
 }
 
 /// Performs the load that the program's words ask for, and prints how long that took.
-pub fn measure(rt: &HostRuntime, words: &[String]) -> Result<()> {
+pub fn measure<R>(rt: &R, words: &[String]) -> Result<()>
+where
+    R: Threads + Wait + Sync + Clock + Print + Alloc<A = Global>,
+{
     let alloc = rt.alloc();
     let mut options = load_options(alloc)?;
     options.push(described_number(alloc, "accounts", FROM_ONE, "1000", ACCOUNTS))?;
@@ -58,17 +64,13 @@ pub fn measure(rt: &HostRuntime, words: &[String]) -> Result<()> {
         count: mix.accounts.count as usize,
     };
     let scripts = scripts(alloc, &plan, &mix)?;
-    let (outcome, spent) = time_run::<Bank, HostRuntime>(rt, opened, &scripts, plan.policy)?;
+    let (outcome, spent) = time_run::<Bank, R>(rt, opened, &scripts, plan.policy)?;
     print_spent(rt, outcome.history.len(), spent, sum_of(&outcome.table))?;
     Ok(())
 }
 
 // Each worker's script.
-fn scripts(
-    alloc: Global,
-    plan: &LoadPlan,
-    mix: &Mix,
-) -> Result<Vec<Vec<BankRequest>>, AllocError> {
+fn scripts(alloc: Global, plan: &LoadPlan, mix: &Mix) -> Result<Vec<Vec<BankRequest>>, AllocError> {
     let plan = *plan;
     let mut draws = Draws::new(SEED);
     let mut scripts = Vec::with_capacity(alloc, plan.workers as usize)?;

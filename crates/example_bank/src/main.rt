@@ -14,6 +14,9 @@ use split_engine::{Line, Outcome, Policy, check_history, check_scripts, run};
 use std::alloc::Global;
 use std::io;
 use std::process::ExitCode;
+use std::rt::{Clock, Env};
+use std::sync::Wait;
+use std::thread::Threads;
 
 const FULL: Account = Account {
     held: 100,
@@ -48,7 +51,10 @@ fn main(rt: HostRuntime) -> ExitCode {
 }
 
 // Performs a load if the program has words, and else the example.
-fn perform(rt: &HostRuntime) -> Result<()> {
+fn perform<R>(rt: &R) -> Result<()>
+where
+    R: Env + Threads + Wait + Sync + Clock + Print + Alloc<A = Global>,
+{
     let words = program_words(rt)?;
     if words.len() > 1 {
         return measure(rt, &words);
@@ -57,7 +63,7 @@ fn perform(rt: &HostRuntime) -> Result<()> {
 }
 
 // Three scripts over three accounts.
-fn show(rt: &HostRuntime) -> Result<()> {
+fn show<R: Threads + Wait + Sync + Print + Alloc<A = Global>>(rt: &R) -> Result<()> {
     let alloc = rt.alloc();
     let accounts = vec![in alloc; FULL, EMPTY, CLOSED]?;
     let first = vec![in alloc;
@@ -85,7 +91,7 @@ fn show(rt: &HostRuntime) -> Result<()> {
     ]?;
     let scripts = [first, second, third];
     check_scripts::<Bank>(&scripts, accounts.len())?;
-    let outcome = run::<Bank, HostRuntime>(rt, alloc, accounts, &scripts, POLICY)?;
+    let outcome = run::<Bank, R>(rt, alloc, accounts, &scripts, POLICY)?;
     print_outcome(rt, &outcome)?;
     judge_two(rt, alloc)
 }

@@ -8,6 +8,9 @@ use application_loads::{
 };
 use program_options::{Description, FROM_ONE, described_number, described_program, number_of};
 use std::alloc::{AllocError, Global};
+use std::rt::Clock;
+use std::sync::Wait;
+use std::thread::Threads;
 use zipf_draws::Popularity;
 
 const DESCRIPTION: Description<'static> = Description {
@@ -34,7 +37,10 @@ struct Names {
 }
 
 /// Performs the load that the program's words ask for, and prints how long that took.
-pub fn measure(rt: &HostRuntime, words: &[String]) -> Result<()> {
+pub fn measure<R>(rt: &R, words: &[String]) -> Result<()>
+where
+    R: Threads + Wait + Sync + Clock + Print + Alloc<A = Global>,
+{
     let alloc = rt.alloc();
     let mut options = load_options(alloc)?;
     options.push(described_number(alloc, "users", FROM_ONE, "1000", USERS))?;
@@ -54,7 +60,7 @@ pub fn measure(rt: &HostRuntime, words: &[String]) -> Result<()> {
         views: plan.views,
     };
     let scripts = scripts(alloc, &plan, &names)?;
-    let (outcome, spent) = time_run::<Likes, HostRuntime>(rt, opened, &scripts, plan.policy)?;
+    let (outcome, spent) = time_run::<Likes, R>(rt, opened, &scripts, plan.policy)?;
     let sum = sum_of(&outcome.table, users as usize);
     print_spent(rt, outcome.history.len(), spent, sum)?;
     Ok(())

@@ -9,7 +9,11 @@ use crate::load::measure;
 use anyhow::Result;
 use program_options::program_words;
 use split_engine::{Policy, run};
+use std::alloc::Global;
 use std::process::ExitCode;
+use std::rt::{Clock, Env};
+use std::sync::Wait;
+use std::thread::Threads;
 
 // A joined phase with a request of each script and a split one with two, twice.
 const POLICY: Policy = Policy {
@@ -29,7 +33,10 @@ fn main(rt: HostRuntime) -> ExitCode {
 }
 
 // Performs a load if the program has words, and else the example.
-fn perform(rt: &HostRuntime) -> Result<()> {
+fn perform<R>(rt: &R) -> Result<()>
+where
+    R: Env + Threads + Wait + Sync + Clock + Print + Alloc<A = Global>,
+{
     let words = program_words(rt)?;
     if words.len() > 1 {
         return measure(rt, &words);
@@ -38,7 +45,7 @@ fn perform(rt: &HostRuntime) -> Result<()> {
 }
 
 // Two scripts over two users and a page.
-fn show(rt: &HostRuntime) -> Result<()> {
+fn show<R: Threads + Wait + Sync + Print + Alloc<A = Global>>(rt: &R) -> Result<()> {
     let alloc = rt.alloc();
     // Keys 0 and 1 are users, key 2 is a page.
     let tallies = vec![in alloc; NONE, NONE, NONE]?;
@@ -64,7 +71,7 @@ fn show(rt: &HostRuntime) -> Result<()> {
         LikeRequest::View { user: 1, page: 2 },
     ]?;
     let scripts = [first, second];
-    let outcome = run::<Likes, HostRuntime>(rt, alloc, tallies, &scripts, POLICY)?;
+    let outcome = run::<Likes, R>(rt, alloc, tallies, &scripts, POLICY)?;
     for entry in &outcome.history {
         println!(rt;
             "worker {}, request {}: {:?}",
