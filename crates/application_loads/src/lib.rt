@@ -7,5 +7,5 @@ mod plan;
 mod timing;
 
 pub use draws::Draws;
-pub use plan::{LoadPlan, SHARES, load_options, load_plan, parse_load};
+pub use plan::{LoadPlan, SHARES, load_options, load_plan, tell_usage};
 pub use timing::{Opened, print_spent, time_run};

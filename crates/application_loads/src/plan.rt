@@ -1,11 +1,10 @@
 //! The options of a load that all applications have.
-use anyhow::{Result, bail};
-use clap::{Arg, ArgMatches, Command};
-use program_options::{
-    FROM_ONE, FROM_ZERO, NumberRange, UsageFault, described_number, number_of, parse_words,
-};
+use clap::{Arg, ArgMatches};
+use program_options::{FROM_ONE, FROM_ZERO, NumberRange, UsageFault, described_number, number_of};
 use split_engine::Policy;
 use std::alloc::{AllocError, Global};
+use std::io;
+use std::process::ExitCode;
 
 const WORKERS: NumberRange = NumberRange {
     least: 1,
@@ -56,21 +55,13 @@ pub fn load_options<'a>(alloc: Global) -> Result<Vec<Arg<'a>>, AllocError> {
     ]?)
 }
 
-/// What a command finds in a program's words. What is refused or asked for is told without its last
-/// line feed.
-pub fn parse_load<'a>(
-    alloc: Global,
-    command: Command<'a>,
-    words: &'a [String],
-) -> Result<ArgMatches<'a>> {
-    match parse_words(alloc, command, words) {
-        Ok(matches) => Ok(matches),
-        Err(UsageFault::Text(text)) => {
-            let told = text.trim_end();
-            bail!("{told}")
-        }
-        Err(fault) => Err(fault.into()),
+/// Tells why a program's words are refused, or what they ask for, and gives the program's status.
+pub fn tell_usage<R: Eprint>(rt: &R, fault: &UsageFault) -> io::Result<ExitCode> {
+    match fault {
+        UsageFault::Text(text) => eprint!(rt; "{text}")?,
+        UsageFault::Memory => eprintln!(rt; "{fault}")?,
     }
+    Ok(ExitCode::FAILURE)
 }
 
 /// What these options say.

@@ -2,10 +2,13 @@
 use crate::bank::{Account, Bank, BankRequest};
 use anyhow::Result;
 use application_loads::{
-    Draws, LoadPlan, Opened, SHARES, load_options, load_plan, parse_load, print_spent, time_run,
+    Draws, LoadPlan, Opened, SHARES, load_options, load_plan, print_spent, tell_usage, time_run,
 };
-use program_options::{Description, FROM_ONE, described_number, described_program, number_of};
+use program_options::{
+    Description, FROM_ONE, described_number, described_program, number_of, parse_words,
+};
 use std::alloc::{AllocError, Global};
+use std::process::ExitCode;
 use std::rt::Clock;
 use std::sync::Wait;
 use std::thread::Threads;
@@ -43,16 +46,19 @@ struct Mix {
 }
 
 /// Performs the load that the program's words ask for, and prints how long that took.
-pub fn measure<R>(rt: &R, words: &[String]) -> Result<()>
+pub fn measure<R>(rt: &R, words: &[String]) -> Result<ExitCode>
 where
-    R: Threads + Wait + Sync + Clock + Print + Alloc<A = Global>,
+    R: Threads + Wait + Sync + Clock + Print + Eprint + Alloc<A = Global>,
 {
     let alloc = rt.alloc();
     let mut options = load_options(alloc)?;
     options.push(described_number(alloc, "accounts", FROM_ONE, "1000", ACCOUNTS))?;
     options.push(described_number(alloc, "transfers", SHARES, "0", TRANSFERS))?;
     let command = described_program(alloc, "example_bank", DESCRIPTION).args(options)?;
-    let matches = parse_load(alloc, command, words)?;
+    let matches = match parse_words(alloc, command, words) {
+        Ok(matches) => matches,
+        Err(fault) => return Ok(tell_usage(rt, &fault)?),
+    };
     let plan = load_plan(&matches);
     let mix = Mix {
         accounts: Popularity::new(alloc, number_of(&matches, "accounts", FROM_ONE), plan.skew)?,
@@ -66,7 +72,7 @@ where
     let scripts = scripts(alloc, &plan, &mix)?;
     let (outcome, spent) = time_run::<Bank, R>(rt, opened, &scripts, plan.policy)?;
     print_spent(rt, outcome.history.len(), spent, sum_of(&outcome.table))?;
-    Ok(())
+    Ok(ExitCode::SUCCESS)
 }
 
 // Each worker's script.

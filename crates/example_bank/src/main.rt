@@ -42,24 +42,27 @@ const POLICY: Policy = Policy {
 };
 
 fn main(rt: HostRuntime) -> ExitCode {
-    let Err(fault) = perform(&rt) else {
-        return ExitCode::SUCCESS;
-    };
-    // What can't be written still has its status.
-    let _ = eprintln!(rt; "{fault}");
-    ExitCode::FAILURE
+    match perform(&rt) {
+        Ok(status) => status,
+        Err(fault) => {
+            // What can't be written still has its status.
+            let _ = eprintln!(rt; "{fault}");
+            ExitCode::FAILURE
+        }
+    }
 }
 
 // Performs a load if the program has words, and else the example.
-fn perform<R>(rt: &R) -> Result<()>
+fn perform<R>(rt: &R) -> Result<ExitCode>
 where
-    R: Env + Threads + Wait + Sync + Clock + Print + Alloc<A = Global>,
+    R: Env + Threads + Wait + Sync + Clock + Print + Eprint + Alloc<A = Global>,
 {
     let words = program_words(rt)?;
     if words.len() > 1 {
         return measure(rt, &words);
     }
-    show(rt)
+    show(rt)?;
+    Ok(ExitCode::SUCCESS)
 }
 
 // Three scripts over three accounts.

@@ -4,10 +4,13 @@ ghost use Rattle.std.specs.Prelude.{◌≤◌};
 use crate::likes::{LikeRequest, Likes, NONE, Tally};
 use anyhow::Result;
 use application_loads::{
-    Draws, LoadPlan, Opened, load_options, load_plan, parse_load, print_spent, time_run,
+    Draws, LoadPlan, Opened, load_options, load_plan, print_spent, tell_usage, time_run,
 };
-use program_options::{Description, FROM_ONE, described_number, described_program, number_of};
+use program_options::{
+    Description, FROM_ONE, described_number, described_program, number_of, parse_words,
+};
 use std::alloc::{AllocError, Global};
+use std::process::ExitCode;
 use std::rt::Clock;
 use std::sync::Wait;
 use std::thread::Threads;
@@ -37,16 +40,19 @@ struct Names {
 }
 
 /// Performs the load that the program's words ask for, and prints how long that took.
-pub fn measure<R>(rt: &R, words: &[String]) -> Result<()>
+pub fn measure<R>(rt: &R, words: &[String]) -> Result<ExitCode>
 where
-    R: Threads + Wait + Sync + Clock + Print + Alloc<A = Global>,
+    R: Threads + Wait + Sync + Clock + Print + Eprint + Alloc<A = Global>,
 {
     let alloc = rt.alloc();
     let mut options = load_options(alloc)?;
     options.push(described_number(alloc, "users", FROM_ONE, "1000", USERS))?;
     options.push(described_number(alloc, "pages", FROM_ONE, "1000", PAGES))?;
     let command = described_program(alloc, "example_likes", DESCRIPTION).args(options)?;
-    let matches = parse_load(alloc, command, words)?;
+    let matches = match parse_words(alloc, command, words) {
+        Ok(matches) => matches,
+        Err(fault) => return Ok(tell_usage(rt, &fault)?),
+    };
     let plan = load_plan(&matches);
     let users = number_of(&matches, "users", FROM_ONE);
     let pages = Popularity::new(alloc, number_of(&matches, "pages", FROM_ONE), plan.skew)?;
@@ -63,7 +69,7 @@ where
     let (outcome, spent) = time_run::<Likes, R>(rt, opened, &scripts, plan.policy)?;
     let sum = sum_of(&outcome.table, users as usize);
     print_spent(rt, outcome.history.len(), spent, sum)?;
-    Ok(())
+    Ok(ExitCode::SUCCESS)
 }
 
 // Each worker's script.
