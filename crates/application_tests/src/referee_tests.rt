@@ -27,12 +27,7 @@ fn verdict(
     let second = vec![in alloc; Read { counter: 0 }]?;
     let scripts = [first, second];
     let mut counters = vec![in alloc; 1u64, 2u64]?;
-    Ok(check_history::<Counters>(
-        alloc,
-        &mut counters,
-        &scripts,
-        lines,
-    ))
+    Ok(check_history::<Counters>(alloc, &mut counters, &scripts, lines))
 }
 
 #[test]
@@ -50,7 +45,13 @@ fn verdicts(rt: HostRuntime) -> Result<(), Fail> {
     assert_eq!(rt; verdict(alloc, &[read, unasked, added])?, Err(Wrong(1)));
     assert_eq!(rt; verdict(alloc, &[stranger, read, added])?, Err(Wrong(0)));
     assert_eq!(rt; verdict(alloc, &[read, added, read])?, Err(Wrong(2)));
-    assert_eq!(rt; verdict(alloc, &[added, six])?, Err(Lacking { worker: 1, index: 0 }));
+    assert_eq!(rt;
+        verdict(alloc, &[added, six])?,
+        Err(Lacking {
+            worker: 1,
+            index: 0
+        })
+    );
     Ok(())
 }
 

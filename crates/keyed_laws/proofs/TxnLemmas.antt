@@ -166,7 +166,9 @@ module _ {Key Record Look Request Reply Act : Type 0} (rules : Rules Key Record 
         decides : decided rules d ≡ decision rules t d.request
         decides =
             all_fine t d.request [] (rules.keys d.request) d.looks (saw None refl)
-            (λ place key l there looked. fine_if place key l there looked (hot key) refl)
+            (λ place key l there looked.
+            let same : place ≡ 0 + place = omega arith in
+            subst (λ n. IsFine t d.request n key l) same (fine_if place key l there looked (hot key) refl))
 
         -- and leaves at each key what it did there
         stands_after : (key : Key) → next_txn rules t d key ≡ step rules key (at (Some key)) d

@@ -1,6 +1,8 @@
 -- Slices that are kept, and a slice of each record.
-use Rattle.std.proofs.Common.{◌≡◌, ℕ, zero, suc, ◌+◌, ◌<◌, ◌≤◌, ◌==◌, nat_lt, Bool, true, false, cond, List, [], ◌∷◌, ◌++◌, length, replicate, take, set, get_or, refl, sym, ap, ◌∙◌, subst, arith, eqb-true, true≢false}
+use Rattle.std.proofs.Common.{◌≡◌, ℕ, zero, suc, ◌+◌, ◌<◌, ◌≤◌, ◌==◌, nat_lt, Bool, true, false, List, [], ◌∷◌, ◌++◌, length, replicate, take, drop, set, get_or, refl, sym, ap, ◌∙◌, subst, arith, eqb-true, true≢false}
 use Rattle.std.specs.Prelude.{◌&&◌}
+use Rattle.std.proofs.Math.Numerals.{add-one}
+use Rattle.std.proofs.Math.Seq.{drop-cons}
 use Rattle.std.proofs.lemmas.Bool.{eqb-false, eq-eqb, ltb-true, ltb-false, lt-ltb, and_parts, cond-true, cond-false}
 use Rattle.std.proofs.lemmas.List.{length-set, length-append}
 use Rattle.std.specs.List.{AllByRecursion}
@@ -50,6 +52,14 @@ take_long xs zero le = refl
 take_long [] (suc k) le = absurd (omega (arith, le))
 take_long (x ∷ xs) (suc k) le = ap suc (take_long xs k (omega (arith, le)))
 
+-- the element at a place, and those after it
+pub next_at : {X : Type 0} (xs rest : List X) (k : ℕ) (x d : X) → k < length xs → drop k xs ≡ x ∷ rest → (get_or xs k d ≡ x) × (rest ≡ drop (k + 1) xs)
+next_at xs rest k x d lt is =
+    let both : get_or xs k d ∷ drop (suc k) xs ≡ x ∷ rest = sym (drop-cons xs k d lt) ∙ is in
+    let first : get_or xs k d ≡ x = cc in
+    let others : drop (suc k) xs ≡ rest = cc in
+    (first, sym others ∙ ap (λ n. drop n xs) (sym (add-one k)))
+
 -- ---- guesses
 
 -- a key stands at its guess, or it does not
@@ -61,11 +71,11 @@ at_guess keys key guess is =
 pub is_at_guess : (keys : List ℕ) (key guess : ℕ) → guess < length keys → get_or keys guess 0 ≡ key → is_at keys key guess ≡ true
 is_at_guess keys key guess lt is = λ i. lt-ltb guess (length keys) lt i && eq-eqb (get_or keys guess 0) key is i
 
-not_at : (keys : List ℕ) (key guess : ℕ) → (guess < length keys → get_or keys guess 0 ≡ key → ⊥) → is_at keys key guess ≡ false
-not_at keys key guess no = at (is_at keys key guess) refl
+pub not_at : (keys : List ℕ) (key guess : ℕ) → (guess < length keys → get_or keys guess 0 ≡ key → ⊥) → is_at keys key guess ≡ false
+not_at keys key guess never = at (is_at keys key guess) refl
   where
     at : (b : Bool) → is_at keys key guess ≡ b → is_at keys key guess ≡ false
-    at true is = let found = at_guess keys key guess is in absurd (no found.0 found.1)
+    at true is = let found = at_guess keys key guess is in absurd (never found.0 found.1)
     at false is = is
 
 -- at first nothing is kept
@@ -180,13 +190,13 @@ module _ {Record Slice Fixed Request Reply Act : Type 0} (rules : Rules Record S
           kept_here all longer j guess (is_at_guess all j guess (omega (arith, found.0, length-append keys (key ∷ []))) (push_before keys key 0 guess found.0 ∙ found.1))
           ∙ push_before slices rules.empty rules.empty guess (omega (arith, found.0, long)) ∙ sym (kept_here keys slices j guess is)
       beside j guess other false is =
-          not_kept all longer j guess (not_at all j guess (λ lt at. no lt at (nat_lt guess (length keys)) refl)) ∙ sym (not_kept keys slices j guess is)
+          not_kept all longer j guess (not_at all j guess (λ lt at. never lt at (nat_lt guess (length keys)) refl)) ∙ sym (not_kept keys slices j guess is)
         where
-          no : guess < length all → get_or all guess 0 ≡ j → (b : Bool) → nat_lt guess (length keys) ≡ b → ⊥
-          no lt at true before =
+          never : guess < length all → get_or all guess 0 ≡ j → (b : Bool) → nat_lt guess (length keys) ≡ b → ⊥
+          never lt at true before =
               let low = ltb-true guess (length keys) before in
               true≢false (sym (is_at_guess keys j guess low (sym (push_before keys key 0 guess low) ∙ at)) ∙ is)
-          no lt at false behind =
+          never lt at false behind =
               let last : guess ≡ length keys = omega (arith, ltb-false guess (length keys) behind, lt, length-append keys (key ∷ [])) in
               other (sym at ∙ ap (λ g. get_or all g 0) last ∙ push_last keys key 0)
 
@@ -297,10 +307,10 @@ module _ {Record Slice Fixed Request Reply Act : Type 0} (rules : Rules Record S
     -- a key that is none of these has its record still
     pub record_still : (k key : ℕ) (d : Record) → key < length opened → is_at (take k keys) key (get_or guesses key 0) ≡ false →
         get_or (merged_before k) key d ≡ get_or opened key d
-    record_still k key d lt no =
+    record_still k key d lt never =
         merged_at opened (spread rules guesses (take k keys) (take k slices)) key d (spread_len k) lt
         ∙ ap (rules.merged (get_or opened key d))
-        (spread_at guesses (take k keys) (take k slices) key (omega (arith, lt, same)) ∙ not_kept (take k keys) (take k slices) key (get_or guesses key 0) no)
+        (spread_at guesses (take k keys) (take k slices) key (omega (arith, lt, same)) ∙ not_kept (take k keys) (take k slices) key (get_or guesses key 0) never)
         ∙ laws.merge_nothing n (get_or opened key d) (all_at (Fits n) opened key d lt fit)
 
     pub merged_first : (d : Record) → opened ≡ merged_before 0
@@ -327,6 +337,9 @@ module _ {Record Slice Fixed Request Reply Act : Type 0} (rules : Rules Record S
         key : ℕ
         key = get_or keys k 0
 
+        grown : Record
+        grown = rules.merged (get_or (merged_before k) key d) (get_or slices k rules.empty)
+
         own : key < length opened
         own = omega (arith, are.within k lt, same)
 
@@ -336,7 +349,7 @@ module _ {Record Slice Fixed Request Reply Act : Type 0} (rules : Rules Record S
         short : length (take k keys) ≡ k
         short = take_long keys k (omega (arith, lt))
 
-        here : get_or (merged_before (k + 1)) key d ≡ rules.merged (get_or (merged_before k) key d) (get_or slices k rules.empty)
+        here : get_or (merged_before (k + 1)) key d ≡ grown
         here =
             let found = is_at_guess (take (k + 1) keys) key k (omega (arith, long)) (take_before keys (k + 1) k 0 (omega arith)) in
             merged_at opened (spread rules guesses (take (k + 1) keys) (take (k + 1) slices)) key d (spread_len (k + 1)) own
@@ -356,25 +369,25 @@ module _ {Record Slice Fixed Request Reply Act : Type 0} (rules : Rules Record S
             ∙ take_before slices (k + 1) g rules.empty (omega (arith, low)) ∙ sym (take_before slices k g rules.empty low)
             ∙ sym (kept_here (take k keys) (take k slices) j g is)
         beside j g other false is =
-            not_kept (take (k + 1) keys) (take (k + 1) slices) j g (not_at (take (k + 1) keys) j g (λ lt_g at. no lt_g at (nat_lt g k) refl))
+            not_kept (take (k + 1) keys) (take (k + 1) slices) j g (not_at (take (k + 1) keys) j g (λ lt_g at. never lt_g at (nat_lt g k) refl))
             ∙ sym (not_kept (take k keys) (take k slices) j g is)
           where
-            no : g < length (take (k + 1) keys) → get_or (take (k + 1) keys) g 0 ≡ j → (b : Bool) → nat_lt g k ≡ b → ⊥
-            no lt_g at true before =
+            never : g < length (take (k + 1) keys) → get_or (take (k + 1) keys) g 0 ≡ j → (b : Bool) → nat_lt g k ≡ b → ⊥
+            never lt_g at true before =
                 let low = ltb-true g k before in
                 true≢false (sym (is_at_guess (take k keys) j g (omega (arith, low, short))
                 (take_before keys k g 0 low ∙ sym (take_before keys (k + 1) g 0 (omega (arith, low))) ∙ at)) ∙ is)
-            no lt_g at false behind =
+            never lt_g at false behind =
                 let last : g ≡ k = omega (arith, ltb-false g k behind, lt_g, long) in
                 other (sym at ∙ ap (λ p. get_or (take (k + 1) keys) p 0) last ∙ take_before keys (k + 1) k 0 (omega arith))
 
         at : (j : ℕ) → j < length opened → (b : Bool) → (j == key) ≡ b →
-            get_or (merged_before (k + 1)) j d ≡ get_or (set (merged_before k) key (rules.merged (get_or (merged_before k) key d) (get_or slices k rules.empty))) j d
+            get_or (merged_before (k + 1)) j d ≡ get_or (set (merged_before k) key grown) j d
         at j in_table true is =
             let same_key = eqb-true j key is in
             ap (λ q. get_or (merged_before (k + 1)) q d) same_key ∙ here
-            ∙ sym (set_at (merged_before k) key _ d (omega (arith, own, length-merges opened (spread rules guesses (take k keys) (take k slices)))))
-            ∙ ap (λ q. get_or (set (merged_before k) key _) q d) (sym same_key)
+            ∙ sym (set_at (merged_before k) key grown d (omega (arith, own, length-merges opened (spread rules guesses (take k keys) (take k slices)))))
+            ∙ ap (λ q. get_or (set (merged_before k) key grown) q d) (sym same_key)
         at j in_table false is =
             let other = eqb-false j key is in let in_guesses : j < length guesses = omega (arith, in_table, same) in
             merged_at opened (spread rules guesses (take (k + 1) keys) (take (k + 1) slices)) j d (spread_len (k + 1)) in_table
@@ -383,4 +396,15 @@ module _ {Record Slice Fixed Request Reply Act : Type 0} (rules : Rules Record S
             ∙ beside j (get_or guesses j 0) other (is_at (take k keys) j (get_or guesses j 0)) refl
             ∙ sym (spread_at guesses (take k keys) (take k slices) j in_guesses))
             ∙ sym (merged_at opened (spread rules guesses (take k keys) (take k slices)) j d (spread_len k) in_table)
-            ∙ sym (set_beside (merged_before k) key j _ d other)
+            ∙ sym (set_beside (merged_before k) key j grown d other)
+
+    -- the table after a slice is merged into its record, and that record before
+    module _ (d : Record) (table : List Record) (k key : ℕ) (lt : k < length keys) (is : table ≡ merged_before k) (at : key ≡ get_or keys k 0) where
+      pub record_fits : Fits n (get_or table key d)
+      record_fits =
+          subst (Fits n) (sym ((λ i. get_or (is i) (at i) d) ∙ next_still k d lt))
+          (all_at (Fits n) opened (get_or keys k 0) d (omega (arith, are.within k lt, same)) fit)
+
+      pub merged_one : (s : Slice) (held : Record) → get_or slices k rules.empty ≡ s → held ≡ rules.merged (get_or table key d) s → set table key held ≡ merged_before (k + 1)
+      merged_one s held slice made =
+          (λ i. set (is i) (at i) ((made ∙ (λ j. rules.merged (get_or (is j) (at j) d) (sym slice j))) i)) ∙ sym (merged_next d k lt)

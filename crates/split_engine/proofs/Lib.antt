@@ -6,4 +6,4 @@ mod Ends
 mod Lines
 mod Sessions
 mod Counts
-mod Marks
+mod MarkRows

@@ -24,7 +24,8 @@ none_marked (s ∷ ss) zero i = none_marked_in s i
 none_marked (s ∷ ss) (suc w) i = none_marked ss w i
 
 -- at first no line has any request
-pub marks_at_first : {Q R : Type 0} (scripts : List (List Q)) (marks : List (List Bool)) → marks ≡ no_marks scripts → AreMarks {R = R} scripts [] marks
+pub marks_at_first : {Q : Type 0} (scripts : List (List Q)) (marks : List (List Bool)) → marks ≡ no_marks scripts →
+    (w i : ℕ) → request_at marks w i ≡ option_map (λ q. false) (request_at scripts w i)
 marks_at_first scripts marks is w i = ap (λ ms. request_at ms w i) is ∙ none_marked scripts w i
 
 -- a request that is there has a mark
@@ -32,8 +33,17 @@ pub mark_there : {Q R : Type 0} (scripts : List (List Q)) (before : List (Line R
     AreMarks scripts before marks → request_at scripts w i ≡ Some q → request_at marks w i ≡ Some (has_line before w i)
 mark_there scripts before marks w i q are there = are w i ∙ ap (option_map (λ p. has_line before w i)) there
 
+-- if each request is marked, each has a line
+pub all_had : {Q R : Type 0} (scripts : List (List Q)) (lines : List (Line R)) (marks : List (List Bool)) → AreMarks scripts lines marks →
+    ((w i : ℕ) → request_at marks w i ≡ Some false → ⊥) → (w i : ℕ) (q : Q) → request_at scripts w i ≡ Some q → has_line lines w i ≡ true
+all_had scripts lines marks are none w i q there = here (has_line lines w i) (mark_there scripts lines marks w i q are there)
+  where
+    here : (b : Bool) → request_at marks w i ≡ Some b → b ≡ true
+    here true is = refl
+    here false is = absurd (none w i is)
+
 -- a list set at a place
-set_here : (xs : List Bool) (i : ℕ) (b c : Bool) → slice_get xs i ≡ Some c → slice_get (set xs i b) i ≡ Some b
+pub set_here : (xs : List Bool) (i : ℕ) (b c : Bool) → slice_get xs i ≡ Some c → slice_get (set xs i b) i ≡ Some b
 set_here [] i b c at = absurd (none-some c at)
 set_here (x ∷ xs) zero b c at = refl
 set_here (x ∷ xs) (suc i) b c at = set_here xs i b c at

@@ -36,7 +36,8 @@ impl Phasing {
 
     // A key is named this often.
     fn set_count(&mut self, key: u32, count: u32)
-        ensures { length self.new.hot.items ≡ length self.old.hot.items }
+        ensures hot { length self.new.hot.items ≡ length self.old.hot.items }
+        ensures named { self.new.named ≡ self.old.named }
     {
         if let Some(counted) = self.counts.get_mut(key as usize) {
             *counted = count;

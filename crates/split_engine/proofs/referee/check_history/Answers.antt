@@ -1,10 +1,11 @@
 use Rattle.std.proofs.Common.{◌≡◌, ◌++◌, [], ◌∷◌, Some, ◌+◌, ◌*◌, suc, take, ap, refl, sym, ◌∙◌, subst, arith}
 use Rattle.std.proofs.Math.Numerals.{add-one}
 use Rattle.std.proofs.Math.Seq.{take-suc}
+use Rattle.std.proofs.lemmas.List.{take_all}
 use Rattle.std.specs.List.{AllByRecursion}
-use Rattle.split_engine.specs.Serving.{lists}
+use Rattle.split_engine.specs.Serving.{lists, request_at}
 use Rattle.split_engine.specs.Checking.{AreMarks, IsRightLine, after_line, lines_replay, after_lines}
-use Rattle.split_engine.proofs.Lines.{marks_at_first, lines_push, after_push}
+use Rattle.split_engine.proofs.Lines.{marks_at_first, all_had, lines_push, after_push}
 use Rattle.split_engine.proofs.Works.{get_is}
 use Rattle.split_engine.proofs.referee.check_history.Goals as goal
 
@@ -53,4 +54,14 @@ loop-place-preserved g c =
       fits = λ n h.
           let two : suc (suc (n + 2 * place)) ≡ n + 2 * (place + 1) = omega arith in
           subst (λ m. AllByRecursion (s.fits m) c.check_line.new.table.items) two (e.fits (n + 2 * place) (was.fits n h));
+    }
+
+-- all lines are right, and no request is not marked
+pub returns-clause-history : goal.returns-clause-history
+returns-clause-history g c =
+    let s = g.A.Application in let was = c.loop-place.invariant in let scripts = lists c.args.scripts.now in let lines = c.args.lines.now in
+    let whole : take c.loop-place.place lines ≡ lines = take_all c.loop-place.place lines (omega (arith, c.loop-place-test.false)) in record {
+      replays = subst (lines_replay s.rules scripts [] c.args.table.now.items) whole was.replays;
+      none_lacks = all_had scripts lines (lists c.loop-place.marks.items) (subst (λ ls. AreMarks scripts ls (lists c.loop-place.marks.items)) whole was.marks)
+          (λ w i at. c.in-None.ensures w i (ap (λ rows. request_at (lists rows) w i) c.deref.ensures.value ∙ at));
     }

@@ -1,7 +1,7 @@
-use Rattle.std.proofs.Common.{◌≡◌, ◌++◌, ◌∷◌, [], true, false, Some, refl, sym, ap, ◌∙◌, subst}
+use Rattle.std.proofs.Common.{true, false, Some, sym, ap, ◌∙◌}
 use Rattle.std.proofs.lemmas.Bool.{true≢false}
 use Rattle.std.proofs.lemmas.Option.{same_Some}
-use Rattle.split_engine.specs.Serving.{lists, request_at}
+use Rattle.split_engine.specs.Serving.{lists}
 use Rattle.split_engine.specs.Checking.{has_line}
 use Rattle.split_engine.proofs.Lines.{mark_there, marks_more}
 use Rattle.split_engine.proofs.referee.check_line.Goals as goal

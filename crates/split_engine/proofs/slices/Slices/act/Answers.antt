@@ -53,3 +53,10 @@ returns-clause-fits g c n h =
     ∙ ap (λ all. after_slice_act s.rules all key x) (found.same ∙ c.self.view_is) in
     subst (AllByRecursion (s.slice_fits (suc n))) (sym made)
     (slice_act_fits s.rules s.fits s.slice_fits s.is_small g.met.A.Application.laws n c.args.self.now key x c.requires.small h)
+
+pub returns-clause-len : goal.returns-clause-len
+returns-clause-len g c =
+    let rules = g.A.Application.rules in let new = c.place_of.new in let found = c.in_ok-place.ensures in
+    length-spread rules new.guesses.items new.keys.items (set new.slices.items c.in_ok-place.place c.apply_to_slice.new.slice)
+    ∙ sym (length-spread rules new.guesses.items new.keys.items new.slices.items)
+    ∙ ap length (found.same ∙ c.self.view_is)
