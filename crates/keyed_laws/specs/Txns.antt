@@ -1,6 +1,6 @@
 -- Transactions over the keys of a table.
 use Rattle.std.specs.Prelude.{◌≡◌, ℕ, cond, Bool, true, false, List, [], ◌∷◌, length, map, fold, Some, slice_get}
-use Rattle.std.specs.List.{list_any, AllByRecursion}
+use Rattle.std.specs.List.{list_any}
 use Rattle.keyed_laws.specs.Rules.{Rules, Decision}
 
 -- a request, and what it saw at each of its keys

@@ -86,43 +86,6 @@ none_kept guesses = record {
   right = λ place lt. absurd (omega (arith, lt));
 }
 
--- a key more, which was not kept
-pub one_kept : {Slice : Type 0} (guesses keys : List ℕ) (slices : List Slice) (key : ℕ) (s : Slice) → AreKept guesses keys slices →
-    key < length guesses → is_at keys key (get_or guesses key 0) ≡ false →
-    AreKept (set guesses key (length keys)) (keys ++ key ∷ []) (slices ++ s ∷ [])
-one_kept guesses keys slices key s are lt new = record {
-  long = length-append slices (s ∷ []) ∙ ap (λ n. n + 1) are.long ∙ sym (length-append keys (key ∷ []));
-  within = λ place in_all. within place (nat_lt place (length keys)) refl in_all;
-  right = λ place in_all. right place (nat_lt place (length keys)) refl in_all;
-}
-  where
-    last : (place : ℕ) → length keys ≤ place → place < length (keys ++ key ∷ []) → place ≡ length keys
-    last place le in_all = omega (arith, le, in_all, length-append keys (key ∷ []))
-
-    within : (place : ℕ) (b : Bool) → nat_lt place (length keys) ≡ b → place < length (keys ++ key ∷ []) →
-        get_or (keys ++ key ∷ []) place 0 < length (set guesses key (length keys))
-    within place true is in_all =
-        let before = ltb-true place (length keys) is in
-        omega (arith, are.within place before, push_before keys key 0 place before, length-set guesses key (length keys))
-    within place false is in_all =
-        let at = last place (ltb-false place (length keys) is) in_all in
-        omega (arith, lt, ap (λ p. get_or (keys ++ key ∷ []) p 0) at ∙ push_last keys key 0, length-set guesses key (length keys))
-
-    right : (place : ℕ) (b : Bool) → nat_lt place (length keys) ≡ b → place < length (keys ++ key ∷ []) →
-        get_or (set guesses key (length keys)) (get_or (keys ++ key ∷ []) place 0) 0 ≡ place
-    right place true is in_all =
-        let before = ltb-true place (length keys) is in let same = push_before keys key 0 place before in
-        let other : get_or keys place 0 ≡ key → ⊥ =
-        λ at. true≢false (sym (is_at_guess keys key (get_or guesses key 0)
-        (omega (arith, before, ap (λ k. get_or guesses k 0) (sym at) ∙ are.right place before))
-        (ap (λ g. get_or keys g 0) (ap (λ k. get_or guesses k 0) (sym at) ∙ are.right place before) ∙ at)) ∙ new) in
-        ap (λ k. get_or (set guesses key (length keys)) k 0) same
-        ∙ set_beside guesses key (get_or keys place 0) (length keys) 0 other ∙ are.right place before
-    right place false is in_all =
-        let at = last place (ltb-false place (length keys) is) in_all in
-        ap (λ k. get_or (set guesses key (length keys)) k 0) (ap (λ p. get_or (keys ++ key ∷ []) p 0) at ∙ push_last keys key 0)
-        ∙ set_at guesses key (length keys) 0 lt ∙ sym at
-
 -- a kept slice is set
 pub kept_set : {Slice : Type 0} (guesses keys : List ℕ) (slices : List Slice) (place : ℕ) (s : Slice) → AreKept guesses keys slices → AreKept guesses keys (set slices place s)
 kept_set guesses keys slices place s are = record {
