@@ -1,18 +1,22 @@
 //! The examples of applications in plain Rust, with nothing proved: for `bench/applications` only.
 //!
-//!     applications likes|bank --mode records|lock|alone [options of the example]
+//!     applications likes|bank --mode=records|lock|alone [options of the example]
 //!
 //! It draws the same requests as the example with these options, and keeps each worker's replies.
 //! It keeps no history, so it has less to do and can give no account of its order.
 //!
-//! - `records`: a thread for each worker, a lock for each record, taken in ascending order.
+//! - `records`: a thread for each worker, and a lock for each record, in a cache line of its own.
+//!   A request takes those of its records in ascending order.
 //! - `lock`: a thread for each worker, one lock around all records.
 //! - `alone`: no lock; one thread performs 64 requests of each worker in turn.
+//!
+//! Scripts are in memory, replies have room from the start, and records are found by their place.
+use std::iter;
 use std::sync::Mutex;
 use std::thread;
 use std::time::{Duration, Instant};
 
-const USAGE: &str = "applications likes|bank --mode records|lock|alone [--option=N ..]";
+const USAGE: &str = "applications likes|bank --mode=records|lock|alone [--option=N ..]";
 
 /// An application: a request names one or two records.
 trait Application {
@@ -186,16 +190,21 @@ impl<A: Application> Shared<A> for OneLock<A::Record> {
     }
 }
 
-struct RecordLocks<T>(Vec<Mutex<T>>);
+/// A lock with no other in its cache line.
+#[repr(align(64))]
+struct RecordLock<T>(Mutex<T>);
+
+struct RecordLocks<T>(Vec<RecordLock<T>>);
 
 impl<A: Application> Shared<A> for RecordLocks<A::Record> {
     fn new(records: Vec<A::Record>) -> Self {
-        RecordLocks(records.into_iter().map(Mutex::new).collect())
+        let locks = records.into_iter().map(Mutex::new).map(RecordLock);
+        RecordLocks(locks.collect())
     }
 
     fn perform(&self, request: A::Request) -> A::Reply {
         let (first, second) = A::keys(request);
-        let lock = |key: usize| self.0[key].lock().expect("no thread panics");
+        let lock = |key: usize| self.0[key].0.lock().expect("no thread panics");
         if first == second {
             return A::perform(request, &mut lock(first), None);
         }
@@ -209,12 +218,13 @@ impl<A: Application> Shared<A> for RecordLocks<A::Record> {
     }
 
     fn records(self) -> Vec<A::Record> {
-        let taken = |lock: Mutex<A::Record>| lock.into_inner().expect("no thread panicked");
+        let taken = |lock: RecordLock<A::Record>| lock.0.into_inner().expect("no thread panicked");
         self.0.into_iter().map(taken).collect()
     }
 }
 
-/// The records after all scripts, and how long these took, by a thread for each.
+/// The records after all scripts, and how long these took, by a thread for each but the first, whose
+/// part the caller does.
 fn run_shared<A: Application, T: Shared<A>>(
     records: Vec<A::Record>,
     scripts: &[Vec<A::Request>],
@@ -225,12 +235,15 @@ fn run_shared<A: Application, T: Shared<A>>(
         let work = |script: &[A::Request]| -> Vec<A::Reply> {
             script.iter().map(|one| table.perform(*one)).collect()
         };
-        let threads: Vec<_> = scripts
+        let (first, others) = scripts.split_first().expect("at least a worker");
+        let started: Vec<_> = others
             .iter()
             .map(|script| scope.spawn(move || work(script)))
             .collect();
-        let replies = threads.into_iter().map(|thread| thread.join());
-        replies.map(|own| own.expect("no thread panics")).collect()
+        let own = work(first);
+        let joined = started.into_iter().map(|thread| thread.join());
+        let replies = joined.map(|replies| replies.expect("no thread panics"));
+        iter::once(own).chain(replies).collect()
     });
     let spent = begun.elapsed();
     drop(replies);
@@ -380,7 +393,7 @@ impl Options {
                 _ => *options.number_of(name)? = value.parse().ok()?,
             }
         }
-        Some(options)
+        (options.workers > 0).then_some(options)
     }
 
     fn number_of(&mut self, name: &str) -> Option<&mut u32> {

@@ -2,7 +2,7 @@
 """Shows that the documents speak of what there is: a name in backticks is in the code, a path and a link lead to a file, in commands too, each block of code of
 docs/TUTORIAL.md and docs/APPLICATIONS.md is in the file named above it, each definition that the pages of definitions (docs/DEFINITIONS.md, docs/ENGINE_DEFINITIONS.md) quote is, except
 for layout, that of the file named above it, each name in a table with a column of files is in a file beside it, each crate and each law has its place, what
-bench/run wrote has the figures of figures.csv, each picture is what its script draws, and the pages of users and the front are not too long.
+bench/run and bench/applications wrote has the figures of their tables, each picture is what its script draws, and the pages of users and the front are not too long.
 
     tests/documents.py
 """
@@ -41,7 +41,7 @@ OF_USERS = ("README", "docs/GUARANTEES", "docs/EXAMPLE", "docs/PERFORMANCE", "do
             "docs/OUTGROWING", "docs/SERVING", "CONTRIBUTING", "CHANGELOG", "tests/README")
 MOST_WORDS, MOST_OF_THE_FIRST = 16_000, 1_200
 # Who writes an application reads this page and none of those above.
-OF_APPLICATIONS, MOST_OF_APPLICATIONS = "docs/APPLICATIONS", 2_400
+OF_APPLICATIONS, MOST_OF_APPLICATIONS = "docs/APPLICATIONS", 2_800
 # A page tells how many lines of code a script has: those with more than a comment, a docstring or what lays code out.
 LINES = (DOCUMENTS / "SERVING.md", re.compile(r"(\d+) lines of Python code"), ROOT / "examples" / "front.py")
 NO_CODE = {tokenize.COMMENT, tokenize.NL, tokenize.NEWLINE, tokenize.INDENT, tokenize.DEDENT, tokenize.ENDMARKER}
@@ -216,9 +216,10 @@ def stands_in(place: Path, name: str) -> bool:
 
 
 def figures(tally: Tally) -> None:
-    """figures that bench/run wrote, those of docs/performance/figures.csv"""
-    got = run([sys.executable, "-B", ROOT / "bench" / "run", "--compare"])
-    tally.check(got.status == 0, f"bench/run --compare: {described(got)}")
+    """figures that bench/run and bench/applications wrote, those of docs/performance"""
+    for script in ("run", "applications"):
+        got = run([sys.executable, "-B", ROOT / "bench" / script, "--compare"])
+        tally.check(got.status == 0, f"bench/{script} --compare: {described(got)}")
 
 
 def pictures(tally: Tally) -> None:
