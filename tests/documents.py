@@ -1,8 +1,9 @@
 #!/usr/bin/env python3
 """Shows that the documents speak of what there is: a name in backticks is in the code, a path and a link lead to a file, in commands too, each block of code of
-docs/TUTORIAL.md and docs/APPLICATIONS.md is in the file named above it, each definition that the pages of definitions (docs/DEFINITIONS.md, docs/ENGINE_DEFINITIONS.md) quote is, except
-for layout, that of the file named above it, each name in a table with a column of files is in a file beside it, each crate and each law has its place, what
-bench/run and bench/applications wrote has the figures of their tables, each picture is what its script draws, and the pages of users and the front are not too long.
+docs/TUTORIAL.md and docs/APPLICATIONS.md is in the file named above it, each definition that the pages of definitions (docs/DEFINITIONS.md,
+docs/ENGINE_DEFINITIONS.md) quote is, except for layout, that of the file named above it, each name in a table with a column of files is in a file beside it, each
+crate and each law has its place, what bench/run and bench/applications wrote has the figures of their tables, each picture is what its script draws, and the pages
+of users and the front are not too long.
 
     tests/documents.py
 """
