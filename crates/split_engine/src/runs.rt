@@ -117,6 +117,10 @@ fn finish<A: Application>(scripts: &[Vec<A::Request>], state: RunState<A>) -> Ou
         IsRunState A.rules A.fits n opened (lists scripts.now)
         state.so_far.table.items state.so_far.history.items state.cursors.items →
         AllByRecursion (A.fits (n + 2 * length result.history.items)) result.table.items }
+    ensures count { (n : ℕ) (opened : List A.Record) →
+        IsRunState A.rules A.fits n opened (lists scripts.now)
+        state.so_far.table.items state.so_far.history.items state.cursors.items →
+        length result.history.items ≡ total (lists scripts.now) }
 {
     let RunState {
         so_far,
@@ -153,6 +157,8 @@ where
     ensures fits { (n : ℕ) → n < most_before → AllByRecursion (A.fits n) table.items →
         IfOk result (λ outcome.
         AllByRecursion (A.fits (n + 2 * length outcome.history.items)) outcome.table.items) }
+    ensures count { IfOk result (λ outcome.
+        length outcome.history.items ≡ total (lists scripts.now)) }
     ensures fault { IfErr result (IsRunFault (length scripts.now)) }
 {
     let mut phasing = Phasing::new(alloc, table.len(), policy)?;

@@ -79,3 +79,14 @@ pub returns-clause-fits : goal.returns-clause-fits
 returns-clause-fits g c n few fits =
     c.finish-2.ensures.fits n c.args.table.items
     (c.in_ok-joined_phase.ensures.state n c.args.table.items few (are_scripts g.A.Application.rules (length c.args.table.items) (lists c.args.scripts.now) c.requires.scripts) (c.loop-round.invariant.state n few fits))
+
+pub returns-then-is_finished-clause-count : goal.returns-then-is_finished-clause-count
+returns-then-is_finished-clause-count g c =
+    let fits = c.requires.fits in
+    c.finish.ensures.count fits.0 c.args.table.items (c.loop-round.invariant.state fits.0 fits.1 fits.2)
+
+pub returns-clause-count : goal.returns-clause-count
+returns-clause-count g c =
+    let fits = c.requires.fits in
+    c.finish-2.ensures.count fits.0 c.args.table.items
+    (c.in_ok-joined_phase.ensures.state fits.0 c.args.table.items fits.1 (are_scripts g.A.Application.rules (length c.args.table.items) (lists c.args.scripts.now) c.requires.scripts) (c.loop-round.invariant.state fits.0 fits.1 fits.2))
