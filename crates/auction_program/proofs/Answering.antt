@@ -3,7 +3,8 @@ use Rattle.std.proofs.Common.{◌≡◌, ℕ, ◌<◌, List, length, Option, IfS
 use Rattle.std.specs.Prelude.{◌↔◌}
 use Rattle.std.specs.Result.{IsErr, IsErrAnd}
 use Rattle.std.proofs.lemmas.Option.{IfSome_then}
-use Rattle.auction_rows.specs.Types.{Policy, Opening, Request, Opened, Book}
+use Rattle.auction_rows.specs.declared.{limits.Policy.Policy, values.Opening.Opening, requests.Request.Request, requests.Opened.Opened}
+use Rattle.auction_rows.specs.Book.{Book}
 use Rattle.auction_text.specs.Scripts.{input_of}
 use Rattle.item_shards.specs.OpeningRows.{AreRows, IsFirstBad, IsTooLong, opening_rows}
 use Rattle.item_shards.specs.declared.openings.ResumeFault.{ResumeFault}

@@ -2,7 +2,8 @@
 use Rattle.std.proofs.Common.{◌≡◌, ℕ, List, [], ◌∷◌, length, map, false, Result, Ok, Err, sym, ap, subst, ◌∙◌, arith}
 use Rattle.std.specs.List.{range_with_len}
 use Rattle.std.proofs.lemmas.List.FromFn.{length-map-range_with_len}
-use Rattle.auction_rows.specs.Types.{Policy, Opening, Object, Request, Opened, Entry, Book}
+use Rattle.auction_rows.specs.declared.{limits.Policy.Policy, values.Opening.Opening, requests.Object.Object, requests.Request.Request, requests.Opened.Opened, rows.Entry.Entry}
+use Rattle.auction_rows.specs.Book.{Book}
 use Rattle.auction_text.specs.Records.{and_then}
 use Rattle.auction_text.specs.Scripts.{Asked, asked_in, read_records, records_of, script}
 use Rattle.auction_text.specs.ReadFault.{ReadFault}

@@ -5,7 +5,8 @@ use mathlib.Core.List.{IsPrefix}
 use Rattle.std.specs.List.{range_with_len}
 use Rattle.std.specs.Result.{result_ok}
 use Rattle.std.proofs.lemmas.List.{map-append}
-use Rattle.auction_rows.specs.Types.{Opening, Request, Reply, Row, Book}
+use Rattle.auction_rows.specs.declared.{values.Opening.Opening, requests.Request.Request, replies.Reply.Reply, rows.Row.Row}
+use Rattle.auction_rows.specs.Book.{Book}
 use Rattle.auction_rows.specs.Replies.{reply}
 use Rattle.phase_floor.specs.States.{JoinedState}
 use Rattle.auction_program.specs.Report.{views, IsEnd}

@@ -2,7 +2,8 @@
 use Rattle.std.proofs.Common.{◌≡◌, Bool, true, if◌then◌else◌, Some, IfSome, ℕ, ◌≤◌, min, List, [], ◌++◌, Option, length, append-nil, sym, subst, ◌∙◌, ap, arith}
 use Rattle.std.proofs.lemmas.List.{take-append-le, take_min}
 use Rattle.std.specs.Io.KnownBytes.{Appends}
-use Rattle.auction_rows.specs.Types.{Opening, Object, Entry, Book}
+use Rattle.auction_rows.specs.declared.{values.Opening.Opening, requests.Object.Object, rows.Entry.Entry}
+use Rattle.auction_rows.specs.Book.{Book}
 use Rattle.auction_text.specs.Report.{report_text}
 use Rattle.auction_text.specs.Writing.{IsPartWritten}
 use Rattle.auction_text.specs.declared.writing.report.ReportLines.{ReportLines}

@@ -2,7 +2,9 @@
 use Rattle.std.specs.Prelude.{ℕ, ◌≡◌, List, length, map}
 use mathlib.Core.List.{IsPrefix}
 use Rattle.std.specs.List.{range_with_len}
-use Rattle.auction_rows.specs.Types.{Opening, Object, Request, Reply, Row, Entry, Book, ViewCategory, ViewUser}
+use Rattle.auction_rows.specs.declared.{values.Opening.Opening, requests.Object.Object, requests.Request.Request, replies.Reply.Reply, rows.Row.Row, rows.Entry.Entry}
+use Rattle.auction_rows.specs.declared.requests.Request.TheVariants.{ViewCategory, ViewUser}
+use Rattle.auction_rows.specs.Book.{Book}
 use Rattle.auction_rows.specs.Replies.{reply}
 use Rattle.auction_text.specs.Report.{report_text}
 use Rattle.auction_window.specs.Published.{book_of}

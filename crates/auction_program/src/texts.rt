@@ -1,7 +1,8 @@
 //! The texts that the program writes of a run, and what the report shows of the auction at its end.
 ghost use mathlib.Core.List.{IsPrefix};
 ghost use Rattle.std.specs.Prelude.{◌≡◌, IfErr, OnOk, ◌≤◌, ◌<◌, List, length, true, IfOk};
-ghost use Rattle.auction_rows.specs.Types.{Row as Stored, Book};
+ghost use Rattle.auction_rows.specs.declared.rows.Row.{Row as Stored};
+ghost use Rattle.auction_rows.specs.Book.{Book};
 ghost use Rattle.auction_rows.specs.Replies.{reply};
 ghost use Rattle.auction_rows.specs.Requests.{is_view};
 ghost use Rattle.auction_text.specs.Writing.{WritesText};

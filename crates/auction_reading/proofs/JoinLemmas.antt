@@ -3,7 +3,7 @@ use Rattle.std.proofs.Common.{arith, ◌≡◌, ◌||◌, ◌<◌, ◌≤◌, �
 use Rattle.std.specs.Prelude.{replicate, slice_index_or, slice_set, vec_len}
 use Rattle.std.proofs.lemmas.Bool.{cases_Bool}
 use Rattle.std.proofs.lemmas.List.{append-nil, length-set, nil_from_length, take-append-le}
-use Rattle.auction_rows.specs.Types.{Request, Opened}
+use Rattle.auction_rows.specs.declared.requests.{Request.Request, Opened.Opened}
 use Rattle.record_reading.specs.declared.record.Record.{Record}
 use Rattle.record_reading.specs.declared.inputs.TheConstants.{MOST_RECORDS}
 use Rattle.record_reading.specs.Asking.{Asked, as_row, nothing_asked, with_record}

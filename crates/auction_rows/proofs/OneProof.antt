@@ -2,7 +2,8 @@
 use Rattle.std.specs.Prelude.{List, [], map}
 use Rattle.std.proofs.Props.{props}
 use Rattle.phase_laws.specs.OneProof.{Replays-prop}
-use Rattle.auction_rows.specs.Types.{Opening, Reply, Row, Entry, Book}
+use Rattle.auction_rows.specs.declared.{values.Opening.Opening, replies.Reply.Reply, rows.Row.Row, rows.Entry.Entry}
+use Rattle.auction_rows.specs.Book.{Book}
 use Rattle.auction_rows.specs.History.{IsRight, after_entry, ReplaysFrom, commit_of, GoOn, IsBook}
 
 pub Reply-set : IsSet Reply

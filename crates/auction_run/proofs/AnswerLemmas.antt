@@ -2,7 +2,8 @@
 use Rattle.std.proofs.Common.{◌≡◌, List, refl, subst, sym}
 use Rattle.std.specs.Prelude.{◌↔◌, Result, Ok, Err, IsErrAnd, IsErrOf, IfErr, IfOk, OnOk}
 use Rattle.std.proofs.lemmas.Result.{IfOk-weaker}
-use Rattle.auction_rows.specs.Types.{Policy, Opening, Request, Book}
+use Rattle.auction_rows.specs.declared.{limits.Policy.Policy, values.Opening.Opening, requests.Request.Request}
+use Rattle.auction_rows.specs.Book.{Book}
 use Rattle.auction_rows.specs.declared.limits.TheConstants.{MOST_OF_A_WORKER}
 use Rattle.auction_rows.specs.History.{IsBook, book_after}
 use Rattle.phase_floor.specs.States.{JoinedState, IsBookOf}

@@ -1,7 +1,8 @@
 -- What is checked of scripts, however they are kept.
 use Rattle.std.proofs.Common.{◌≡◌, ℕ, zero, suc, ◌+◌, ◌-◌, ◌<◌, ◌≤◌, List, [], ◌∷◌, map, length, get_or, refl, subst, sym, ap, ◌∙◌, arith, Err}
 use Rattle.std.proofs.lemmas.List.{length-map, map-id}
-use Rattle.auction_rows.specs.Types.{Policy, Request, Book}
+use Rattle.auction_rows.specs.declared.{limits.Policy.Policy, requests.Request.Request}
+use Rattle.auction_rows.specs.Book.{Book}
 use Rattle.item_shards.specs.OpeningRows.{rows_by}
 use Rattle.run_laws.specs.Serving.{script_of}
 use Rattle.phase_floor.specs.States.{JoinedState}

@@ -7,7 +7,7 @@ use Rattle.std.proofs.lemmas.List.Elements.{All-from_recursion, recursion_from_A
 use Rattle.std.proofs.lemmas.List.Sums.{sum_by-append}
 use Rattle.phase_laws.proofs.ListLemmas.{all-append}
 use Rattle.phase_laws.proofs.OrderLemmas.{all-weaker}
-use Rattle.auction_rows.specs.Types.{Policy, Opening, Request, Entry}
+use Rattle.auction_rows.specs.declared.{limits.Policy.Policy, values.Opening.Opening, requests.Request.Request, rows.Entry.Entry}
 use Rattle.auction_rows.specs.Book.{Book, items_stored, bids_stored, comments_stored, buys_stored, worker_of}
 use Rattle.auction_rows.specs.History.{IsBook, book_after, rows_of}
 use Rattle.auction_rows.proofs.HistoryLemmas.{book_after-replays, longer_book, rows_go_on}

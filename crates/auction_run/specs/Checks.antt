@@ -1,6 +1,7 @@
 -- Why a run is refused before it begins.
 use Rattle.std.specs.Prelude.{◌↔◌, List, Result, Ok, Err, OnOk, IsErrOf}
-use Rattle.auction_rows.specs.Types.{Policy, Request, Book}
+use Rattle.auction_rows.specs.declared.{limits.Policy.Policy, requests.Request.Request}
+use Rattle.auction_rows.specs.Book.{Book}
 use Rattle.run_phases.specs.declared.faults.RunFault.{RunFault}
 use Rattle.run_phases.specs.declared.faults.RunFault.TheVariants.{Workers, Shards, Quota, TooLong, Spawn, Memory, NumberFull}
 use Rattle.run_phases.specs.Beginning.{HaveWorkers, HasShards, HasQuotas, AreShort}

@@ -1,7 +1,8 @@
 -- What a run from an opening book on answers, and what its board has then.
 use Rattle.std.specs.Prelude.{◌≡◌, ◌<◌, List, [], Result, length, IfOk, IsErrOf}
 use Rattle.auction_rows.specs.declared.limits.TheConstants.{MOST_OF_A_WORKER}
-use Rattle.auction_rows.specs.Types.{Policy, Opening, Request, Row, Book}
+use Rattle.auction_rows.specs.declared.{limits.Policy.Policy, values.Opening.Opening, requests.Request.Request, rows.Row.Row}
+use Rattle.auction_rows.specs.Book.{Book}
 use Rattle.auction_rows.specs.History.{book_after}
 use Rattle.phase_floor.specs.States.{IsBookOf}
 use Rattle.auction_run.specs.Checks.{IsRefusedInOrder}

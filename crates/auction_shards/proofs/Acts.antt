@@ -5,7 +5,8 @@ use Rattle.std.specs.List.{AllByRecursion}
 use Rattle.std.proofs.lemmas.Bool.{eqb-true, false≢true}
 use Rattle.std.proofs.lemmas.Nat.{mod_below}
 use Rattle.std.proofs.lemmas.List.{length-map, map-set, set-get_or, get_or-set_same, get_or-set_other}
-use Rattle.auction_rows.specs.Types.{ItemId, Object, ItemRow, Row, Item, Category}
+use Rattle.auction_rows.specs.declared.{requests.ItemId.ItemId, requests.Object.Object, rows.ItemRow.ItemRow, rows.Row.Row}
+use Rattle.auction_rows.specs.declared.requests.Object.TheVariants.{Item, Category}
 use Rattle.auction_rows.specs.declared.rows.Row.TheVariants.{Item as Stored}
 use Rattle.auction_rows.specs.Book.{item_entry}
 use Rattle.auction_rows.specs.Requests.{number_of, shard_of}

@@ -3,7 +3,8 @@ use Rattle.std.proofs.Common.{◌≡◌, ℕ, zero, suc, ◌<◌, ◌==◌, Bool
 use Rattle.std.specs.Prelude.{IsSome, is_some}
 use Rattle.std.proofs.lemmas.List.{length-map, length-set, map-set}
 use Rattle.indexmap.specs.IndexMap.{get}
-use Rattle.auction_rows.specs.Types.{ItemId, Object, Item}
+use Rattle.auction_rows.specs.declared.requests.{ItemId.ItemId, Object.Object}
+use Rattle.auction_rows.specs.declared.requests.Object.TheVariants.{Item}
 use Rattle.auction_rows.specs.Book.{same_item}
 use Rattle.auction_rows.specs.Requests.{shard_of}
 use Rattle.item_shards.specs.declared.shard.records.ItemRecord.{ItemRecord}

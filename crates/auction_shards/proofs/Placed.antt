@@ -1,7 +1,7 @@
 -- The shard in which an object lies, of those that are numbered.
 use Rattle.std.proofs.Common.{◌≡◌, ℕ, ◌<◌, List, length, map, get_or, sym, ap, ◌∙◌, arith}
 use Rattle.std.proofs.lemmas.List.{length-map, get_or-map}
-use Rattle.auction_rows.specs.Types.{Opening, Object}
+use Rattle.auction_rows.specs.declared.{values.Opening.Opening, requests.Object.Object}
 use Rattle.auction_rows.specs.Requests.{shard_of}
 use Rattle.item_shards.specs.declared.shard.Shard.{Shard}
 use Rattle.item_shards.specs.ShardContents.{LiesIn, contents, opening, shard_count, shard_number}

@@ -1,6 +1,6 @@
 -- Shards in which nothing is stored.
 use Rattle.std.specs.Prelude.{◌≡◌, ℕ, ◌<◌, List}
-use Rattle.auction_rows.specs.Types.{Opening, Object}
+use Rattle.auction_rows.specs.declared.{values.Opening.Opening, requests.Object.Object}
 use Rattle.item_shards.specs.Values.{blank}
 use Rattle.shard_boxes.specs.States.{ShardState, state_at}
 

@@ -1,7 +1,8 @@
 -- Slices that are merged into the shards in which their objects lie.
 use Rattle.std.specs.Prelude.{◌+◌, ◌<◌, ◌^◌, ◌+ℤ◌, FitsSigned, IsSome, ⊤, List, length, slice_set}
 use Rattle.std.specs.Int.{w64}
-use Rattle.auction_rows.specs.Types.{Object, Item, User, Category}
+use Rattle.auction_rows.specs.declared.requests.Object.{Object}
+use Rattle.auction_rows.specs.declared.requests.Object.TheVariants.{Item, User, Category}
 use Rattle.auction_rows.specs.Requests.{shard_of}
 use Rattle.item_shards.specs.declared.shard.slices.Slice.{Slice}
 use Rattle.item_shards.specs.declared.shard.slices.Slice.TheVariants as slice

@@ -1,7 +1,9 @@
 -- The shards of one auction: what they have in common, and what they show.
 use Rattle.std.specs.Prelude.{◌≡◌, ℕ, ◌<◌, ◌≤◌, List, length, slice_index_or, ⊤}
 use Rattle.auction_rows.specs.declared.limits.TheConstants.{MOST_SHARDS}
-use Rattle.auction_rows.specs.Types.{Opening, Object, Book, Item, User, Category}
+use Rattle.auction_rows.specs.declared.{values.Opening.Opening, requests.Object.Object}
+use Rattle.auction_rows.specs.declared.requests.Object.TheVariants.{Item, User, Category}
+use Rattle.auction_rows.specs.Book.{Book}
 use Rattle.auction_rows.specs.Requests.{shard_of}
 use Rattle.item_shards.specs.declared.shard.Shard.{Shard}
 use Rattle.item_shards.specs.Standing.{ContentsStandsFor}

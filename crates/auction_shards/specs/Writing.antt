@@ -1,7 +1,7 @@
 -- Rows that are written on the shards of one auction.
 use Rattle.std.specs.Prelude.{◌≡◌, ℕ, ◌<◌, true, List, [], length, map}
 use Rattle.std.specs.List.{AllByRecursion}
-use Rattle.auction_rows.specs.Types.{ItemId, Object, Row}
+use Rattle.auction_rows.specs.declared.{requests.ItemId.ItemId, requests.Object.Object, rows.Row.Row}
 use Rattle.auction_rows.specs.declared.requests.Object.TheVariants as object
 use Rattle.auction_rows.specs.Requests.{shard_of}
 use Rattle.item_shards.specs.declared.shard.acts.Act.{Act}

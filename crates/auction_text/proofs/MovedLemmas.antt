@@ -10,7 +10,7 @@ use Rattle.std.proofs.lemmas.Bool.Decides.{nat_tests}
 use Rattle.std.proofs.lemmas.List.{get_or-set_other, get_or-set_same, get_or_default, get_or_past}
 use Rattle.std.proofs.lemmas.List.Folds.{flat_map-map}
 use Rattle.phase_laws.specs.Order.{part}
-use Rattle.auction_rows.specs.Types.{Request, Entry}
+use Rattle.auction_rows.specs.declared.{requests.Request.Request, rows.Entry.Entry}
 use Rattle.worker_journals.specs.Journals.{entry_worker}
 use Rattle.auction_text.specs.Moved.{Gone, all_moved, line_after, moved}
 use Rattle.auction_text.specs.Order.{comes_before, in_order, put_in, sorted}

@@ -1,7 +1,7 @@
 -- The entries of a part of a run, as they stand in the whole.
 use Rattle.std.specs.Prelude.{ℕ, ◌+◌, ◌^◌, ◌<◌, ◌≤◌, ◌⊎◌, List, [], length, map, slice_index, slice_index_or}
 use Rattle.auction_rows.specs.declared.limits.TheConstants.{MOST_WORKERS}
-use Rattle.auction_rows.specs.Types.{Request, Entry}
+use Rattle.auction_rows.specs.declared.{requests.Request.Request, rows.Entry.Entry}
 use Rattle.auction_text.specs.Replies.{reply_line}
 
 -- What went before a part: how many phases, and how many requests of each worker.

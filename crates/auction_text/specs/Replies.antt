@@ -2,7 +2,7 @@
 use Rattle.std.specs.Prelude.{ℕ, ℤ, List, ◌++◌, codes, decimal, Option, Some, None}
 use Rattle.std.specs.Fmt.{signed_decimal}
 use Rattle.std.specs.List.{flat_map}
-use Rattle.auction_rows.specs.Types.{Refusal, Reply, BidShown, ItemShown, Entry}
+use Rattle.auction_rows.specs.declared.{replies.Refusal.Refusal, replies.Reply.Reply, replies.BidShown.BidShown, replies.ItemShown.ItemShown, rows.Entry.Entry}
 use Rattle.auction_rows.specs.declared.replies.Refusal.TheVariants as refusal
 use Rattle.auction_rows.specs.declared.replies.Reply.TheVariants as reply
 use Rattle.auction_text.specs.Order.{in_order}

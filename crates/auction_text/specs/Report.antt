@@ -1,7 +1,8 @@
 -- The text of a report.
 use Rattle.std.specs.Prelude.{ℕ, ◌+◌, ◌==◌, if◌then◌else◌, List, [], ◌∷◌, ◌++◌, codes, count_by, length}
 use Rattle.std.specs.List.{flat_map}
-use Rattle.auction_rows.specs.Types.{Object, Reply, Entry, Item, User, Category}
+use Rattle.auction_rows.specs.declared.{requests.Object.Object, replies.Reply.Reply, rows.Entry.Entry}
+use Rattle.auction_rows.specs.declared.requests.Object.TheVariants.{Item, User, Category}
 use Rattle.auction_rows.specs.declared.replies.Reply.TheVariants as reply
 use Rattle.auction_rows.specs.StoreReplies.{is_refusal}
 use Rattle.auction_text.specs.Replies.{labelled, labelled_id, reply_text, score_text}

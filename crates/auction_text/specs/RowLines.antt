@@ -2,7 +2,7 @@
 use Rattle.std.specs.Prelude.{ℕ, ◌==◌, if◌then◌else◌, List, [], ◌∷◌, ◌++◌, codes, decimal}
 use Rattle.std.specs.Fmt.{signed_decimal}
 use Rattle.std.specs.List.{flat_map}
-use Rattle.auction_rows.specs.Types.{Facts, ItemRow, BidRow, CommentRow, BuyRow, Row, Entry}
+use Rattle.auction_rows.specs.declared.{requests.Facts.Facts, rows.ItemRow.ItemRow, rows.BidRow.BidRow, rows.CommentRow.CommentRow, rows.BuyRow.BuyRow, rows.Row.Row, rows.Entry.Entry}
 use Rattle.auction_rows.specs.declared.rows.Row.TheVariants.{Item, Bid, Comment, Buy}
 use Rattle.auction_rows.specs.History.{rows_of}
 use Rattle.record_reading.specs.Lines.{quote}

@@ -2,7 +2,8 @@
 use Rattle.std.proofs.Common.{◌≡◌, suc, ◌+◌, List, [], ◌∷◌, ◌++◌, length, refl, ap, sym, ◌∙◌, subst, arith, length-append}
 use mathlib.Core.List.{IsPrefix}
 use Rattle.std.specs.Prelude.{fold, Some, Result, Ok, Err, OnOk, OnErr, MatchResult}
-use Rattle.auction_rows.specs.Types.{Opening, Row, Book}
+use Rattle.auction_rows.specs.declared.{values.Opening.Opening, rows.Row.Row}
+use Rattle.auction_rows.specs.Book.{Book}
 use Rattle.item_shards.specs.declared.serial.SerialAuction.{SerialAuction}
 use Rattle.item_shards.specs.Serial.{CanFollow, CanAdd, HoldsBook, serial_opening}
 use Rattle.auction_window.specs.Published.{book_of, HasPhases, IsLastPhase}

@@ -4,7 +4,7 @@ use Rattle.std.specs.Prelude.{option_to_list}
 use Rattle.std.specs.List.{cons_option}
 use Rattle.std.proofs.lemmas.List.{take_more}
 use Rattle.std.proofs.lemmas.List.Elements.{filter_map-append}
-use Rattle.auction_rows.specs.Types.{Row, Entry}
+use Rattle.auction_rows.specs.declared.rows.{Row.Row, Entry.Entry}
 use Rattle.auction_rows.specs.History.{row_of_entry, rows_of}
 use Rattle.auction_rows.proofs.HistoryLemmas.{filter_map-one}
 

@@ -1,7 +1,8 @@
 -- Published phases, and what is made of them.
 use Rattle.std.specs.Prelude.{◌≡◌, ◌⊎◌, Bool, List, [], ◌∷◌, ◌++◌, fold, Option, IfSome}
 use mathlib.Core.List.{IsPrefix}
-use Rattle.auction_rows.specs.Types.{Opening, Row, Book}
+use Rattle.auction_rows.specs.declared.{values.Opening.Opening, rows.Row.Row}
+use Rattle.auction_rows.specs.Book.{Book}
 use Rattle.item_shards.specs.declared.serial.SerialAuction.{SerialAuction}
 use Rattle.item_shards.specs.Serial.{HoldsBook, CanFollow, serial_opening}
 

@@ -18,7 +18,8 @@ use worker_journals::History;
 /// of them, so that a window learns only from its own publisher. Who makes a publisher is generic
 /// in the name, and is called with `Brand`.
 pub trait WindowName {
-    ghost use Rattle.auction_rows.specs.Types.{Opening, Book};
+    ghost use Rattle.auction_rows.specs.declared.values.Opening.{Opening};
+    ghost use Rattle.auction_rows.specs.Book.{Book};
     ghost use Rattle.logbook.specs.Pages as pages;
 
     /// The list of phases.

@@ -1,7 +1,8 @@
 -- What is found of a history, by the text of its rows and scripts, and what is said of it.
 use Rattle.std.proofs.Common.{◌≡◌, ℕ, List, Option, Some, None, subst, sym}
 use Rattle.std.specs.Prelude.{IfSome, Ok}
-use Rattle.auction_rows.specs.Types.{Opening, Request, Opened, Book}
+use Rattle.auction_rows.specs.declared.{values.Opening.Opening, requests.Request.Request, requests.Opened.Opened}
+use Rattle.auction_rows.specs.Book.{Book}
 use Rattle.auction_text.specs.Scripts.{input_of}
 use Rattle.item_shards.specs.OpeningRows.{AreRows, opening_rows}
 use Rattle.history_check.specs.declared.lines.Verdict.{Verdict}

@@ -1,6 +1,6 @@
 -- What is found of a history, by the text of rows and scripts, and what is said of it.
 use Rattle.std.specs.Prelude.{ℕ, ◌≡◌, List, Ok, Option, IfSome}
-use Rattle.auction_rows.specs.Types.{Request, Opened}
+use Rattle.auction_rows.specs.declared.requests.{Request.Request, Opened.Opened}
 use Rattle.auction_text.specs.Scripts.{input_of}
 use Rattle.item_shards.specs.OpeningRows.{AreRows, opening_rows}
 use Rattle.history_check.specs.declared.lines.Verdict.{Verdict}

@@ -6,7 +6,8 @@ use Rattle.std.proofs.lemmas.Bool.{false≢true}
 use Rattle.std.proofs.lemmas.List.{append-nil}
 use Rattle.std.proofs.lemmas.List.Elements.{filter_map-append}
 use Rattle.std.proofs.lemmas.List.Sums.{sum_by-append}
-use Rattle.auction_rows.specs.Types.{Facts, Request, Refusal, Row, StoreItem, StoreBid, StoreComment, BuyNow, ViewItem, ViewBids, ViewCategory, ViewUser}
+use Rattle.auction_rows.specs.declared.{requests.Facts.Facts, requests.Request.Request, replies.Refusal.Refusal, rows.Row.Row}
+use Rattle.auction_rows.specs.declared.requests.Request.TheVariants.{StoreItem, StoreBid, StoreComment, BuyNow, ViewItem, ViewBids, ViewCategory, ViewUser}
 use Rattle.auction_rows.specs.declared.rows.Row.TheVariants as row
 use Rattle.auction_rows.specs.Book.{Book, as_item, as_bid, as_comment, as_buy, facts_of}
 use Rattle.auction_rows.specs.Replies.{answer, answer_unless, item_seen, row_of, row_if}

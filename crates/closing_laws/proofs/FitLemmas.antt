@@ -12,7 +12,9 @@ use Rattle.std.proofs.lemmas.List.Sorted.{All-permutation, sum_by-IsPermutation}
 use Rattle.std.proofs.lemmas.List.Sums.{sum_by-append, sum_by-cons}
 use Rattle.phase_laws.specs.Replay.{SawInTurn}
 use Rattle.phase_laws.proofs.ListLemmas.{all-append}
-use Rattle.auction_rows.specs.Types.{Facts, Object, Book, Item, User, Category}
+use Rattle.auction_rows.specs.declared.requests.{Facts.Facts, Object.Object}
+use Rattle.auction_rows.specs.declared.requests.Object.TheVariants.{Item, User, Category}
+use Rattle.auction_rows.specs.Book.{Book}
 use Rattle.auction_rows.specs.Footprint.{is_hot}
 use Rattle.auction_rows.specs.Requests.{same_object, shard_of}
 use Rattle.auction_rows.proofs.RequestLemmas.{same_object-true, same_object-own}

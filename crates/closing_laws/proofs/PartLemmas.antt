@@ -6,7 +6,8 @@ use Rattle.phase_laws.specs.Merging.{SliceLaws}
 use Rattle.phase_laws.specs.Order.{IsOrderedBy, part}
 use Rattle.phase_laws.proofs.MergingLemmas.{merged, map-agree}
 use Rattle.split_records.proofs.Histories.{value_is_record}
-use Rattle.auction_rows.specs.Types.{ItemId, Object, Row, Entry, Item, User, Category}
+use Rattle.auction_rows.specs.declared.{requests.ItemId.ItemId, requests.Object.Object, rows.Row.Row, rows.Entry.Entry}
+use Rattle.auction_rows.specs.declared.requests.Object.TheVariants.{Item, User, Category}
 use Rattle.auction_rows.specs.declared.rows.Row.TheVariants as row
 use Rattle.auction_rows.specs.Book.{Book, same_item, bid_entry, item_entry, bid_entries, item_entries}
 use Rattle.auction_rows.specs.History.{row_of_entry, rows_of}

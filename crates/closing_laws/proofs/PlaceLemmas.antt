@@ -2,7 +2,9 @@
 use Rattle.std.proofs.Common.{◌≡◌, ℕ, ◌==◌, Bool, true, false, ◌++◌, Option, IsSome, option_to_list, refl, sym, ap, subst, eq-eqb, eqb-true}
 use Rattle.std.proofs.lemmas.Bool.{false≢true}
 use Rattle.phase_laws.specs.Replay.{ResourceLaws}
-use Rattle.auction_rows.specs.Types.{ItemId, Facts, Reply, Book, Item}
+use Rattle.auction_rows.specs.declared.{requests.ItemId.ItemId, requests.Facts.Facts, replies.Reply.Reply}
+use Rattle.auction_rows.specs.declared.requests.Object.TheVariants.{Item}
+use Rattle.auction_rows.specs.Book.{Book}
 use Rattle.auction_rows.specs.Footprint.{is_hot}
 use Rattle.auction_rows.specs.History.{IsRight, after_entry}
 use Rattle.auction_rows.specs.Refusals.{refusal}

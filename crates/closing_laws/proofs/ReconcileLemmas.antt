@@ -4,7 +4,8 @@ use Rattle.std.specs.List.{list_any, AllByRecursion}
 use Rattle.phase_laws.specs.Order.{part, up_from}
 use Rattle.phase_laws.proofs.WorkerLemmas.{up_from_ordered, up_from_has, map-up_from}
 use Rattle.phase_laws.proofs.ListLemmas.{every_from}
-use Rattle.auction_rows.specs.Types.{ItemId, Object, Entry, Item, User, Category}
+use Rattle.auction_rows.specs.declared.{requests.ItemId.ItemId, requests.Object.Object, rows.Entry.Entry}
+use Rattle.auction_rows.specs.declared.requests.Object.TheVariants.{Item, User, Category}
 use Rattle.auction_rows.specs.Book.{Book, facts_of, bought}
 use Rattle.auction_rows.specs.Footprint.{is_hot}
 use Rattle.auction_rows.specs.History.{book_after, rows_of}

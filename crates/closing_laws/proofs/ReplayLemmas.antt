@@ -5,7 +5,8 @@ use Rattle.std.proofs.lemmas.List.{length-map}
 use Rattle.std.proofs.lemmas.List.Folds.{fold-map}
 use Rattle.phase_laws.specs.Replay.{SawInTurn, Replays}
 use Rattle.phase_laws.proofs.ReplayLemmas.{replayed, saw_from_map, replays_map, saw_nothing}
-use Rattle.auction_rows.specs.Types.{ItemId, Facts, Object, Item}
+use Rattle.auction_rows.specs.declared.requests.{ItemId.ItemId, Facts.Facts, Object.Object}
+use Rattle.auction_rows.specs.declared.requests.Object.TheVariants.{Item}
 use Rattle.auction_rows.specs.Book.{Book, facts_of, bought, items_stored, bids_stored, comments_stored, buys_stored}
 use Rattle.auction_rows.specs.History.{IsRight, ReplaysFrom, after_entry, book_after}
 use Rattle.auction_rows.specs.Requests.{shard_of}

@@ -4,7 +4,8 @@ use Rattle.std.specs.List.{AllByRecursion, IsDistinct}
 use Rattle.std.proofs.lemmas.Bool.{false≢true, or_parts}
 use Rattle.std.proofs.lemmas.List.Sums.{fold-append}
 use Rattle.phase_laws.specs.Merging.{SliceLaws}
-use Rattle.auction_rows.specs.Types.{Facts, Object, Book}
+use Rattle.auction_rows.specs.declared.requests.{Facts.Facts, Object.Object}
+use Rattle.auction_rows.specs.Book.{Book}
 use Rattle.auction_rows.specs.Footprint.{is_hot}
 use Rattle.auction_rows.specs.Requests.{same_object}
 use Rattle.auction_rows.proofs.RequestLemmas.{same_object-true, same_objects}

@@ -3,7 +3,10 @@ use Rattle.std.proofs.Common.{◌≡◌, ℕ, ◌<◌, ◌≤◌, ◌==◌, ◌�
 use Rattle.std.specs.List.{AllByRecursion, cons_option}
 use Rattle.std.proofs.lemmas.Bool.{eqb-true, cond-true, cases_lt}
 use Rattle.phase_laws.specs.Order.{part}
-use Rattle.auction_rows.specs.Types.{Request, Reply, Row, Entry, Book, StoreItem, StoreBid, StoreComment, BuyNow, ItemStored, BidStored, CommentStored, Bought}
+use Rattle.auction_rows.specs.declared.{requests.Request.Request, replies.Reply.Reply, rows.Row.Row, rows.Entry.Entry}
+use Rattle.auction_rows.specs.declared.requests.Request.TheVariants.{StoreItem, StoreBid, StoreComment, BuyNow}
+use Rattle.auction_rows.specs.declared.replies.Reply.TheVariants.{ItemStored, BidStored, CommentStored, Bought}
+use Rattle.auction_rows.specs.Book.{Book}
 use Rattle.auction_rows.specs.History.{row_of_entry, rows_of}
 use Rattle.auction_rows.specs.Replies.{row_of, row_if}
 use Rattle.item_shards.specs.Counting.{worker_of}

@@ -1,6 +1,10 @@
 -- A phase that closes: a user is hot, and the one worker comments on a stored item about that user.
 use Rattle.std.specs.Prelude.{false, [], ◌∷◌, Some, None}
-use Rattle.auction_rows.specs.Types.{ItemId, Facts, Entry, Book, Item, User, StoreComment, CommentStored}
+use Rattle.auction_rows.specs.declared.{requests.ItemId.ItemId, requests.Facts.Facts, rows.Entry.Entry}
+use Rattle.auction_rows.specs.declared.requests.Object.TheVariants.{Item, User}
+use Rattle.auction_rows.specs.declared.requests.Request.TheVariants.{StoreComment}
+use Rattle.auction_rows.specs.declared.replies.Reply.TheVariants.{CommentStored}
+use Rattle.auction_rows.specs.Book.{Book}
 use Rattle.auction_rows.specs.declared.rows.Row.TheVariants as row
 use Rattle.auction_rows.specs.History.{rows_of}
 use Rattle.auction_rows.specs.Stars.{five}

@@ -2,7 +2,8 @@
 use Rattle.std.specs.Prelude.{◌≡◌, ℕ, ◌<◌, ◌≤◌, List, [], map, filter, length}
 use Rattle.phase_laws.specs.Numbers.{shares, FollowsWhatItShares}
 use Rattle.phase_laws.specs.Order.{part}
-use Rattle.auction_rows.specs.Types.{Opening, Object, Entry, Book}
+use Rattle.auction_rows.specs.declared.{values.Opening.Opening, requests.Object.Object, rows.Entry.Entry}
+use Rattle.auction_rows.specs.Book.{Book}
 use Rattle.auction_rows.specs.Footprint.{footprint, takes_shard}
 use Rattle.auction_rows.specs.History.{ReplaysFrom, book_after}
 use Rattle.worker_journals.specs.Journals.{entry_number, entry_worker}

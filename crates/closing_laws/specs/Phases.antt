@@ -2,7 +2,8 @@
 use Rattle.std.specs.Prelude.{◌≡◌, ℕ, ◌<◌, List, [], Option, map, length, slice_index_or, ⊤}
 use Rattle.std.specs.List.{AllByRecursion, IsDistinct}
 use Rattle.phase_laws.specs.Order.{IsAscending, part}
-use Rattle.auction_rows.specs.Types.{Facts, Object, Entry, Item, User, Category}
+use Rattle.auction_rows.specs.declared.{requests.Facts.Facts, requests.Object.Object, rows.Entry.Entry}
+use Rattle.auction_rows.specs.declared.requests.Object.TheVariants.{Item, User, Category}
 use Rattle.auction_rows.specs.Requests.{same_object}
 use Rattle.item_shards.specs.Values.{stock}
 use Rattle.worker_journals.specs.Journals.{JournalView, entry_number, entry_worker, empty_journal}

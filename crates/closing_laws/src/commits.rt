@@ -1,7 +1,12 @@
 //! What slices are of rows, what commits keep, and why their replies are the model's. Each law is
 //! what a function with an empty body ensures.
 ghost use Rattle.std.specs.Prelude.{◌≡◌, ◌<◌, ◌==◌, if◌then◌else◌, ℕ, ◌++◌, ◌∷◌, [], List, Option, length};
-ghost use Rattle.auction_rows.specs.Types.{Facts, Object, Request, Reply, Row, Book};
+ghost use Rattle.auction_rows.specs.declared.requests.Facts.{Facts};
+ghost use Rattle.auction_rows.specs.declared.requests.Object.{Object};
+ghost use Rattle.auction_rows.specs.declared.requests.Request.{Request};
+ghost use Rattle.auction_rows.specs.declared.replies.Reply.{Reply};
+ghost use Rattle.auction_rows.specs.declared.rows.Row.{Row};
+ghost use Rattle.auction_rows.specs.Book.{Book};
 ghost use Rattle.auction_rows.specs.Footprint.{footprint};
 ghost use Rattle.auction_rows.specs.History.{IsRight};
 ghost use Rattle.item_shards.specs.Contents.{Contents};

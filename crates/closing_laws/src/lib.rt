@@ -15,7 +15,9 @@ ghost use Rattle.closing_laws.specs.Histories.{HoldTheEntries, FollowWhatTheySha
 ghost use Rattle.closing_laws.specs.Merging.{IsReconciled, CanMerge, after_merge, slices_left};
 ghost use Rattle.closing_laws.specs.Lawful.{AreHotMerged, AreSliced, ClosesLawfully};
 ghost use Rattle.closing_laws.specs.Example.{example_book, example_phase};
-ghost use Rattle.auction_rows.specs.Types.{Facts, Object, Book};
+ghost use Rattle.auction_rows.specs.declared.requests.Facts.{Facts};
+ghost use Rattle.auction_rows.specs.declared.requests.Object.{Object};
+ghost use Rattle.auction_rows.specs.Book.{Book};
 ghost use Rattle.auction_rows.specs.History.{IsBook};
 ghost use Rattle.item_shards.specs.declared.shard.slices.Slice.{Slice};
 ghost use Rattle.shard_boxes.specs.States.{ShardState, AreInitial};

@@ -7,7 +7,8 @@ use Rattle.std.proofs.lemmas.List.{length-append}
 use Rattle.std.proofs.lemmas.List.Sums.{fold_push, sum_by_push}
 use Rattle.phase_laws.proofs.OrderLemmas.{all_push, ordered_push}
 use Rattle.phase_laws.proofs.ReplayLemmas.{replays_append}
-use Rattle.auction_rows.specs.Types.{Opening, Request, Row, Entry, Book}
+use Rattle.auction_rows.specs.declared.{values.Opening.Opening, requests.Request.Request, rows.Row.Row, rows.Entry.Entry}
+use Rattle.auction_rows.specs.Book.{Book}
 use Rattle.auction_rows.specs.History.{IsRight, after_entry, book_after}
 use Rattle.auction_rows.specs.Replies.{reply, row_of, next}
 use Rattle.history_check.specs.declared.lines.Order.{Order}

@@ -7,7 +7,9 @@ use Rattle.std.proofs.lemmas.Bool.{eqb-true, and_from}
 use Rattle.std.proofs.lemmas.List.Elements.{All-head, All-tail}
 use Rattle.std.proofs.lemmas.List.Folds.{list_all-append}
 use Rattle.auction_rows.specs.Name.{IsPrinting}
-use Rattle.auction_rows.specs.Types.{Refusal, Reply, BidShown, ItemShown, ItemStored, BidStored, CommentStored, Bought, ItemSeen, BidsSeen, CategorySeen, UserSeen, Refused, NoSuchUser, NoSuchCategory, NoSuchItem, BelowStart, Closed, SoldOut, NotEnough}
+use Rattle.auction_rows.specs.declared.replies.{Refusal.Refusal, Reply.Reply, BidShown.BidShown, ItemShown.ItemShown}
+use Rattle.auction_rows.specs.declared.replies.Reply.TheVariants.{ItemStored, BidStored, CommentStored, Bought, ItemSeen, BidsSeen, CategorySeen, UserSeen, Refused}
+use Rattle.auction_rows.specs.declared.replies.Refusal.TheVariants.{NoSuchUser, NoSuchCategory, NoSuchItem, BelowStart, Closed, SoldOut, NotEnough}
 use Rattle.auction_text.specs.Replies.{id_text, optional_text, labelled, labelled_optional, labelled_id, refusal_text, facts_text, state_text, bid_text, item_text, score_text, reply_text}
 use Rattle.history_check.specs.Texts.{ShowsName}
 

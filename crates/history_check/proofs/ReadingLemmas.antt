@@ -3,7 +3,8 @@ use Rattle.std.proofs.Common.{◌≡◌, ℕ, ◌+◌, ◌<◌, ◌≤◌, Bool,
 use Rattle.std.specs.Bool.{OnFalse, OnTrue}
 use Rattle.std.specs.Prelude.{Result, Ok, Err, IfOk, IsErrAnd, IsErrOf, IsSome, IsSomeAnd, IfSome}
 use Rattle.std.proofs.lemmas.List.{length-append}
-use Rattle.auction_rows.specs.Types.{Opening, Request, Entry, Book}
+use Rattle.auction_rows.specs.declared.{values.Opening.Opening, requests.Request.Request, rows.Entry.Entry}
+use Rattle.auction_rows.specs.Book.{Book}
 use Rattle.auction_text.specs.Replies.{history_line, reply_text}
 use Rattle.history_check.specs.declared.lines.CheckFault.{CheckFault}
 use Rattle.history_check.specs.declared.lines.Order.{Order}

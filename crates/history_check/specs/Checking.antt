@@ -2,7 +2,8 @@
 use Rattle.std.specs.Prelude.{ℕ, ◌+◌, ◌≡◌, ◌<◌, ◌≤◌, nat_lt, if◌then◌else◌, List, ◌∷◌, ◌++◌, length, count_by, Some, None}
 use Rattle.std.specs.List.{AllByRecursion}
 use Rattle.phase_laws.specs.Order.{IsOrderedBy}
-use Rattle.auction_rows.specs.Types.{Opening, Request, Reply, Entry, Book}
+use Rattle.auction_rows.specs.declared.{values.Opening.Opening, requests.Request.Request, replies.Reply.Reply, rows.Entry.Entry}
+use Rattle.auction_rows.specs.Book.{Book}
 use Rattle.auction_rows.specs.History.{ReplaysFrom, book_after}
 use Rattle.auction_rows.specs.Replies.{reply}
 use Rattle.auction_text.specs.Replies.{reply_text}

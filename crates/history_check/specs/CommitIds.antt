@@ -1,6 +1,6 @@
 -- What a line of a history begins with.
 use Rattle.std.specs.Prelude.{ℕ, ◌==◌, ◌<◌, ◌^◌, ◌≡◌, Bool, List, [], ◌∷◌, ◌++◌, decimal}
-use Rattle.auction_rows.specs.Types.{Request, Reply, Entry}
+use Rattle.auction_rows.specs.declared.{requests.Request.Request, replies.Reply.Reply, rows.Entry.Entry}
 use Rattle.history_check.specs.declared.lines.CommitId.{CommitId}
 
 abbrev pub is_space : ℕ → Bool

@@ -2,7 +2,7 @@
 use Rattle.std.specs.Prelude.{ℕ, suc, ◌<◌, ◌≡◌, ◌==◌, ◌&&◌, Bool, true, false, nat_lt, List, if◌then◌else◌}
 use Rattle.phase_laws.specs.Numbers.{greatest_by}
 use Rattle.auction_rows.specs.Requests.{is_splittable}
-use Rattle.auction_rows.specs.Types.{Request, Entry}
+use Rattle.auction_rows.specs.declared.{requests.Request.Request, rows.Entry.Entry}
 use Rattle.history_check.specs.declared.lines.Order.{Order}
 use Rattle.history_check.specs.declared.lines.Order.TheVariants.{Any, StoresFirst, Strict}
 

@@ -1,6 +1,6 @@
 -- The requests of scripts, and the entries of a history that are of one.
 use Rattle.std.specs.Prelude.{ℕ, ◌==◌, ◌&&◌, Bool, List, Option, slice_get}
-use Rattle.auction_rows.specs.Types.{Request, Entry}
+use Rattle.auction_rows.specs.declared.{requests.Request.Request, rows.Entry.Entry}
 use Rattle.run_laws.specs.Serving.{script_of}
 
 -- the request with an index in a worker's script, if there is one

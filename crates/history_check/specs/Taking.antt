@@ -1,7 +1,8 @@
 -- A replay that has performed the entries of a history so far.
 use Rattle.std.specs.Prelude.{ℕ, ◌+◌, ◌≡◌, ◌<◌, ◌≤◌, Bool, if◌then◌else◌, true, false, List, Some, length, count_by, get_or}
 use Rattle.auction_rows.specs.declared.limits.TheConstants.{MOST_WORKERS}
-use Rattle.auction_rows.specs.Types.{Opening, Request, Reply, Entry, Book}
+use Rattle.auction_rows.specs.declared.{values.Opening.Opening, requests.Request.Request, replies.Reply.Reply, rows.Entry.Entry}
+use Rattle.auction_rows.specs.Book.{Book}
 use Rattle.auction_rows.specs.History.{book_after}
 use Rattle.auction_text.specs.Replies.{reply_text}
 use Rattle.item_shards.specs.Serial.{HoldsBook, serial_opening}

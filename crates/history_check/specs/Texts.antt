@@ -1,6 +1,7 @@
 -- The lines of a text.
 use Rattle.std.specs.Prelude.{ℕ, ◌==◌, ◌≡◌, Bool, true, false, List, [], ◌∷◌, Option, None, Some, ⊤, map, if◌then◌else◌}
-use Rattle.auction_rows.specs.Types.{Reply, Entry, ItemStored, BidStored, CommentStored, Bought, ItemSeen, BidsSeen, CategorySeen, UserSeen, Refused}
+use Rattle.auction_rows.specs.declared.{replies.Reply.Reply, rows.Entry.Entry}
+use Rattle.auction_rows.specs.declared.replies.Reply.TheVariants.{ItemStored, BidStored, CommentStored, Bought, ItemSeen, BidsSeen, CategorySeen, UserSeen, Refused}
 use Rattle.auction_rows.specs.Name.{IsName}
 use Rattle.auction_text.specs.Replies.{history_line}
 

@@ -3,7 +3,8 @@
 ghost use Rattle.std.specs.Prelude.{◌≡◌, ◌<◌, ◌≤◌, ℕ, true, false, length, IfOk, IfNone, IfSome, ◌==◌, ◌&&◌, if◌then◌else◌, Some, suc, max, nat_lt, get_or, ◌++◌, ◌∷◌, [], List, IsErrOf, IsSome, IsSomeAnd, OnOk};
 ghost use Rattle.std.specs.Bool.{OnFalse, OnTrue};
 ghost use Rattle.run_laws.specs.Serving.{script_of};
-ghost use Rattle.auction_rows.specs.Types.{Entry, Book};
+ghost use Rattle.auction_rows.specs.declared.rows.Entry.{Entry};
+ghost use Rattle.auction_rows.specs.Book.{Book};
 ghost use Rattle.auction_rows.specs.Replies.{next, reply};
 ghost use Rattle.auction_rows.specs.StoreReplies.{reply_of};
 ghost use Rattle.item_shards.specs.OpeningBooks.{opening_of, rows_of_book};

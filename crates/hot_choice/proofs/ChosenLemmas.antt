@@ -22,7 +22,8 @@ use Rattle.phase_laws.proofs.DescendingLemmas.{descending_same}
 use Rattle.phase_laws.proofs.MemberLemmas.{Contains-first, Contains-later, Contains-cases, Contains-nothing, all-member, filter-member, permuted_members}
 use Rattle.phase_laws.proofs.OrderLemmas.{all-map}
 use Rattle.phase_laws.proofs.TopLemmas.{top_first, top_same_members}
-use Rattle.auction_rows.specs.Types.{Object, Entry, User}
+use Rattle.auction_rows.specs.declared.{requests.Object.Object, rows.Entry.Entry}
+use Rattle.auction_rows.specs.declared.requests.Object.TheVariants.{User}
 use Rattle.auction_rows.specs.Choosing.{objects_written, heat, heat_cmp, choose}
 use Rattle.auction_rows.specs.Orders.{object_cmp}
 use Rattle.auction_rows.specs.Requests.{same_object}

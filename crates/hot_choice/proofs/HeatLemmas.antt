@@ -12,7 +12,7 @@ use Rattle.std.proofs.lemmas.List.Sorted.{sum_by-IsPermutation}
 use Rattle.std.proofs.lemmas.List.Sums.{count_by_more_no, count_by_more_yes, sum_by-cons, sum_by_push}
 use Rattle.std.proofs.lemmas.Nat.{mod_below}
 use Rattle.auction_rows.specs.contracts.requests.ObjectPartialEq.TheImpl.{eq-value as object_eq}
-use Rattle.auction_rows.specs.Types.{Object, Entry}
+use Rattle.auction_rows.specs.declared.{requests.Object.Object, rows.Entry.Entry}
 use Rattle.auction_rows.specs.Choosing.{written_by, objects_written, heat}
 use Rattle.auction_rows.specs.Requests.{same_object, number_of}
 use Rattle.auction_rows.proofs.HistoryLemmas.{filter_map-one}

@@ -5,7 +5,8 @@ use Rattle.std.specs.Ordering.{is_lt, ordering_then, nat_cmp}
 use Rattle.std.specs.declared.cmp.Ordering.{Ordering}
 use Rattle.std.specs.declared.cmp.Ordering.TheVariants.{Less, Equal, Greater}
 use Rattle.auction_rows.specs.contracts.requests.ObjectOrd.TheImpl.{cmp-value as object_order}
-use Rattle.auction_rows.specs.Types.{Object, Item, User, Category}
+use Rattle.auction_rows.specs.declared.requests.Object.{Object}
+use Rattle.auction_rows.specs.declared.requests.Object.TheVariants.{Item, User, Category}
 use Rattle.auction_rows.specs.Orders.{object_cmp}
 use Rattle.hot_choice.specs.contracts.choice.CandidateOrd.TheImpl.{cmp-value as candidate_order}
 use Rattle.hot_choice.specs.declared.choice.Candidate.{Candidate}

@@ -4,7 +4,9 @@ use Rattle.std.specs.Prelude.{IfSome, slice_get}
 use Rattle.std.specs.Option.{option_or}
 use Rattle.std.proofs.lemmas.Bool.{eq-eqb}
 use Rattle.std.proofs.lemmas.List.{append-nil}
-use Rattle.auction_rows.specs.Types.{Opening, ItemId, BidEntry, Request, Refusal, Row, Item, BidStored, Refused}
+use Rattle.auction_rows.specs.declared.{values.Opening.Opening, requests.ItemId.ItemId, requests.BidEntry.BidEntry, requests.Request.Request, replies.Refusal.Refusal, rows.Row.Row}
+use Rattle.auction_rows.specs.declared.requests.Object.TheVariants.{Item}
+use Rattle.auction_rows.specs.declared.replies.Reply.TheVariants.{BidStored, Refused}
 use Rattle.auction_rows.specs.declared.rows.Row.TheVariants as row
 use Rattle.auction_rows.specs.Book.{Book, bids_stored}
 use Rattle.auction_rows.specs.Refusals.{facts_for, item_refusal, left_for, number_refusal, refusal}

@@ -9,7 +9,10 @@ use Rattle.std.proofs.lemmas.List.{length-append}
 use Rattle.phase_laws.specs.Replay.{SawInTurn}
 use Rattle.phase_laws.proofs.MemberLemmas.{all-member}
 use Rattle.phase_laws.proofs.ListLemmas.{all-append}
-use Rattle.auction_rows.specs.Types.{Opening, Stars, ItemId, Facts, Object, Request, Refusal, Reply, Row, Entry, Item, User, Category, StoreItem, StoreBid, StoreComment, BuyNow, ViewItem, ViewBids, ViewCategory, ViewUser, ItemStored, Refused}
+use Rattle.auction_rows.specs.declared.{values.Opening.Opening, values.Stars.Stars, requests.ItemId.ItemId, requests.Facts.Facts, requests.Object.Object, requests.Request.Request, replies.Refusal.Refusal, replies.Reply.Reply, rows.Row.Row, rows.Entry.Entry}
+use Rattle.auction_rows.specs.declared.requests.Object.TheVariants.{Item, User, Category}
+use Rattle.auction_rows.specs.declared.requests.Request.TheVariants.{StoreItem, StoreBid, StoreComment, BuyNow, ViewItem, ViewBids, ViewCategory, ViewUser}
+use Rattle.auction_rows.specs.declared.replies.Reply.TheVariants.{ItemStored, Refused}
 use Rattle.auction_rows.specs.Book.{Book, facts_of, left as left_of, bought}
 use Rattle.auction_rows.specs.History.{IsRight, after_entry, row_of_entry}
 use Rattle.auction_rows.specs.Refusals.{of_stored, number_refusal, refusal}

@@ -1,6 +1,6 @@
 -- Two acts in turn.
 use Rattle.std.proofs.Common.{◌≡◌, ℕ, Bool, List, [], ◌∷◌, length, get_or, refl, sym, subst, arith}
-use Rattle.auction_rows.specs.Types.{Opening, ItemId}
+use Rattle.auction_rows.specs.declared.{values.Opening.Opening, requests.ItemId.ItemId}
 use Rattle.item_shards.specs.declared.shard.acts.Act.{Act}
 use Rattle.item_shards.specs.Events.{Event}
 use Rattle.item_shards.specs.declared.shard.Shard.{Shard}

@@ -3,7 +3,8 @@ use Rattle.std.proofs.Common.{◌≡◌, ℕ, ◌+◌, ◌*◌, ◌≤◌, ◌==
 use Rattle.std.specs.List.{filter_map, cons_option}
 use Rattle.std.proofs.lemmas.Int.{ints}
 use Rattle.split_records.specs.Sums.{int_sum}
-use Rattle.auction_rows.specs.Types.{Stars, ItemId, CommentRow, Row, Item, User}
+use Rattle.auction_rows.specs.declared.{values.Stars.Stars, requests.ItemId.ItemId, rows.CommentRow.CommentRow, rows.Row.Row}
+use Rattle.auction_rows.specs.declared.requests.Object.TheVariants.{Item, User}
 use Rattle.auction_rows.specs.declared.rows.Row.TheVariants as row
 use Rattle.auction_rows.specs.Book.{Book, as_bid, as_comment, bid_entry, same_item, bid_rows, comment_rows, comments_about}
 use Rattle.item_shards.specs.Values.{value}

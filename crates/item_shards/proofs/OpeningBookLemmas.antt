@@ -9,7 +9,8 @@ use Rattle.std.proofs.lemmas.List.Sums.{fold_push, sum_by-append, sum_by-cons, s
 use Rattle.phase_laws.specs.Replay.{Replays}
 use Rattle.phase_laws.proofs.ReplayLemmas.{replays_append}
 use Rattle.phase_laws.proofs.OrderLemmas.{all_push}
-use Rattle.auction_rows.specs.Types.{Opening, Opened, Row, Book}
+use Rattle.auction_rows.specs.declared.{values.Opening.Opening, requests.Opened.Opened, rows.Row.Row}
+use Rattle.auction_rows.specs.Book.{Book}
 use Rattle.auction_rows.specs.History.{commit, commit_of, GoOn, IsBook}
 use Rattle.auction_rows.specs.Replies.{reply, row_of}
 use Rattle.auction_rows.proofs.HistoryLemmas.{longer_book, own_row, rows_go_on}

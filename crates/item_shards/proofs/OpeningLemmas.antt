@@ -4,7 +4,8 @@ use Rattle.std.specs.Prelude.{IfSome, IfNone}
 use Rattle.std.proofs.lemmas.Bool.{eqb-true, eq-eqb, false≢true}
 use Rattle.std.proofs.lemmas.List.{take_more, get_or-set_same, get_or-set_other}
 use Rattle.std.proofs.lemmas.List.Sums.{sum_by_push}
-use Rattle.auction_rows.specs.Types.{Opening, Opened, Refusal, Row, Book}
+use Rattle.auction_rows.specs.declared.{values.Opening.Opening, requests.Opened.Opened, replies.Refusal.Refusal, rows.Row.Row}
+use Rattle.auction_rows.specs.Book.{Book}
 use Rattle.auction_rows.specs.Refusals.{refusal}
 use Rattle.auction_rows.specs.Replies.{reply, row_of}
 use Rattle.auction_rows.specs.Requests.{is_view}

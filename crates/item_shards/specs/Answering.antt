@@ -1,6 +1,8 @@
 -- Why an item refuses a request.
 use Rattle.std.specs.Prelude.{◌≡◌, ℕ, Option, Some, option_map, option_and_then, unwrap_or}
-use Rattle.auction_rows.specs.Types.{ItemId, Facts, BidEntry, Request, Refusal, Item, StoreBid}
+use Rattle.auction_rows.specs.declared.{requests.ItemId.ItemId, requests.Facts.Facts, requests.BidEntry.BidEntry, requests.Request.Request, replies.Refusal.Refusal}
+use Rattle.auction_rows.specs.declared.requests.Object.TheVariants.{Item}
+use Rattle.auction_rows.specs.declared.requests.Request.TheVariants.{StoreBid}
 use Rattle.auction_rows.specs.Refusals.{item_refusal}
 use Rattle.auction_rows.specs.Requests.{item_of}
 use Rattle.item_shards.specs.declared.shard.Shard.{Shard}

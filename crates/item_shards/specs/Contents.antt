@@ -1,6 +1,7 @@
 -- A contents: objects by their values, and what acts and merges do to it.
 use Rattle.std.specs.Prelude.{ℕ, ◌+◌, List, fold, if◌then◌else◌, is_some, Option, Some, None}
-use Rattle.auction_rows.specs.Types.{Stars, Facts, BidEntry, ItemEntry, Object, Item, User, Category}
+use Rattle.auction_rows.specs.declared.{values.Stars.Stars, requests.Facts.Facts, requests.BidEntry.BidEntry, requests.ItemEntry.ItemEntry, requests.Object.Object}
+use Rattle.auction_rows.specs.declared.requests.Object.TheVariants.{Item, User, Category}
 use Rattle.auction_rows.specs.Requests.{same_object}
 use Rattle.item_shards.specs.Events.{Event, AddItem, ListItem, Bid, Comment, Buy, Look}
 use Rattle.item_shards.specs.Shown as shown

@@ -1,5 +1,6 @@
 -- A book that an auction is opened with, as contracts see it.
-use Rattle.auction_rows.specs.Types.{Opening, Book}
+use Rattle.auction_rows.specs.declared.values.Opening.{Opening}
+use Rattle.auction_rows.specs.Book.{Book}
 use Rattle.item_shards.specs.declared.openings.OpeningBook.{OpeningBook}
 use Rattle.item_shards.specs.OpeningRows.{rows_in}
 

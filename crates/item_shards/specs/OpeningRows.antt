@@ -3,7 +3,8 @@ use Rattle.std.specs.Prelude.{ℕ, ◌≡◌, ◌==◌, ◌<◌, ◌≤◌, ◌+
 use Rattle.std.specs.declared.vec.Vec.{Vec}
 use Rattle.phase_laws.specs.Replay.{Replays}
 use Rattle.auction_rows.specs.declared.limits.TheConstants.{MOST_OF_A_WORKER, MOST_WORKERS}
-use Rattle.auction_rows.specs.Types.{Opening, Opened, Row, Book}
+use Rattle.auction_rows.specs.declared.{values.Opening.Opening, requests.Opened.Opened, rows.Row.Row}
+use Rattle.auction_rows.specs.Book.{Book}
 use Rattle.auction_rows.specs.History.{commit_of}
 use Rattle.auction_rows.specs.Refusals.{refusal}
 use Rattle.auction_rows.specs.Replies.{next}

@@ -1,7 +1,8 @@
 -- The auction of one thread: what it holds, and which rows it can store.
 use Rattle.std.specs.Prelude.{ℕ, ◌≡◌, ◌<◌, ◌≤◌, ◌+◌, List, [], ◌∷◌, ◌++◌, Some, slice_get, length, take, All}
 use Rattle.auction_rows.specs.declared.limits.TheConstants.{MOST_ROWS, MOST_WORKERS}
-use Rattle.auction_rows.specs.Types.{Opening, Row, Book}
+use Rattle.auction_rows.specs.declared.{values.Opening.Opening, rows.Row.Row}
+use Rattle.auction_rows.specs.Book.{Book}
 use Rattle.auction_rows.specs.History.{GoOn, IsBook}
 use Rattle.item_shards.specs.declared.serial.SerialAuction.{SerialAuction}
 use Rattle.item_shards.specs.Counting.{stored_by, worker_of}

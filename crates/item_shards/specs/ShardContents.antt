@@ -1,7 +1,8 @@
 -- A shard by its contents.
 use Rattle.std.specs.Prelude.{ℕ, ◌≡◌, ◌==◌, ◌/◌, if◌then◌else◌, Bool, false, ◌||◌, List, [], slice_get, Option, is_some, IsTrue, MatchOption}
 use Rattle.indexmap.specs.IndexMap.{IndexMap, get}
-use Rattle.auction_rows.specs.Types.{Opening, ItemId, Object, Item, User, Category}
+use Rattle.auction_rows.specs.declared.{values.Opening.Opening, requests.ItemId.ItemId, requests.Object.Object}
+use Rattle.auction_rows.specs.declared.requests.Object.TheVariants.{Item, User, Category}
 use Rattle.auction_rows.specs.Book.{Book, same_item}
 use Rattle.auction_rows.specs.Footprint.{is_hot}
 use Rattle.auction_rows.specs.Requests.{shard_of}

@@ -1,7 +1,7 @@
 -- What a look showed: of an item its facts, and how many of it were left, if it was stored; of an item, its bids, a category
 -- or a user the view.
 use Rattle.std.specs.Prelude.{ℕ, Option}
-use Rattle.auction_rows.specs.Types.{ItemId, Facts as ItemFacts, Reply}
+use Rattle.auction_rows.specs.declared.{requests.ItemId.ItemId, requests.Facts.Facts as ItemFacts, replies.Reply.Reply}
 
 pub data Shown : Type 0 where
   Nothing : Shown

@@ -1,6 +1,7 @@
 -- What contents stand for.
 use Rattle.std.specs.Prelude.{ℕ, ◌≡◌, false, List}
-use Rattle.auction_rows.specs.Types.{Object, Book}
+use Rattle.auction_rows.specs.declared.requests.Object.{Object}
+use Rattle.auction_rows.specs.Book.{Book}
 use Rattle.auction_rows.specs.Footprint.{is_hot}
 use Rattle.auction_rows.specs.Requests.{shard_of}
 use Rattle.item_shards.specs.Values.{value}

@@ -1,6 +1,7 @@
 -- What rows and requests name.
 use Rattle.std.specs.Prelude.{ℕ, ◌≡◌, ◌<◌, ◌+◌, ◌%◌, ◌/◌, All, IfSome}
-use Rattle.auction_rows.specs.Types.{ItemId, Request, ItemRow, Row, StoreItem, StoreBid, StoreComment, BuyNow, ViewItem, ViewBids, ViewCategory, ViewUser}
+use Rattle.auction_rows.specs.declared.{requests.ItemId.ItemId, requests.Request.Request, rows.ItemRow.ItemRow, rows.Row.Row}
+use Rattle.auction_rows.specs.declared.requests.Request.TheVariants.{StoreItem, StoreBid, StoreComment, BuyNow, ViewItem, ViewBids, ViewCategory, ViewUser}
 use Rattle.auction_rows.specs.declared.rows.Row.TheVariants.{Item, Bid, Comment, Buy}
 use Rattle.auction_rows.specs.Requests.{users_of, categories_of, item_of}
 use Rattle.load_program.specs.declared.load.ScriptLine.{ScriptLine}

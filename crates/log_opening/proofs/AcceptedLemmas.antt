@@ -5,7 +5,8 @@ use Rattle.std.proofs.lemmas.List.{append-nil}
 use Rattle.std.specs.List.{flat_map}
 use Rattle.std.specs.Io.KnownBytes.{Appends}
 use Rattle.phase_laws.specs.Replay.{Replays}
-use Rattle.auction_rows.specs.Types.{Opening, Opened, Row, Entry, Book}
+use Rattle.auction_rows.specs.declared.{values.Opening.Opening, requests.Opened.Opened, rows.Row.Row, rows.Entry.Entry}
+use Rattle.auction_rows.specs.Book.{Book}
 use Rattle.auction_rows.specs.History.{ReplaysFrom, book_after, rows_of}
 use Rattle.auction_rows.proofs.HistoryLemmas.{book_after-replays}
 use Rattle.item_shards.specs.OpeningRows.{AreRows, IsRow, opening_rows, with_opened}

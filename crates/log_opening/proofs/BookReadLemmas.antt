@@ -5,7 +5,8 @@ use Rattle.std.proofs.lemmas.List.{append-nil}
 use Rattle.std.specs.List.{AllByRecursion, range_with_len}
 use Rattle.csv.specs.Reading.{default_config, records, records_from, strip_bom}
 use Rattle.csv.specs.Machine.{next_record}
-use Rattle.auction_rows.specs.Types.{Row, Book}
+use Rattle.auction_rows.specs.declared.rows.Row.{Row}
+use Rattle.auction_rows.specs.Book.{Book}
 use Rattle.auction_rows.specs.declared.rows.Row.TheVariants.{Item, Bid, Comment, Buy}
 use Rattle.item_shards.specs.OpeningRows.{opened_of}
 use Rattle.auction_text.specs.Replies.{lines}

@@ -1,7 +1,8 @@
 -- What a prefix of a log opens is the first rows of its book.
 use Rattle.std.proofs.Common.{arith, All, ◌≡◌, ◌≤◌, ◌∙◌, [], ℕ, List, Some, length, take, sym, ap, subst}
 use Rattle.std.proofs.lemmas.List.Elements.{recursion_from_All}
-use Rattle.auction_rows.specs.Types.{Opening, Book}
+use Rattle.auction_rows.specs.declared.values.Opening.{Opening}
+use Rattle.auction_rows.specs.Book.{Book}
 use Rattle.auction_rows.specs.History.{IsBook}
 use Rattle.auction_text.specs.Replies.{lines}
 use Rattle.auction_text.specs.RowLines.{row_line, rows_text}

@@ -9,7 +9,7 @@ use Rattle.std.proofs.lemmas.List.{get_or_append_left, get_or-append-add, length
 use Rattle.std.proofs.lemmas.List.Elements.{All-append, All-from_recursion}
 use Rattle.std.proofs.lemmas.List.Sums.{count_by-le-length, fold_push}
 use Rattle.phase_laws.proofs.ReplayLemmas.{replays_append}
-use Rattle.auction_rows.specs.Types.{Opening, Opened, Refusal, Row}
+use Rattle.auction_rows.specs.declared.{values.Opening.Opening, requests.Opened.Opened, replies.Refusal.Refusal, rows.Row.Row}
 use Rattle.auction_rows.specs.Book.{Book, worker_of}
 use Rattle.auction_rows.specs.History.{IsBook}
 use Rattle.auction_rows.specs.Refusals.{refusal}

@@ -7,7 +7,7 @@ use Rattle.std.proofs.lemmas.Grind.{common_steps}
 use Rattle.std.proofs.lemmas.List.{append-nil, get_or-append-add, get_or_append_left, length-append, length-take-le, take_all}
 use Rattle.std.proofs.lemmas.List.Elements.{All-append, All-from_recursion, recursion_from_All}
 use Rattle.csv.proofs.WriteFacts.{appends-more, appends-none}
-use Rattle.auction_rows.specs.Types.{Opening, Opened}
+use Rattle.auction_rows.specs.declared.{values.Opening.Opening, requests.Opened.Opened}
 use Rattle.auction_rows.specs.Book.{Book, worker_of}
 use Rattle.auction_rows.specs.History.{IsBook}
 use Rattle.phase_floor.specs.Adding.{IsSameAuction, IsStartOf}

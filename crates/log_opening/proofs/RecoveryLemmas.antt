@@ -6,7 +6,8 @@ use Rattle.std.proofs.Math.Seq.{take-append-add}
 use Rattle.std.proofs.lemmas.List.{append-nil, get_or-take}
 use Rattle.std.proofs.lemmas.List.Elements.{All-from_recursion, recursion_from_All}
 use Rattle.std.specs.List.{AllByRecursion}
-use Rattle.auction_rows.specs.Types.{Opening, Row, Book}
+use Rattle.auction_rows.specs.declared.{values.Opening.Opening, rows.Row.Row}
+use Rattle.auction_rows.specs.Book.{Book}
 use Rattle.auction_rows.specs.History.{GoOn, IsBook, after_entry, commit_of}
 use Rattle.item_shards.specs.Counting.{worker_of}
 use Rattle.item_shards.proofs.OpeningBookLemmas.{opened_again}

@@ -13,7 +13,7 @@ use Rattle.csv.specs.Machine.{next_record}
 use Rattle.csv.specs.Reading.{default_config, strip_bom}
 use Rattle.csv.specs.Records.{field_at}
 use Rattle.csv.specs.declared.parser.State.TheVariants as st
-use Rattle.auction_rows.specs.Types.{Stars, Request, ItemRow, BidRow, CommentRow, BuyRow, Row}
+use Rattle.auction_rows.specs.declared.{values.Stars.Stars, requests.Request.Request, rows.ItemRow.ItemRow, rows.BidRow.BidRow, rows.CommentRow.CommentRow, rows.BuyRow.BuyRow, rows.Row.Row}
 use Rattle.auction_rows.specs.declared.rows.Row.TheVariants.{Item, Bid, Comment, Buy}
 use Rattle.auction_rows.proofs.StarsLemmas.{stars_found}
 use Rattle.auction_rows.specs.Name.{IsName}

@@ -1,7 +1,8 @@
 -- What the text of a log opens, and why it is refused.
 use Rattle.std.specs.Prelude.{◌≡◌, ◌≤◌, ◌<◌, ◌+◌, ◌++◌, ℕ, true, false, List, [], All, Option, Ok, Err, IfSome, drop, length, take}
 use Rattle.std.specs.Io.KnownBytes.{Appends}
-use Rattle.auction_rows.specs.Types.{Opening, Book}
+use Rattle.auction_rows.specs.declared.values.Opening.{Opening}
+use Rattle.auction_rows.specs.Book.{Book}
 use Rattle.auction_rows.specs.History.{IsBook}
 use Rattle.phase_floor.specs.Adding.{IsStartOf}
 use Rattle.phase_floor.specs.declared.adding.AddFault.{AddFault}

@@ -2,7 +2,8 @@
 use Rattle.std.specs.Prelude.{◌≡◌, ◌≢◌, ◌≤◌, ◌<◌, ◌+◌, ◌^◌, ◌++◌, ℕ, true, List, [], ◌∷◌, All, Option, Some, fold, length, slice_index, take}
 use Rattle.std.specs.Io.KnownBytes.{Appends}
 use Rattle.phase_laws.specs.Replay.{Replays}
-use Rattle.auction_rows.specs.Types.{Opening, Opened, Book}
+use Rattle.auction_rows.specs.declared.{values.Opening.Opening, requests.Opened.Opened}
+use Rattle.auction_rows.specs.Book.{Book}
 use Rattle.auction_rows.specs.Refusals.{refusal}
 use Rattle.auction_rows.specs.Requests.{is_view}
 use Rattle.item_shards.specs.OpeningRows.{IsRow, rows_by, with_opened}

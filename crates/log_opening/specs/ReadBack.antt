@@ -2,7 +2,7 @@
 use Rattle.std.specs.Prelude.{◌<◌, ◌≤◌, ◌^◌, ℕ, true, [], map}
 use Rattle.std.specs.List.{range_with_len}
 use Rattle.auction_rows.specs.declared.limits.TheConstants.{MOST_QUANTITY}
-use Rattle.auction_rows.specs.Types.{ItemRow, BidRow, CommentRow, BuyRow, Row}
+use Rattle.auction_rows.specs.declared.rows.{ItemRow.ItemRow, BidRow.BidRow, CommentRow.CommentRow, BuyRow.BuyRow, Row.Row}
 use Rattle.auction_rows.specs.declared.rows.Row.TheVariants.{Item, Bid, Comment, Buy}
 use Rattle.auction_rows.specs.Book.{Book, worker_of}
 use Rattle.auction_rows.specs.History.{commit_of}

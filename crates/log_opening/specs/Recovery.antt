@@ -1,6 +1,7 @@
 -- What a log opens of which a crash left a prefix.
 use Rattle.std.specs.Prelude.{◌≡◌, ◌≤◌, ℕ, [], Ok, length, take}
-use Rattle.auction_rows.specs.Types.{Opening, Book}
+use Rattle.auction_rows.specs.declared.values.Opening.{Opening}
+use Rattle.auction_rows.specs.Book.{Book}
 use Rattle.item_shards.specs.OpeningRows.{AreRows, opening_rows}
 use Rattle.auction_text.specs.RowLines.{rows_text}
 use Rattle.auction_text.specs.Scripts.{input_of}

@@ -2,7 +2,10 @@
 ghost use Rattle.std.specs.Prelude.{◌≡◌, ◌≤◌, ◌<◌, ◌^◌, ◌++◌, All, ℕ, List, [], Ok, Option, Some, drop, length, take, true};
 ghost use Rattle.std.specs.Io.KnownBytes.{Appends};
 ghost use Rattle.auction_rows.specs.declared.limits.TheConstants.{MOST_WORKERS};
-ghost use Rattle.auction_rows.specs.Types.{Opening, Opened, Entry as Commit, Book};
+ghost use Rattle.auction_rows.specs.declared.values.Opening.{Opening};
+ghost use Rattle.auction_rows.specs.declared.requests.Opened.{Opened};
+ghost use Rattle.auction_rows.specs.declared.rows.Entry.{Entry as Commit};
+ghost use Rattle.auction_rows.specs.Book.{Book};
 ghost use Rattle.auction_rows.specs.History.{IsBook};
 ghost use Rattle.item_shards.specs.Counting.{worker_of};
 ghost use Rattle.item_shards.specs.OpeningRows.{AreRows, opening_rows, rows_by};

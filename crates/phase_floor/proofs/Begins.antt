@@ -3,7 +3,8 @@ use Rattle.std.proofs.Common.{◌≡◌, ◌+◌, ◌<◌, ◌≤◌, ℕ, zero,
 use Rattle.std.specs.Global.{Vec}
 use Rattle.std.proofs.lemmas.Bool.{false≢true}
 use Rattle.std.proofs.lemmas.List.{get_or-map}
-use Rattle.auction_rows.specs.Types.{Opening, Facts, Object, Item}
+use Rattle.auction_rows.specs.declared.{values.Opening.Opening, requests.Facts.Facts, requests.Object.Object}
+use Rattle.auction_rows.specs.declared.requests.Object.TheVariants.{Item}
 use Rattle.auction_rows.specs.Footprint.{is_hot}
 use Rattle.shard_boxes.specs.declared.limits.TheConstants.{MOST_COMMITS}
 use Rattle.shard_boxes.specs.Keys.{KeyState, SeatState, no_key, IsNewKey, AreNewKeys}

@@ -3,7 +3,9 @@ use Rattle.std.proofs.Common.{◌≡◌, ℕ, ◌||◌, Bool, true, false, List,
 use Rattle.std.specs.Prelude.{IsSome, IsTrue, is_some}
 use Rattle.std.specs.List.{AllByRecursion}
 use Rattle.std.proofs.lemmas.Bool.{false≢true}
-use Rattle.auction_rows.specs.Types.{Opening, ItemId, Facts, Object, Book, Item}
+use Rattle.auction_rows.specs.declared.{values.Opening.Opening, requests.ItemId.ItemId, requests.Facts.Facts, requests.Object.Object}
+use Rattle.auction_rows.specs.declared.requests.Object.TheVariants.{Item}
+use Rattle.auction_rows.specs.Book.{Book}
 use Rattle.auction_rows.specs.Footprint.{is_hot}
 use Rattle.auction_rows.specs.Requests.{same_object}
 use Rattle.auction_rows.proofs.RequestLemmas.{same_object-true}

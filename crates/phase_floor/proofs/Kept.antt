@@ -4,7 +4,9 @@ use Rattle.std.proofs.lemmas.Bool.{eqb-true}
 use Rattle.std.proofs.lemmas.Int.{ints}
 use Rattle.std.proofs.lemmas.List.{length-map}
 use Rattle.std.proofs.Math.ListN.{get_or-map}
-use Rattle.auction_rows.specs.Types.{Opening, Object, Entry, Book, Item, User}
+use Rattle.auction_rows.specs.declared.{values.Opening.Opening, requests.Object.Object, rows.Entry.Entry}
+use Rattle.auction_rows.specs.declared.requests.Object.TheVariants.{Item, User}
+use Rattle.auction_rows.specs.Book.{Book}
 use Rattle.auction_rows.specs.History.{book_after}
 use Rattle.auction_rows.specs.Requests.{shard_of}
 use Rattle.item_shards.specs.declared.shard.Shard.{Shard}

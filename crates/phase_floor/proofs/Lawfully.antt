@@ -2,7 +2,7 @@
 use Rattle.std.proofs.Common.{◌≡◌, List, map, fold, length, refl, sym, ap, subst, ◌∙◌}
 use Rattle.std.proofs.Math.ListN.{get_or-map}
 use Rattle.std.proofs.lemmas.List.{length-map}
-use Rattle.auction_rows.specs.Types.{Object, Entry}
+use Rattle.auction_rows.specs.declared.{requests.Object.Object, rows.Entry.Entry}
 use Rattle.auction_rows.specs.Requests.{shard_of}
 use Rattle.shard_boxes.specs.States.{ShardState, state_at, no_shard}
 use Rattle.phase_transactions.specs.Workers.{WorkerState}

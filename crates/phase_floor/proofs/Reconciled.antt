@@ -6,7 +6,9 @@ use Rattle.std.proofs.lemmas.List.Elements.{All-from_recursion, recursion_from_A
 use Rattle.std.proofs.lemmas.List.Sorted.{All-permutation, IsPermutation-refl, IsPermutation-append, IsPermutation-reverse}
 use Rattle.phase_laws.specs.Replay.{SawInTurn}
 use Rattle.phase_laws.proofs.ListLemmas.{all-append, every_from}
-use Rattle.auction_rows.specs.Types.{Opening, Facts, Object, Entry, Book, Item, User, Category}
+use Rattle.auction_rows.specs.declared.{values.Opening.Opening, requests.Facts.Facts, requests.Object.Object, rows.Entry.Entry}
+use Rattle.auction_rows.specs.declared.requests.Object.TheVariants.{Item, User, Category}
+use Rattle.auction_rows.specs.Book.{Book}
 use Rattle.auction_rows.specs.History.{book_after}
 use Rattle.item_shards.specs.declared.shard.slices.Slice.{Slice}
 use Rattle.shard_boxes.specs.States.{ShardState, state_at}

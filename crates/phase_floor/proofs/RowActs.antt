@@ -1,7 +1,8 @@
 -- Shards on which a row is written, or can be.
 use Rattle.std.proofs.Common.{◌≡◌, ℕ, ◌<◌, ◌^◌, true, List, [], ◌∷◌, ◌++◌, length, refl, sym, ap, ◌∙◌, subst, arith}
 use Rattle.std.specs.List.{AllByRecursion}
-use Rattle.auction_rows.specs.Types.{Opening, Row, Book}
+use Rattle.auction_rows.specs.declared.{values.Opening.Opening, rows.Row.Row}
+use Rattle.auction_rows.specs.Book.{Book}
 use Rattle.auction_rows.specs.History.{GoOn, commit_of}
 use Rattle.auction_rows.specs.Requests.{shard_of}
 use Rattle.auction_rows.proofs.HistoryLemmas.{own_row}

@@ -4,7 +4,8 @@ use Rattle.std.specs.Prelude.{IsSome, is_some, option_map}
 use Rattle.std.proofs.Math.Nat.{lt_of_not-le}
 use Rattle.std.proofs.lemmas.Bool.{false≢true}
 use Rattle.std.proofs.lemmas.Nat.{mod_below}
-use Rattle.auction_rows.specs.Types.{Opening, ItemId, Facts, Item}
+use Rattle.auction_rows.specs.declared.{values.Opening.Opening, requests.ItemId.ItemId, requests.Facts.Facts}
+use Rattle.auction_rows.specs.declared.requests.Object.TheVariants.{Item}
 use Rattle.auction_rows.specs.Book.{Book, facts_of, bought}
 use Rattle.auction_rows.specs.History.{IsBook}
 use Rattle.auction_rows.specs.Requests.{number_of, shard_of}

@@ -1,6 +1,6 @@
 -- Rows that are added to a state.
 use Rattle.std.specs.Prelude.{◌≡◌, ◌<◌, ◌≤◌, ℕ, List, [], ◌∷◌, length, slice_set}
-use Rattle.auction_rows.specs.Types.{Opened, Row}
+use Rattle.auction_rows.specs.declared.{requests.Opened.Opened, rows.Row.Row}
 use Rattle.auction_rows.specs.Book.{Book, worker_of}
 use Rattle.auction_rows.specs.History.{GoOn}
 use Rattle.worker_slices.specs.declared.counters.Counters.{Counters}

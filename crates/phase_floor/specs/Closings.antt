@@ -2,7 +2,8 @@
 use Rattle.std.specs.Prelude.{◌≡◌, ℕ, ◌+◌, ◌<◌, ◌≤◌, Bool, true, false, List, [], map, fold, length, reverse}
 use Rattle.std.specs.List.{AllByRecursion}
 use Rattle.std.specs.List.Sorted.{IsPermutation}
-use Rattle.auction_rows.specs.Types.{Object, Entry, Book}
+use Rattle.auction_rows.specs.declared.{requests.Object.Object, rows.Entry.Entry}
+use Rattle.auction_rows.specs.Book.{Book}
 use Rattle.auction_rows.specs.History.{ReplaysFrom, book_after}
 use Rattle.item_shards.specs.declared.shard.slices.Slice.{Slice}
 use Rattle.shard_boxes.specs.declared.limits.TheConstants.{MOST_COMMITS}

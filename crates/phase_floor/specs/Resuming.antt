@@ -1,6 +1,6 @@
 -- The state that an auction is resumed with.
 use Rattle.std.specs.Prelude.{◌≡◌, ℕ, ◌+◌, ◌<◌, List, length}
-use Rattle.auction_rows.specs.Types.{Opening, Row}
+use Rattle.auction_rows.specs.declared.{values.Opening.Opening, rows.Row.Row}
 use Rattle.auction_rows.specs.declared.rows.Row.TheVariants as row
 use Rattle.auction_rows.specs.Book.{Book, items_stored, bids_stored, comments_stored, buys_stored}
 use Rattle.item_shards.specs.OpeningRows.{rows_by}

@@ -1,7 +1,8 @@
 //! How a row is added to an auction between two phases. The auction keeps no rows: only an item
 //! takes memory.
 ghost use Rattle.std.specs.Prelude.{◌≡◌, ◌<◌, ◌≤◌, ◌++◌, ◌∷◌, [], ◌↔◌, None, Some, length, IfOk, OnOk, OnErr, IsErrOf, IsTrue, MatchOption, true, false};
-ghost use Rattle.auction_rows.specs.Types.{Refusal, Book};
+ghost use Rattle.auction_rows.specs.declared.replies.Refusal.{Refusal};
+ghost use Rattle.auction_rows.specs.Book.{Book};
 ghost use Rattle.auction_rows.specs.History.{GoOn};
 ghost use Rattle.auction_rows.specs.Refusals.{refusal};
 ghost use Rattle.auction_rows.specs.Replies.{answer, reply, row_of};

@@ -7,7 +7,8 @@ use Rattle.std.proofs.lemmas.List.Sums.{fold-append}
 use Rattle.phase_laws.proofs.OrderLemmas.{all_push}
 use Rattle.phase_laws.proofs.ReplayLemmas.{saw_push}
 use Rattle.phase_laws.proofs.NumberLemmas.{numbered_push, last-push}
-use Rattle.auction_rows.specs.Types.{Facts, Object, Row, Entry, Book}
+use Rattle.auction_rows.specs.declared.{requests.Facts.Facts, requests.Object.Object, rows.Row.Row, rows.Entry.Entry}
+use Rattle.auction_rows.specs.Book.{Book}
 use Rattle.auction_rows.specs.History.{row_of_entry, rows_of}
 use Rattle.item_shards.specs.Writing.{writes_if}
 use Rattle.worker_slices.specs.Slicing.{slices_of, slices_after_acts}

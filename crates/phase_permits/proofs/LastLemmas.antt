@@ -4,7 +4,7 @@ use Rattle.std.specs.Prelude.{option_map, slice_get}
 use Rattle.std.proofs.lemmas.List.{length-append}
 use Rattle.std.proofs.lemmas.Option.{same_Some, slice_get_read}
 use Rattle.std.proofs.Math.Seq.{get_or-append_seam}
-use Rattle.auction_rows.specs.Types.{Request, Reply, Entry}
+use Rattle.auction_rows.specs.declared.{requests.Request.Request, replies.Reply.Reply, rows.Entry.Entry}
 use Rattle.worker_journals.specs.Journals.{commit_in}
 use Rattle.shard_boxes.specs.States.{ShardState}
 use Rattle.phase_transactions.specs.Performing.{HasCommitted}

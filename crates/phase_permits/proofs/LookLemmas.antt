@@ -5,7 +5,8 @@ use Rattle.std.specs.List.{list_any}
 use Rattle.std.specs.Option.{option_map_or}
 use Rattle.std.proofs.lemmas.Bool.{or_left}
 use Rattle.phase_laws.specs.Replay.{SawInTurn}
-use Rattle.auction_rows.specs.Types.{Object, Refusal, Book}
+use Rattle.auction_rows.specs.declared.{requests.Object.Object, replies.Refusal.Refusal}
+use Rattle.auction_rows.specs.Book.{Book}
 use Rattle.auction_rows.specs.Footprint.{is_hot, objects_of}
 use Rattle.auction_rows.specs.History.{row_of_entry}
 use Rattle.auction_rows.specs.Refusals.{number_refusal}

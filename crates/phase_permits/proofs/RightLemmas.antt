@@ -4,7 +4,10 @@ use Rattle.std.specs.List.{list_any}
 use Rattle.std.specs.Option.{option_or}
 use Rattle.std.proofs.lemmas.Option.{same_Some}
 use Rattle.std.proofs.Math.Seq.{take-append_seam}
-use Rattle.auction_rows.specs.Types.{Opening, Stars, ItemId, Facts, Object, Request, Refusal, Reply, Item, User, Category, StoreItem, StoreBid, StoreComment, BuyNow, ViewItem, ViewBids, ViewCategory, ViewUser, ItemStored, BidStored, CommentStored, Bought, Refused}
+use Rattle.auction_rows.specs.declared.{values.Opening.Opening, values.Stars.Stars, requests.ItemId.ItemId, requests.Facts.Facts, requests.Object.Object, requests.Request.Request, replies.Refusal.Refusal, replies.Reply.Reply}
+use Rattle.auction_rows.specs.declared.requests.Object.TheVariants.{Item, User, Category}
+use Rattle.auction_rows.specs.declared.requests.Request.TheVariants.{StoreItem, StoreBid, StoreComment, BuyNow, ViewItem, ViewBids, ViewCategory, ViewUser}
+use Rattle.auction_rows.specs.declared.replies.Reply.TheVariants.{ItemStored, BidStored, CommentStored, Bought, Refused}
 use Rattle.auction_rows.specs.Book.{Book, facts_of, left}
 use Rattle.auction_rows.specs.Footprint.{is_hot, objects_of}
 use Rattle.auction_rows.specs.History.{IsRight, row_of_entry}

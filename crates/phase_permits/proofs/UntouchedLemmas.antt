@@ -3,7 +3,9 @@ use Rattle.std.proofs.Common.{◌≡◌, ℕ, ◌==◌, not, cond, List, [], len
 use Rattle.std.specs.List.{list_any}
 use Rattle.std.specs.Option.{option_or}
 use Rattle.std.proofs.lemmas.List.{ext_get_or}
-use Rattle.auction_rows.specs.Types.{Request, Refusal, Reply, StoreItem, Refused}
+use Rattle.auction_rows.specs.declared.{requests.Request.Request, replies.Refusal.Refusal, replies.Reply.Reply}
+use Rattle.auction_rows.specs.declared.requests.Request.TheVariants.{StoreItem}
+use Rattle.auction_rows.specs.declared.replies.Reply.TheVariants.{Refused}
 use Rattle.auction_rows.specs.Footprint.{is_hot, objects_of, footprint}
 use Rattle.auction_rows.specs.Refusals.{number_refusal}
 use Rattle.auction_rows.specs.Requests.{shard_of}

@@ -1,6 +1,7 @@
 -- What a commit saw, and the books for which its reply is the model's.
 use Rattle.std.specs.Prelude.{◌≡◌, ◌-◌, ℕ, true, List, length, take, slice_get, Option, Some, ⊤}
-use Rattle.auction_rows.specs.Types.{ItemId, Facts, Object, Request, Reply, Item}
+use Rattle.auction_rows.specs.declared.{requests.ItemId.ItemId, requests.Facts.Facts, requests.Object.Object, requests.Request.Request, replies.Reply.Reply}
+use Rattle.auction_rows.specs.declared.requests.Object.TheVariants.{Item}
 use Rattle.auction_rows.specs.Book.{Book, items_stored, bids_stored, comments_stored, buys_stored}
 use Rattle.auction_rows.specs.Footprint.{is_hot}
 use Rattle.auction_rows.specs.Replies.{reply}

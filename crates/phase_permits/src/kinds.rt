@@ -119,7 +119,8 @@ impl<N: PhaseName> Permit<N, JoinedPhase> {
 }
 
 impl<N: PhaseName> Permit<N, SplitPhase> {
-    ghost use Rattle.auction_rows.specs.Types.{Item, User, StoreBid, StoreComment};
+    ghost use Rattle.auction_rows.specs.declared.requests.Object.TheVariants.{Item, User};
+    ghost use Rattle.auction_rows.specs.declared.requests.Request.TheVariants.{StoreBid, StoreComment};
     ghost use Rattle.phase_transactions.specs.declared.done.Done.TheVariants.{Stashed};
     ghost use Rattle.worker_slices.specs.Homes.{IsHotStore};
     ghost use Rattle.phase_transactions.specs.Performing.{IsUntouched, HasCommitted, HasDealtWith, HasFailed, HaveOpening};

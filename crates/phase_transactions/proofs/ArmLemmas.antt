@@ -1,6 +1,8 @@
 -- What each kind of store does is good on a shard that it took, by what it was answered.
 use Rattle.std.proofs.Common.{◌≡◌, ℕ, Option, Some, None, MatchOption, option_map, refl, subst}
-use Rattle.auction_rows.specs.Types.{Stars, ItemId, BidId, BuyId, Facts, BidEntry, Request, Refusal, Reply, StoreBid, StoreComment, BuyNow, BidStored, Bought, Refused}
+use Rattle.auction_rows.specs.declared.{values.Stars.Stars, requests.ItemId.ItemId, requests.BidId.BidId, requests.BuyId.BuyId, requests.Facts.Facts, requests.BidEntry.BidEntry, requests.Request.Request, replies.Refusal.Refusal, replies.Reply.Reply}
+use Rattle.auction_rows.specs.declared.requests.Request.TheVariants.{StoreBid, StoreComment, BuyNow}
+use Rattle.auction_rows.specs.declared.replies.Reply.TheVariants.{BidStored, Bought, Refused}
 use Rattle.item_shards.specs.Events.{Bid, Comment, Buy, Look}
 use Rattle.item_shards.specs.Shown as shown
 use Rattle.shard_boxes.specs.Helds.{HeldState}

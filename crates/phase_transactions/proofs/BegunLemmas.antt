@@ -4,7 +4,10 @@ use Rattle.std.specs.Option.{option_or}
 use Rattle.std.specs.List.{AllByRecursion}
 use Rattle.std.proofs.lemmas.Bool.{true≢false}
 use Rattle.phase_laws.specs.Numbers.{greatest_by}
-use Rattle.auction_rows.specs.Types.{ItemId, Facts, Object, Request, Refusal, Reply, Item, StoreItem, StoreBid, StoreComment, BuyNow, ItemStored, Refused}
+use Rattle.auction_rows.specs.declared.{requests.ItemId.ItemId, requests.Facts.Facts, requests.Object.Object, requests.Request.Request, replies.Refusal.Refusal, replies.Reply.Reply}
+use Rattle.auction_rows.specs.declared.requests.Object.TheVariants.{Item}
+use Rattle.auction_rows.specs.declared.requests.Request.TheVariants.{StoreItem, StoreBid, StoreComment, BuyNow}
+use Rattle.auction_rows.specs.declared.replies.Reply.TheVariants.{ItemStored, Refused}
 use Rattle.auction_rows.specs.Footprint.{is_hot, objects_of as objects_named}
 use Rattle.auction_rows.specs.Refusals.{number_refusal}
 use Rattle.auction_rows.specs.Requests.{item_of, is_view}

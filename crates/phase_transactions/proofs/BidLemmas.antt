@@ -2,7 +2,9 @@
 use Rattle.std.proofs.Common.{◌≡◌, ◌==◌, ◌||◌, ℕ, ◌+◌, ◌<◌, ◌^◌, Bool, true, false, cond, List, [], ◌∷◌, length, map, Option, Some, None, IsSome, refl, sym, ap, ◌∙◌, arith, eq-eqb}
 use Rattle.std.proofs.lemmas.List.{length-map}
 use Rattle.std.proofs.lemmas.Option.{same_Some}
-use Rattle.auction_rows.specs.Types.{ItemId, BidId, Facts, BidEntry, Object, Request, Refusal, Reply, Item, BidStored}
+use Rattle.auction_rows.specs.declared.{requests.ItemId.ItemId, requests.BidId.BidId, requests.Facts.Facts, requests.BidEntry.BidEntry, requests.Object.Object, requests.Request.Request, replies.Refusal.Refusal, replies.Reply.Reply}
+use Rattle.auction_rows.specs.declared.requests.Object.TheVariants.{Item}
+use Rattle.auction_rows.specs.declared.replies.Reply.TheVariants.{BidStored}
 use Rattle.item_shards.specs.Answering.{bid_request, refusal_with}
 use Rattle.item_shards.specs.Events.{Event}
 use Rattle.item_shards.specs.Events as event

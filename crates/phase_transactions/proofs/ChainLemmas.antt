@@ -2,7 +2,8 @@
 use Rattle.std.proofs.Common.{◌≡◌, ℕ, suc, max, ◌<◌, ◌≤◌, ◌==◌, not, true, false, cond, if◌then◌else◌, List, [], ◌∷◌, length, map, filter, Option, None, is_some, refl, sym, ap, subst, ◌∙◌}
 use Rattle.std.specs.List.{AllByRecursion, list_any}
 use Rattle.phase_laws.specs.Numbers.{greatest_by}
-use Rattle.auction_rows.specs.Types.{Facts, Request, Reply, ItemStored}
+use Rattle.auction_rows.specs.declared.{requests.Facts.Facts, requests.Request.Request, replies.Reply.Reply}
+use Rattle.auction_rows.specs.declared.replies.Reply.TheVariants.{ItemStored}
 use Rattle.auction_rows.specs.Footprint.{is_hot, objects_of as objects_named}
 use Rattle.auction_rows.specs.Refusals.{number_refusal}
 use Rattle.auction_rows.specs.Requests.{shard_of}

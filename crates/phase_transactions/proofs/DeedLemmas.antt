@@ -1,7 +1,7 @@
 -- The acts that a request owes on a shard are those whose objects have their home there.
 use Rattle.std.proofs.Common.{◌≡◌, ℕ, ◌==◌, ◌&&◌, not, Bool, false, cond, List, [], ◌∷◌, filter, Option, Some, refl, sym, ap, ◌∙◌}
 use Rattle.std.specs.Option.{option_map_or}
-use Rattle.auction_rows.specs.Types.{Facts, Object, Reply}
+use Rattle.auction_rows.specs.declared.{requests.Facts.Facts, requests.Object.Object, replies.Reply.Reply}
 use Rattle.auction_rows.specs.Requests.{shard_of}
 use Rattle.item_shards.specs.declared.shard.acts.Act.{Act}
 use Rattle.item_shards.specs.declared.shard.acts.Act.TheVariants.{AddItem, ListItem, Bid, Comment, Buy, Look}

@@ -4,7 +4,10 @@ use Rattle.std.specs.Prelude.{nat_le, nat_lt}
 use Rattle.std.specs.Option.{option_or}
 use Rattle.std.proofs.lemmas.Bool.{or_parts, leb-false, ltb-false}
 use Rattle.std.proofs.lemmas.Option.{same_Some}
-use Rattle.auction_rows.specs.Types.{Opening, Stars, ItemId, Facts, BidEntry, Object, Refusal, Item, User, StoreBid, StoreComment, BuyNow, NoSuchItem, Closed, NotEnough}
+use Rattle.auction_rows.specs.declared.{values.Opening.Opening, values.Stars.Stars, requests.ItemId.ItemId, requests.Facts.Facts, requests.BidEntry.BidEntry, requests.Object.Object, replies.Refusal.Refusal}
+use Rattle.auction_rows.specs.declared.requests.Object.TheVariants.{Item, User}
+use Rattle.auction_rows.specs.declared.requests.Request.TheVariants.{StoreBid, StoreComment, BuyNow}
+use Rattle.auction_rows.specs.declared.replies.Refusal.TheVariants.{NoSuchItem, Closed, NotEnough}
 use Rattle.auction_rows.specs.Refusals.{number_refusal}
 use Rattle.auction_rows.specs.Requests.{shard_of}
 use Rattle.auction_rows.proofs.RefusalLemmas.{in_range}

@@ -2,7 +2,8 @@
 use Rattle.std.proofs.Common.{◌≡◌, ◌≢◌, ℕ, ◌==◌, ◌||◌, not, Bool, true, false, cond, if◌then◌else◌, List, [], ◌∷◌, map, filter, Some, None, is_some, refl, sym, ap, ◌∙◌, ◌⊎◌, inl, inr}
 use Rattle.std.specs.List.{list_any}
 use Rattle.std.proofs.lemmas.Bool.Decides.{eqb_tells}
-use Rattle.auction_rows.specs.Types.{Object, Request, ItemStored}
+use Rattle.auction_rows.specs.declared.requests.{Object.Object, Request.Request}
+use Rattle.auction_rows.specs.declared.replies.Reply.TheVariants.{ItemStored}
 use Rattle.auction_rows.specs.Requests.{shard_of}
 use Rattle.auction_rows.specs.Footprint.{is_hot, objects_of as objects_named}
 use Rattle.auction_rows.specs.Refusals.{number_refusal}

@@ -1,7 +1,9 @@
 -- A commit keeps a worker lawful.
 use Rattle.std.proofs.Common.{◌≡◌, ℕ, ◌+◌, ◌-◌, ◌<◌, ◌≤◌, List, [], ◌∷◌, length, refl, sym, ap, subst, ◌∙◌, arith, length-append}
 use Rattle.phase_laws.proofs.NumberLemmas.{last-push}
-use Rattle.auction_rows.specs.Types.{Object, Request, Reply, Item, ItemStored, BidStored, CommentStored, Bought}
+use Rattle.auction_rows.specs.declared.{requests.Object.Object, requests.Request.Request, replies.Reply.Reply}
+use Rattle.auction_rows.specs.declared.requests.Object.TheVariants.{Item}
+use Rattle.auction_rows.specs.declared.replies.Reply.TheVariants.{ItemStored, BidStored, CommentStored, Bought}
 use Rattle.auction_rows.specs.Footprint.{is_hot}
 use Rattle.item_shards.specs.Events.{Event}
 use Rattle.phase_laws.specs.Numbers.{last_by}

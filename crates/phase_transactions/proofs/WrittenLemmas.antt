@@ -12,7 +12,7 @@ use Rattle.item_shards.specs.Events.{Event}
 use Rattle.item_shards.specs.Events as event
 use Rattle.item_shards.specs.Shown as shown
 use Rattle.phase_laws.specs.Replay.{SawInTurn}
-use Rattle.auction_rows.specs.Types.{Facts, Reply}
+use Rattle.auction_rows.specs.declared.{requests.Facts.Facts, replies.Reply.Reply}
 use Rattle.item_shards.specs.Acting.{CanActIn}
 use Rattle.item_shards.specs.Contents.{Contents, after_act}
 use Rattle.item_shards.specs.Looking.{event_at, events_of}

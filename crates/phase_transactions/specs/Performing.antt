@@ -1,7 +1,9 @@
 -- What becomes of a request.
 use Rattle.std.specs.Prelude.{◌≡◌, ℕ, suc, max, ◌<◌, ◌≤◌, Bool, true, false, List, [], length, Some, None, Result, Ok, Err, ⊤, slice_get}
 use Rattle.phase_laws.specs.Numbers.{greatest_by}
-use Rattle.auction_rows.specs.Types.{Opening, Request, Reply, Entry, StoreItem, ItemStored}
+use Rattle.auction_rows.specs.declared.{values.Opening.Opening, requests.Request.Request, replies.Reply.Reply, rows.Entry.Entry}
+use Rattle.auction_rows.specs.declared.requests.Request.TheVariants.{StoreItem}
+use Rattle.auction_rows.specs.declared.replies.Reply.TheVariants.{ItemStored}
 use Rattle.auction_rows.specs.Footprint.{footprint, takes_shard}
 use Rattle.auction_rows.specs.Refusals.{number_refusal}
 use Rattle.item_shards.specs.CommitNumbers.{last_number}

@@ -2,7 +2,10 @@
 use Rattle.std.specs.Prelude.{◌≡◌, ℕ, ◌==◌, Bool, false, if◌then◌else◌, List, [], ◌∷◌, map, filter, Option, Some, None, MatchOption, option_map, option_and_then, unwrap_or, ⊤}
 use Rattle.std.specs.Option.{option_or}
 use Rattle.phase_laws.specs.Numbers.{greatest_found}
-use Rattle.auction_rows.specs.Types.{Opening, ItemId, Facts, Object, Request, Refusal, Reply, Entry, Item, StoreItem, StoreBid, StoreComment, BuyNow, ViewItem, ViewBids, ViewCategory, ViewUser, ItemStored, BidStored, CommentStored, Bought, BidsSeen, Refused}
+use Rattle.auction_rows.specs.declared.{values.Opening.Opening, requests.ItemId.ItemId, requests.Facts.Facts, requests.Object.Object, requests.Request.Request, replies.Refusal.Refusal, replies.Reply.Reply, rows.Entry.Entry}
+use Rattle.auction_rows.specs.declared.requests.Object.TheVariants.{Item}
+use Rattle.auction_rows.specs.declared.requests.Request.TheVariants.{StoreItem, StoreBid, StoreComment, BuyNow, ViewItem, ViewBids, ViewCategory, ViewUser}
+use Rattle.auction_rows.specs.declared.replies.Reply.TheVariants.{ItemStored, BidStored, CommentStored, Bought, BidsSeen, Refused}
 use Rattle.auction_rows.specs.Footprint.{is_hot, footprint, takes_shard}
 pub use Rattle.auction_rows.specs.Phases.{is_put_off}
 use Rattle.auction_rows.specs.Refusals.{number_refusal, item_refusal}

@@ -1,7 +1,8 @@
 -- A worker in a phase.
 use Rattle.std.specs.Prelude.{◌≡◌, ℕ, suc, ◌+◌, ◌-◌, ◌<◌, ◌≤◌, Bool, true, false, List, [], ◌∷◌, ◌++◌, Option, None, length, option_map, slice_get, ⊤}
 use Rattle.phase_laws.specs.Numbers.{last_by}
-use Rattle.auction_rows.specs.Types.{Opening, ItemId, BidId, Object, Request, Reply, Entry, Item}
+use Rattle.auction_rows.specs.declared.{values.Opening.Opening, requests.ItemId.ItemId, requests.BidId.BidId, requests.Object.Object, requests.Request.Request, replies.Reply.Reply, rows.Entry.Entry}
+use Rattle.auction_rows.specs.declared.requests.Object.TheVariants.{Item}
 use Rattle.auction_rows.specs.Footprint.{is_hot}
 use Rattle.auction_rows.specs.Replies.{row_of}
 use Rattle.item_shards.specs.Writing.{writes_if}

@@ -1,6 +1,8 @@
 //! What a store is answered, by what it sees of the item that it needs, and what a view shows.
 ghost use Rattle.std.specs.Prelude.{◌≡◌, ℕ, None, Some, false, true};
-ghost use Rattle.auction_rows.specs.Types.{ItemId as ItemIdValue, Object as ObjectValue, ViewItem};
+ghost use Rattle.auction_rows.specs.declared.requests.ItemId.{ItemId as ItemIdValue};
+ghost use Rattle.auction_rows.specs.declared.requests.Object.{Object as ObjectValue};
+ghost use Rattle.auction_rows.specs.declared.requests.Request.TheVariants.{ViewItem};
 ghost use Rattle.auction_rows.specs.Requests.{is_view, item_of};
 ghost use Rattle.auction_rows.specs.StoreReplies.{reply_of};
 ghost use Rattle.auction_rows.specs.ItemViews.{item_told};

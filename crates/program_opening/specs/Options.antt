@@ -1,7 +1,8 @@
 -- What options say of an auction and of its run.
 use Rattle.std.specs.Prelude.{ℕ, ◌≡◌, ◌≤◌, List, length, if◌then◌else◌}
 use Rattle.auction_rows.specs.declared.limits.TheConstants.{MOST_HOT, MOST_SHARDS, MOST_WORKERS}
-use Rattle.auction_rows.specs.Types.{Policy, Opening, Entry, Book}
+use Rattle.auction_rows.specs.declared.{limits.Policy.Policy, values.Opening.Opening, rows.Entry.Entry}
+use Rattle.auction_rows.specs.Book.{Book}
 use Rattle.auction_text.specs.Replies.{history_text, replies_text}
 use Rattle.auction_text.specs.RowLines.{rows_text}
 use Rattle.phase_floor.specs.States.{JoinedState}

@@ -1,7 +1,8 @@
 -- The histories of parts are one.
 use Rattle.std.proofs.Common.{◌≡◌, ◌++◌, ◌∷◌, ◌∙◌, ◌||◌, true, false, ℕ, List, [], ap, append_assoc, append-nil, if◌then◌else◌, inl, inr, refl, subst, sym}
 use Rattle.std.proofs.lemmas.Grind.{flat_map-append}
-use Rattle.auction_rows.specs.Types.{Opening, Entry, Book}
+use Rattle.auction_rows.specs.declared.{values.Opening.Opening, rows.Entry.Entry}
+use Rattle.auction_rows.specs.Book.{Book}
 use Rattle.auction_rows.specs.History.{ReplaysFrom, after_entry, book_after}
 use Rattle.auction_text.specs.Moved.{Gone, all_moved}
 use Rattle.auction_text.specs.Replies.{history_line, history_text, replies_text}

@@ -5,7 +5,8 @@ use Rattle.std.proofs.lemmas.List.{append_cancel_left}
 use Rattle.std.proofs.lemmas.List.Elements.{filter_map-append}
 use Rattle.std.proofs.lemmas.List.Sums.{sum_by-cons}
 use Rattle.std.specs.List.{AllByRecursion, cons_option, range_with_len}
-use Rattle.auction_rows.specs.Types.{Opening, Request, Opened, Entry, Book}
+use Rattle.auction_rows.specs.declared.{values.Opening.Opening, requests.Request.Request, requests.Opened.Opened, rows.Entry.Entry}
+use Rattle.auction_rows.specs.Book.{Book}
 use Rattle.auction_text.specs.LiveLines.{begun_after, line_says, lines_say, then_say}
 use Rattle.auction_text.specs.LiveParts.{HasToSay, row_said, rows_said}
 use Rattle.auction_text.specs.LiveReading.{records_said}

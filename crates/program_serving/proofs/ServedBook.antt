@@ -3,7 +3,8 @@ use Rattle.std.proofs.Common.{◌≡◌, ◌++◌, ◌∷◌, ◌∙◌, ◌⊎�
 use Rattle.std.proofs.lemmas.Option.{IfSome_then}
 use Rattle.std.specs.Io.KnownBytes.{Appends}
 use Rattle.std.specs.Result.{IsErr, IsErrAnd}
-use Rattle.auction_rows.specs.Types.{Opening, Book}
+use Rattle.auction_rows.specs.declared.values.Opening.{Opening}
+use Rattle.auction_rows.specs.Book.{Book}
 use Rattle.auction_rows.specs.History.{book_after, rows_of}
 use Rattle.auction_rows.proofs.HistoryLemmas.{book_after-replays}
 use Rattle.auction_text.specs.Moved.{Gone}

@@ -2,7 +2,8 @@
 use Rattle.std.proofs.Common.{◌≡◌, ◌≤◌, ◌++◌, ◌∙◌, ℕ, Bool, true, false, List, [], Option, None, Some, IfNone, IfSome, ap, arith, inl, inr, length, map, refl, sym, subst}
 use Rattle.std.proofs.lemmas.List.{length-map}
 use Rattle.auction_rows.specs.declared.limits.TheConstants.{MOST_WORKERS}
-use Rattle.auction_rows.specs.Types.{Opening, Request, Opened, Book}
+use Rattle.auction_rows.specs.declared.{values.Opening.Opening, requests.Request.Request, requests.Opened.Opened}
+use Rattle.auction_rows.specs.Book.{Book}
 use Rattle.auction_run.specs.Beginning.{AreShortFor}
 use Rattle.auction_run.specs.GoingOn.{AreShortOn, HasScripts}
 use Rattle.auction_text.specs.Moved.{BeforeView, CannotCount, Gone, gone_by}

@@ -5,7 +5,8 @@ use Rattle.std.proofs.lemmas.List.{length-append}
 use Rattle.std.proofs.lemmas.List.Elements.{filter_map-append}
 use Rattle.std.proofs.lemmas.List.Sums.{fold-append}
 use Rattle.std.specs.List.{cons_option}
-use Rattle.auction_rows.specs.Types.{Request, Opened, Book}
+use Rattle.auction_rows.specs.declared.requests.{Request.Request, Opened.Opened}
+use Rattle.auction_rows.specs.Book.{Book}
 use Rattle.auction_text.specs.LiveParts.{GoesOnAfter, IsLivePart, KeepsLiveWorkers, row_said, rows_said}
 use Rattle.auction_text.specs.LiveReading.{records_said}
 use Rattle.auction_text.specs.Moved.{Gone, gone_by}

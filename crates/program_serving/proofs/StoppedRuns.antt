@@ -1,7 +1,7 @@
 -- A run of a part that goes on from an auction: what it leaves, and why it stops.
 use Rattle.std.proofs.Common.{arith, ◌≡◌, ◌==◌, ◌<◌, ◌+◌, ◌∷◌, ◌∙◌, ℕ, cond, List, [], All, length, map, ap, sym, subst}
 use Rattle.std.proofs.lemmas.List.Sums.{sum_by-append}
-use Rattle.auction_rows.specs.Types.{Policy, Opening, Request}
+use Rattle.auction_rows.specs.declared.{limits.Policy.Policy, values.Opening.Opening, requests.Request.Request}
 use Rattle.auction_rows.specs.Book.{Book, bids_stored, buys_stored, comments_stored, items_stored, worker_of}
 use Rattle.auction_rows.specs.History.{book_after}
 use Rattle.auction_run.specs.Beginning.{AreShortFor}

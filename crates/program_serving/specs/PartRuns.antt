@@ -1,7 +1,8 @@
 -- What is known between two parts of an input.
 use Rattle.std.specs.Prelude.{ℕ, ◌≡◌, ◌<◌, ◌≤◌, ◌+◌, ◌++◌, List, [], ◌∷◌, Option, None, Some, IfSome, false, flat_map, length, map, slice_index_or}
 use Rattle.auction_rows.specs.declared.limits.TheConstants.{MOST_OF_A_WORKER}
-use Rattle.auction_rows.specs.Types.{Object, Request, Entry, Book}
+use Rattle.auction_rows.specs.declared.{requests.Object.Object, requests.Request.Request, rows.Entry.Entry}
+use Rattle.auction_rows.specs.Book.{Book}
 use Rattle.auction_rows.specs.History.{book_after}
 use Rattle.auction_run.specs.GoingOn.{AreShortOn, IsShortOn}
 use Rattle.auction_run.specs.Phases.{hot_sets}

@@ -1,6 +1,7 @@
 -- Why serving ends with a fault, and how far was told by then.
 use Rattle.std.specs.Prelude.{ℕ, ◌≡◌, ◌<◌, ◌≤◌, ◌+◌, ◌++◌, ◌∷◌, ◌⊎◌, List, [], Option, false, true, length, slice_index_or}
-use Rattle.auction_rows.specs.Types.{Opening, Request, Opened, Book}
+use Rattle.auction_rows.specs.declared.{values.Opening.Opening, requests.Request.Request, requests.Opened.Opened}
+use Rattle.auction_rows.specs.Book.{Book}
 use Rattle.auction_run.specs.Beginning.{AreShortFor, HasQuotas}
 use Rattle.auction_run.specs.Phases.{HaveMetLastNumber}
 use Rattle.auction_run.specs.RunFault.{RunFault}

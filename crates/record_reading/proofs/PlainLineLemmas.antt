@@ -3,7 +3,7 @@ use Rattle.std.proofs.Common.{arith, ◌≡◌, ◌<◌, ◌+◌, ◌∷◌, ◌
 use Rattle.std.proofs.lemmas.Grind.{common_steps}
 use Rattle.std.proofs.lemmas.Bool.{lt-ltb}
 use Rattle.csv.specs.Records.{field_at}
-use Rattle.auction_rows.specs.Types.{Stars, ItemId, Request}
+use Rattle.auction_rows.specs.declared.{values.Stars.Stars, requests.ItemId.ItemId, requests.Request.Request}
 use Rattle.auction_rows.specs.declared.requests.Request.TheVariants as request
 use Rattle.record_reading.specs.Fields.{name, quantity, stars}
 use Rattle.record_reading.specs.Kinds.{has_count, kind_of}

@@ -3,7 +3,7 @@ use Rattle.std.specs.Prelude.{ℕ, ◌+◌, ◌-◌, pos, negsuc, ◌==◌, ◌^
 use Rattle.std.specs.List.{list_all, position}
 use Rattle.std.specs.Char.{is_ascii_digit}
 use Rattle.std.specs.Str.Parse.{digits_value}
-use Rattle.auction_rows.specs.Types.{Stars, ItemId}
+use Rattle.auction_rows.specs.declared.{values.Stars.Stars, requests.ItemId.ItemId}
 use Rattle.auction_rows.specs.declared.limits.TheConstants.{MOST_QUANTITY}
 use Rattle.auction_rows.specs.Stars.{stars_of}
 

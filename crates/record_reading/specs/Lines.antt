@@ -5,7 +5,7 @@ use Rattle.std.specs.List.{list_all}
 use Rattle.csv.specs.Machine.{next_record}
 use Rattle.csv.specs.Reading.{default_config, records, strip_bom}
 use Rattle.csv.specs.declared.parser.State.TheVariants as st
-use Rattle.auction_rows.specs.Types.{ItemId, Request}
+use Rattle.auction_rows.specs.declared.requests.{ItemId.ItemId, Request.Request}
 use Rattle.record_reading.specs.Fields.{item_id, number, quantity}
 use Rattle.record_reading.specs.Kinds.{has_count, kind_of}
 use Rattle.record_reading.specs.Records.{read_record, request_of}

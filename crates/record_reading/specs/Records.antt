@@ -3,7 +3,7 @@ use Rattle.std.specs.Prelude.{ℕ, Bool, ◌&&◌, ◌==◌, List, [], length, n
 use Rattle.std.specs.Option.{unwrap_or, ok_or}
 use Rattle.std.specs.Result.{result_map_both}
 use Rattle.csv.specs.Records.{field_at}
-use Rattle.auction_rows.specs.Types.{Stars, ItemId, Request}
+use Rattle.auction_rows.specs.declared.{values.Stars.Stars, requests.ItemId.ItemId, requests.Request.Request}
 use Rattle.auction_rows.specs.declared.requests.Request.TheVariants as request
 use Rattle.record_reading.specs.Fields.{number, item_id, name, quantity, stars}
 use Rattle.record_reading.specs.Kinds.{kind_of, has_count}

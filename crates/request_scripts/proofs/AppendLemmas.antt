@@ -1,7 +1,8 @@
 -- The requests of two scripts, one after the other.
 use Rattle.std.proofs.Common.{◌≡◌, ◌<◌, ◌+◌, ◌-◌, ℕ, zero, suc, List, [], ◌∷◌, ◌++◌, map, length, take, get_or, refl, ap, ◌∙◌, arith, length-append, append_assoc}
 use Rattle.std.proofs.lemmas.List.{get_or-append_right}
-use Rattle.auction_rows.specs.Types.{Facts, StoreItem}
+use Rattle.auction_rows.specs.declared.requests.Facts.{Facts}
+use Rattle.auction_rows.specs.declared.requests.Request.TheVariants.{StoreItem}
 use Rattle.request_scripts.specs.declared.short_request.ShortRequest.{ShortRequest}
 use Rattle.request_scripts.specs.declared.short_request.ShortRequest.TheVariants as ask
 use Rattle.request_scripts.specs.ShortRequests.{HasRequest, HaveRequests, SaysRequest, request_from, requests_from, shifted}

@@ -1,7 +1,8 @@
 -- What a short request says, with facts at the end of the list and with more of them.
 use Rattle.std.proofs.Common.{◌≡◌, ℕ, List, [], ◌∷◌, ◌++◌, length, ap, refl, sym, ◌∙◌, arith, length-append}
 use Rattle.std.proofs.lemmas.List.{get_or_append_left, get_or_push}
-use Rattle.auction_rows.specs.Types.{Facts, Request, StoreItem}
+use Rattle.auction_rows.specs.declared.requests.{Facts.Facts, Request.Request}
+use Rattle.auction_rows.specs.declared.requests.Request.TheVariants.{StoreItem}
 use Rattle.request_scripts.specs.declared.short_request.ShortRequest.{ShortRequest}
 use Rattle.request_scripts.specs.declared.short_request.ShortRequest.TheVariants as ask
 use Rattle.request_scripts.specs.ShortRequests.{facts_at, request_from, HasRequest, SaysRequest}

@@ -1,7 +1,7 @@
 -- The requests of a script, of which short ones are kept.
 use Rattle.std.proofs.Common.{◌≡◌, ◌<◌, ◌+◌, ℕ, List, [], ◌∷◌, ◌++◌, map, length, take, get_or, refl, sym, ap, ◌∙◌, subst}
 use Rattle.std.proofs.lemmas.List.{map-append, map_push, take_more}
-use Rattle.auction_rows.specs.Types.{Facts, Request}
+use Rattle.auction_rows.specs.declared.requests.{Facts.Facts, Request.Request}
 use Rattle.request_scripts.specs.declared.short_request.ShortRequest.{ShortRequest}
 use Rattle.request_scripts.specs.ShortRequests.{HaveRequests, SaysRequest, request_from, requests_from}
 use Rattle.request_scripts.proofs.RequestLemmas.{request_stays}

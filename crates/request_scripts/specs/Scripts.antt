@@ -1,6 +1,7 @@
 -- What a script gives of its requests.
 use Rattle.std.specs.Prelude.{Option, Some, None}
-use Rattle.auction_rows.specs.Types.{Request, StoreBid}
+use Rattle.auction_rows.specs.declared.requests.Request.{Request}
+use Rattle.auction_rows.specs.declared.requests.Request.TheVariants.{StoreBid}
 
 -- a request, if it is a bid
 abbrev pub only_bid : Request → Option Request

@@ -4,7 +4,7 @@ use Rattle.std.specs.List.{AllByRecursion}
 use Rattle.std.proofs.lemmas.Bool.{ne_eqb, cases_eq, cases_order, cond-true}
 use Rattle.std.proofs.lemmas.List.{length-append, append-nil}
 use Rattle.std.proofs.lemmas.List.Elements.{filter-append}
-use Rattle.auction_rows.specs.Types.{Policy, Opening, Object, Request, Entry}
+use Rattle.auction_rows.specs.declared.{limits.Policy.Policy, values.Opening.Opening, requests.Object.Object, requests.Request.Request, rows.Entry.Entry}
 use Rattle.auction_rows.specs.Choosing.{choose}
 use Rattle.auction_rows.specs.Phases.{IsNumbered}
 use Rattle.phase_laws.proofs.OrderLemmas.{all-weaker}

@@ -2,7 +2,7 @@
 use Rattle.std.proofs.Common.{◌≡◌, ℕ, zero, suc, ◌≤◌, List, [], ◌∷◌, ◌++◌, map, length, refl, ap, ◌∙◌, arith}
 use Rattle.std.specs.List.{AllByRecursion}
 use Rattle.std.proofs.lemmas.List.{map-append}
-use Rattle.auction_rows.specs.Types.{Policy, Object, Request, Entry}
+use Rattle.auction_rows.specs.declared.{limits.Policy.Policy, requests.Object.Object, requests.Request.Request, rows.Entry.Entry}
 use Rattle.auction_rows.specs.Phases.{is_put_off}
 use Rattle.phase_laws.specs.Order.{IsOrderedBy, part}
 use Rattle.phase_laws.proofs.OrderLemmas.{all-weaker, all-from_map}

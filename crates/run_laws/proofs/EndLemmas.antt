@@ -4,7 +4,7 @@ use Rattle.std.specs.List.{AllByRecursion, list_any}
 use Rattle.std.specs.Option.{option_map_or}
 use Rattle.std.proofs.lemmas.Bool.{eqb-false, lt-ltb, cases_lt, and_left}
 use Rattle.std.proofs.lemmas.List.{nil_from_length}
-use Rattle.auction_rows.specs.Types.{Policy, Opening, Object, Request, Entry}
+use Rattle.auction_rows.specs.declared.{limits.Policy.Policy, values.Opening.Opening, requests.Object.Object, requests.Request.Request, rows.Entry.Entry}
 use Rattle.auction_rows.specs.Requests.{touches, is_splittable}
 use Rattle.auction_rows.specs.Footprint.{is_hot}
 use Rattle.auction_rows.specs.Phases.{is_put_off}

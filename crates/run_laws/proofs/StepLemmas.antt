@@ -3,7 +3,7 @@ use Rattle.std.proofs.Common.{◌≡◌, ℕ, suc, ◌+◌, ◌<◌, ◌≤◌, 
 use Rattle.std.specs.List.{filter, AllByRecursion}
 use Rattle.std.proofs.lemmas.Bool.{le-ltb, ne_eqb, cases_lt, cases_Bool, and_left, and_right}
 use Rattle.std.proofs.lemmas.List.{length-append}
-use Rattle.auction_rows.specs.Types.{Policy, Object, Request, Entry}
+use Rattle.auction_rows.specs.declared.{limits.Policy.Policy, requests.Object.Object, requests.Request.Request, rows.Entry.Entry}
 use Rattle.auction_rows.specs.Phases.{is_put_off}
 use Rattle.phase_laws.proofs.OrderLemmas.{all-weaker}
 use Rattle.run_laws.specs.Phases.{is_split}

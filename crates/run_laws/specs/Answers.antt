@@ -1,6 +1,7 @@
 -- What a run may answer.
 use Rattle.std.specs.Prelude.{List}
-use Rattle.auction_rows.specs.Types.{Policy, Opening, Object, Request, Entry, Book}
+use Rattle.auction_rows.specs.declared.{limits.Policy.Policy, values.Opening.Opening, requests.Object.Object, requests.Request.Request, rows.Entry.Entry}
+use Rattle.auction_rows.specs.Book.{Book}
 use Rattle.auction_rows.specs.History.{ReplaysFrom}
 use Rattle.run_laws.specs.Serving.{Serves}
 use Rattle.run_laws.specs.Run.{AreChosen}

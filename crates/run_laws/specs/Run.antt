@@ -1,7 +1,7 @@
 -- What has been done of a run's scripts before a phase, and what a phase does.
 use Rattle.std.specs.Prelude.{ℕ, ◌-◌, ◌<◌, ◌≤◌, ◌≡◌, ◌⊎◌, not, true, false, List, [], ◌++◌, length, map}
 use Rattle.std.specs.List.{filter, AllByRecursion}
-use Rattle.auction_rows.specs.Types.{Policy, Object, Request, Entry}
+use Rattle.auction_rows.specs.declared.{limits.Policy.Policy, requests.Object.Object, requests.Request.Request, rows.Entry.Entry}
 use Rattle.auction_rows.specs.Choosing.{choose}
 use Rattle.auction_rows.specs.Phases.{is_put_off}
 use Rattle.phase_laws.specs.Order.{IsOrderedBy, part}

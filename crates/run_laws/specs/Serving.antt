@@ -2,7 +2,7 @@
 use Rattle.std.specs.declared.alloc.Global.{Global}
 use Rattle.std.specs.Prelude.{ℕ, suc, ◌<◌, ◌≤◌, ◌≡◌, ◌==◌, ◌&&◌, nat_lt, true, if◌then◌else◌, List, [], length, map, slice_get, unwrap_or, count_by, Some, Vec}
 use Rattle.std.specs.List.{filter, AllByRecursion}
-use Rattle.auction_rows.specs.Types.{Policy, Opening, Object, Request, Entry}
+use Rattle.auction_rows.specs.declared.{limits.Policy.Policy, values.Opening.Opening, requests.Object.Object, requests.Request.Request, rows.Entry.Entry}
 use Rattle.auction_rows.specs.Requests.{is_splittable}
 use Rattle.auction_rows.specs.Phases.{is_put_off, IsNumbered}
 use Rattle.phase_laws.specs.Order.{IsOrderedBy}

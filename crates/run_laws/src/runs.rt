@@ -7,7 +7,12 @@ ghost use Rattle.run_laws.specs.Serving.{AreNumbered, segment_of, phase_reached,
 ghost use Rattle.run_laws.specs.Run.{HasRun, IsPhasePerformed, HasLeft, AreChosen, calls_given, IsDone};
 ghost use Rattle.run_laws.specs.Books.{HasReplayed, ReplaysOn};
 ghost use Rattle.run_laws.specs.Answers.{IsAnswer};
-ghost use Rattle.auction_rows.specs.Types.{Policy, Opening, Object, Request, Entry, Book as Rows};
+ghost use Rattle.auction_rows.specs.declared.limits.Policy.{Policy};
+ghost use Rattle.auction_rows.specs.declared.values.Opening.{Opening};
+ghost use Rattle.auction_rows.specs.declared.requests.Object.{Object};
+ghost use Rattle.auction_rows.specs.declared.requests.Request.{Request};
+ghost use Rattle.auction_rows.specs.declared.rows.Entry.{Entry};
+ghost use Rattle.auction_rows.specs.Book.{Book as Rows};
 ghost use Rattle.auction_rows.specs.Choosing.{choose};
 ghost use Rattle.auction_rows.specs.Phases.{IsNumbered};
 ghost use Rattle.auction_rows.specs.History.{IsBook, ReplaysFrom, book_after};

@@ -1,6 +1,7 @@
 -- What is so of a run from a state, whatever book it begins from.
 use Rattle.std.proofs.Common.{◌≡◌, ℕ, ◌+◌, ◌<◌, ◌≤◌, List, length, subst, sym}
-use Rattle.auction_rows.specs.Types.{Policy, Request, Book}
+use Rattle.auction_rows.specs.declared.{limits.Policy.Policy, requests.Request.Request}
+use Rattle.auction_rows.specs.Book.{Book}
 use Rattle.phase_floor.specs.States.{JoinedState}
 use Rattle.run_phases.specs.declared.phase.Running.{Running}
 use Rattle.run_phases.specs.Beginning.{AreShortFor, BeginsWith, CannotBegin}

@@ -9,7 +9,9 @@ use Rattle.std.proofs.lemmas.List.Elements.{filter_map-append}
 use Rattle.std.proofs.lemmas.List.Folds.{find-append}
 use Rattle.phase_laws.proofs.MemberLemmas.{all-member, filter-member}
 use Rattle.phase_laws.proofs.RankLemmas.{top_is_top}
-use Rattle.auction_rows.specs.Types.{Opening, Facts, Object, Request, Refusal, ItemRow, Entry, Item, User, Category, StoreItem, StoreBid, StoreComment, BuyNow, ViewItem, ViewBids, ViewCategory, ViewUser}
+use Rattle.auction_rows.specs.declared.{values.Opening.Opening, requests.Facts.Facts, requests.Object.Object, requests.Request.Request, replies.Refusal.Refusal, rows.ItemRow.ItemRow, rows.Entry.Entry}
+use Rattle.auction_rows.specs.declared.requests.Object.TheVariants.{Item, User, Category}
+use Rattle.auction_rows.specs.declared.requests.Request.TheVariants.{StoreItem, StoreBid, StoreComment, BuyNow, ViewItem, ViewBids, ViewCategory, ViewUser}
 use Rattle.auction_rows.specs.Book.{Book, as_item, same_item, item_in, item_rows, facts_of, bought}
 use Rattle.auction_rows.specs.Choosing.{written_by, objects_written, heat, choose}
 use Rattle.auction_rows.specs.History.{IsRight, after_entry, ReplaysFrom, book_after, rows_of}

@@ -6,7 +6,7 @@ use Rattle.std.proofs.Math.ListN.{get_or-map}
 use Rattle.std.proofs.Math.Seq.{drop-nil, take-nil}
 use Rattle.std.proofs.lemmas.Bool.{eq-eqb, ne_eqb, cases_lt}
 use Rattle.std.proofs.lemmas.List.{length-map, get_or_past}
-use Rattle.auction_rows.specs.Types.{Policy, Facts, Object, Request, Entry}
+use Rattle.auction_rows.specs.declared.{limits.Policy.Policy, requests.Facts.Facts, requests.Object.Object, requests.Request.Request, rows.Entry.Entry}
 use Rattle.auction_rows.specs.History.{ReplaysFrom, book_after}
 use Rattle.auction_rows.specs.Phases.{IsNumbered}
 use Rattle.phase_laws.specs.Order.{part}

@@ -1,6 +1,7 @@
 -- The outcome of a run, and what its board has if it is refused.
 use Rattle.std.specs.Prelude.{ℕ, ◌≡◌, ◌-◌, ◌⊎◌, List, length}
-use Rattle.auction_rows.specs.Types.{Policy, Opening, Object, Request, Row, Entry, Book}
+use Rattle.auction_rows.specs.declared.{limits.Policy.Policy, values.Opening.Opening, requests.Object.Object, requests.Request.Request, rows.Row.Row, rows.Entry.Entry}
+use Rattle.auction_rows.specs.Book.{Book}
 use Rattle.auction_rows.specs.History.{ReplaysFrom, book_after}
 use Rattle.phase_floor.specs.States.{StandsFor}
 use Rattle.run_laws.specs.Run.{AreChosen, HasRun}

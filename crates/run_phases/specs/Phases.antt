@@ -2,7 +2,7 @@
 use Rattle.std.specs.Prelude.{ℕ, ◌≡◌, ◌+◌, ◌<◌, ◌≤◌, ◌^◌, Bool, true, false, List, [], map, length, ⊤}
 use Rattle.std.specs.HashSet.{HashSet}
 use Rattle.auction_rows.specs.declared.limits.TheConstants.{MOST_OF_A_WORKER}
-use Rattle.auction_rows.specs.Types.{Policy, Object, Request}
+use Rattle.auction_rows.specs.declared.{limits.Policy.Policy, requests.Object.Object, requests.Request.Request}
 use Rattle.shard_boxes.specs.States.{ShardState}
 use Rattle.worker_slices.specs.Stashes.{StashState}
 use Rattle.phase_transactions.specs.Workers.{WorkerState}

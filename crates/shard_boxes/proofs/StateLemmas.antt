@@ -1,7 +1,8 @@
 -- What a new shard shows.
 use Rattle.std.proofs.Common.{ℕ, ◌+◌, ◌*◌, ◌≤◌, sym, subst, arith, unsigned_abs}
 use Rattle.std.proofs.lemmas.Int.{ints}
-use Rattle.auction_rows.specs.Types.{Opening, Item, User}
+use Rattle.auction_rows.specs.declared.values.Opening.{Opening}
+use Rattle.auction_rows.specs.declared.requests.Object.TheVariants.{Item, User}
 use Rattle.item_shards.specs.declared.shard.Shard.{Shard}
 use Rattle.item_shards.specs.ShardContents.{clock, IsNewShard}
 use Rattle.item_shards.specs.Values.{Value}

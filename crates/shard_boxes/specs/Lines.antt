@@ -4,7 +4,7 @@ use Rattle.std.specs.List.{AllByRecursion}
 use Rattle.phase_laws.specs.Numbers.{IsLinkedFrom}
 use Rattle.phase_laws.specs.Order.{IsAscendingByNumber, part}
 use Rattle.phase_laws.specs.Replay.{SawInTurn}
-use Rattle.auction_rows.specs.Types.{ItemId, BidEntry, Refusal}
+use Rattle.auction_rows.specs.declared.{requests.ItemId.ItemId, requests.BidEntry.BidEntry, replies.Refusal.Refusal}
 use Rattle.item_shards.specs.declared.shard.acts.Act.{Act}
 use Rattle.item_shards.specs.declared.shard.acts.Act.TheVariants.{Bid, Look}
 use Rattle.item_shards.specs.declared.shard.acts.Look.TheVariants as look

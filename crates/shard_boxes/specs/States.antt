@@ -1,6 +1,7 @@
 -- What a shard shows.
 use Rattle.std.specs.Prelude.{◌≡◌, ℕ, ◌+◌, ◌*◌, ◌<◌, ◌≤◌, List, length, slice_index_or, unsigned_abs}
-use Rattle.auction_rows.specs.Types.{Opening, ItemId, Item, User}
+use Rattle.auction_rows.specs.declared.{values.Opening.Opening, requests.ItemId.ItemId}
+use Rattle.auction_rows.specs.declared.requests.Object.TheVariants.{Item, User}
 use Rattle.item_shards.specs.declared.shard.Shard.{Shard}
 use Rattle.item_shards.specs.Values.{blank}
 use Rattle.item_shards.specs.Contents.{Contents}

@@ -3,7 +3,8 @@ use Rattle.std.proofs.Common.{◌≡◌, ◌<◌, ◌≤◌, ◌+◌, ℕ, List,
 use Rattle.std.specs.List.{AllByRecursion}
 use Rattle.std.proofs.lemmas.List.{get_or_append_left, drop-append-le, take-append-le, map-append, length-map}
 use Rattle.phase_laws.proofs.OrderLemmas.{all_push, all-weaker}
-use Rattle.auction_rows.specs.Types.{Request, Reply, ItemView, BidShown, ItemShown, Entry, BidsSeen, CategorySeen}
+use Rattle.auction_rows.specs.declared.{requests.Request.Request, replies.Reply.Reply, replies.ItemView.ItemView, replies.BidShown.BidShown, replies.ItemShown.ItemShown, rows.Entry.Entry}
+use Rattle.auction_rows.specs.declared.replies.Reply.TheVariants.{BidsSeen, CategorySeen}
 use Rattle.worker_journals.specs.declared.heads.Head.{Head}
 use Rattle.worker_journals.specs.declared.heads.ShortReply.{ShortReply}
 use Rattle.worker_journals.specs.declared.heads.ShortReply.TheVariants as told

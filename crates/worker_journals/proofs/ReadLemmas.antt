@@ -2,7 +2,7 @@
 use Rattle.std.proofs.Common.{◌≡◌, ℕ, List, map, ap, ◌∙◌}
 use Rattle.std.specs.Prelude.{Some, slice_get, option_map}
 use Rattle.std.proofs.lemmas.Option.{slice_get-map}
-use Rattle.auction_rows.specs.Types.{Request, Reply, Entry}
+use Rattle.auction_rows.specs.declared.{requests.Request.Request, replies.Reply.Reply, rows.Entry.Entry}
 use Rattle.worker_journals.specs.declared.heads.Head.{Head}
 use Rattle.request_scripts.specs.ShortRequests.{request_from}
 use Rattle.worker_journals.specs.Sides.{SideLists, reply_from}

@@ -3,7 +3,8 @@ use Rattle.std.proofs.Common.{◌≡◌, ◌≤◌, ℕ, List, [], ◌∷◌, �
 use Rattle.std.proofs.lemmas.List.{get_or_push}
 use Rattle.std.proofs.lemmas.List.Prefix.{front_rest}
 use Rattle.auction_rows.specs.declared.limits.TheConstants.{MOST_SHOWN}
-use Rattle.auction_rows.specs.Types.{Reply, ItemView, BidShown, ItemShown, ItemStored, BidStored, CommentStored, Bought, ItemSeen, BidsSeen, CategorySeen, UserSeen, Refused}
+use Rattle.auction_rows.specs.declared.replies.{Reply.Reply, ItemView.ItemView, BidShown.BidShown, ItemShown.ItemShown}
+use Rattle.auction_rows.specs.declared.replies.Reply.TheVariants.{ItemStored, BidStored, CommentStored, Bought, ItemSeen, BidsSeen, CategorySeen, UserSeen, Refused}
 use Rattle.worker_journals.specs.declared.heads.ShortReply.TheVariants as told
 use Rattle.worker_journals.specs.declared.heads.UserSeen.{UserSeen as SeenUser}
 use Rattle.auction_rows.specs.ItemViews.{item_reply}

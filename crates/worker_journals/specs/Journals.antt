@@ -3,7 +3,7 @@ use Rattle.std.specs.Prelude.{◌≡◌, ℕ, ◌<◌, List, [], ◌∷◌, ◌+
 use Rattle.std.specs.List.{AllByRecursion}
 use Rattle.phase_laws.specs.Order.{IsAscendingByNumber}
 use Rattle.phase_laws.specs.Numbers.{last_by}
-use Rattle.auction_rows.specs.Types.{Request, Reply, Entry}
+use Rattle.auction_rows.specs.declared.{requests.Request.Request, replies.Reply.Reply, rows.Entry.Entry}
 
 -- what a journal shows
 pub record JournalView : Type 0 where

@@ -1,7 +1,10 @@
 -- What is left of journals while their entries are told in one order.
 use Rattle.std.specs.Prelude.{◌≡◌, Bool, ℕ, ◌<◌, ◌≤◌, List, [], ◌∷◌, ◌++◌, Option, None, Some, map, take, drop, length, slice_get, slice_index_or, unwrap_or, IfSome, nat_lt, if◌then◌else◌}
 use Rattle.std.specs.List.{flat_map, AllByRecursion}
-use Rattle.auction_rows.specs.Types.{Request, Reply, StoreReply, ItemView, Entry, ViewUser, Refused, NoSuchItem}
+use Rattle.auction_rows.specs.declared.{requests.Request.Request, replies.Reply.Reply, replies.StoreReply.StoreReply, replies.ItemView.ItemView, rows.Entry.Entry}
+use Rattle.auction_rows.specs.declared.requests.Request.TheVariants.{ViewUser}
+use Rattle.auction_rows.specs.declared.replies.Reply.TheVariants.{Refused}
+use Rattle.auction_rows.specs.declared.replies.Refusal.TheVariants.{NoSuchItem}
 use Rattle.auction_rows.specs.StoreReplies.{is_refusal, store_reply}
 use Rattle.worker_journals.specs.Journals.{JournalView, entry_number, IsLawfulJournal}
 use Rattle.worker_journals.specs.Sides.{shown_in}

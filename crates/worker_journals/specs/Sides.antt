@@ -1,7 +1,8 @@
 -- What a journal keeps beside its heads, and what is said with it.
 use Rattle.std.specs.Prelude.{◌≡◌, ℕ, pos, ◌+◌, ◌-◌, ◌<◌, ◌≤◌, List, [], ◌∷◌, ◌++◌, ⊤, None, length, take, drop, slice_index_or}
 use Rattle.auction_rows.specs.declared.limits.TheConstants.{MOST_SHOWN}
-use Rattle.auction_rows.specs.Types.{Facts, Request, Reply, ItemView, BidShown, ItemShown, ItemStored, BidStored, CommentStored, Bought, ItemSeen, BidsSeen, CategorySeen, UserSeen, Refused}
+use Rattle.auction_rows.specs.declared.{requests.Facts.Facts, requests.Request.Request, replies.Reply.Reply, replies.ItemView.ItemView, replies.BidShown.BidShown, replies.ItemShown.ItemShown}
+use Rattle.auction_rows.specs.declared.replies.Reply.TheVariants.{ItemStored, BidStored, CommentStored, Bought, ItemSeen, BidsSeen, CategorySeen, UserSeen, Refused}
 use Rattle.auction_rows.specs.ItemViews.{item_reply}
 use Rattle.request_scripts.specs.ShortRequests.{facts_in}
 use Rattle.worker_journals.specs.declared.heads.ShortReply.{ShortReply}

@@ -1,7 +1,9 @@
 //! What a journal keeps of each commit in its place: all that is small. The rest lies in side
 //! lists.
 ghost use Rattle.std.specs.Prelude.{◌≡◌, List};
-ghost use Rattle.auction_rows.specs.Types.{ItemView, BidShown, ItemShown};
+ghost use Rattle.auction_rows.specs.declared.replies.ItemView.{ItemView};
+ghost use Rattle.auction_rows.specs.declared.replies.BidShown.{BidShown};
+ghost use Rattle.auction_rows.specs.declared.replies.ItemShown.{ItemShown};
 ghost use Rattle.auction_rows.specs.StoreReplies.{is_refusal, store_reply};
 ghost use Rattle.worker_journals.specs.declared.heads.UserSeen.{UserSeen as SeenUser};
 ghost use Rattle.worker_journals.specs.Sides.{reply_from};

@@ -2,7 +2,7 @@
 use Rattle.std.proofs.Common.{ℕ, ◌+◌, ◌*◌, ◌≤◌, Bool, true, false, cond, List, [], ◌∷◌, arith}
 use Rattle.std.specs.Prelude.{unsigned_abs, ℤ, ◌+ℤ◌}
 use Rattle.std.proofs.lemmas.Int.{ints}
-use Rattle.auction_rows.specs.Types.{Stars, BidEntry, ItemEntry, Object}
+use Rattle.auction_rows.specs.declared.{values.Stars.Stars, requests.BidEntry.BidEntry, requests.ItemEntry.ItemEntry, requests.Object.Object}
 use Rattle.item_shards.specs.declared.shard.slices.Slice.{Slice}
 use Rattle.item_shards.specs.declared.shard.slices.Slice.TheVariants as slice
 use Rattle.auction_rows.specs.Requests.{same_object}

@@ -6,7 +6,8 @@ use Rattle.std.specs.List.{IsDistinct, AllByRecursion}
 use Rattle.std.specs.Map.{lookup}
 use Rattle.indexmap.specs.Layout.{set_value_at}
 use Rattle.auction_rows.specs.contracts.requests.ObjectPartialEq.TheImpl.{eq-value as object_eq}
-use Rattle.auction_rows.specs.Types.{Facts, Object, Book}
+use Rattle.auction_rows.specs.declared.requests.{Facts.Facts, Object.Object}
+use Rattle.auction_rows.specs.Book.{Book}
 use Rattle.auction_rows.specs.Footprint.{is_hot}
 use Rattle.auction_rows.specs.Requests.{same_object}
 pub use Rattle.auction_rows.proofs.RequestLemmas.{distinct_objects}

@@ -1,6 +1,7 @@
 -- Slices of rows: one row more is the acts that write it.
 use Rattle.std.proofs.Common.{◌≡◌, ℕ, ◌++◌, ◌∷◌, [], Bool, true, false, cond, List, length, Option, refl, ap, ◌∙◌}
-use Rattle.auction_rows.specs.Types.{Facts, Object, Row, Item, User, Category}
+use Rattle.auction_rows.specs.declared.{requests.Facts.Facts, requests.Object.Object, rows.Row.Row}
+use Rattle.auction_rows.specs.declared.requests.Object.TheVariants.{Item, User, Category}
 use Rattle.auction_rows.specs.declared.rows.Row.TheVariants as row
 use Rattle.auction_rows.specs.Book.{Book, bid_entry, item_entry}
 use Rattle.auction_rows.specs.Requests.{same_object}

@@ -1,7 +1,8 @@
 -- What a store does to the slices of its worker.
 use Rattle.std.proofs.Common.{◌≡◌, ℕ, ◌==◌, Bool, true, false, cond, List, [], ◌∷◌, refl, sym, ◌∙◌}
 use Rattle.std.proofs.lemmas.Bool.{or_parts}
-use Rattle.auction_rows.specs.Types.{Stars, ItemId, BidId, CommentId, Facts, Object, Request, StoreReply, StoreItem, StoreBid, StoreComment, BuyNow}
+use Rattle.auction_rows.specs.declared.{values.Stars.Stars, requests.ItemId.ItemId, requests.BidId.BidId, requests.CommentId.CommentId, requests.Facts.Facts, requests.Object.Object, requests.Request.Request, replies.StoreReply.StoreReply}
+use Rattle.auction_rows.specs.declared.requests.Request.TheVariants.{StoreItem, StoreBid, StoreComment, BuyNow}
 use Rattle.auction_rows.specs.declared.replies.StoreReply.TheVariants as store
 use Rattle.auction_rows.specs.declared.rows.Row.TheVariants as row
 use Rattle.auction_rows.specs.Footprint.{is_hot}

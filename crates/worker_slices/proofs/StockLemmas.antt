@@ -1,6 +1,7 @@
 -- What is fixed of hot objects stays, whatever is done to their slices.
 use Rattle.std.proofs.Common.{◌≡◌, Bool, true, false, cond, List, [], ◌∷◌, refl, ◌∙◌}
-use Rattle.auction_rows.specs.Types.{Object, Item, User, Category}
+use Rattle.auction_rows.specs.declared.requests.Object.{Object}
+use Rattle.auction_rows.specs.declared.requests.Object.TheVariants.{Item, User, Category}
 use Rattle.auction_rows.specs.Requests.{same_object}
 use Rattle.item_shards.specs.Events.{Event, ListItem, Bid, Comment}
 use Rattle.item_shards.specs.declared.shard.slices.Slice.{Slice}

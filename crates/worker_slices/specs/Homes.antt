@@ -1,6 +1,8 @@
 -- Where a worker finds an object.
 use Rattle.std.specs.Prelude.{◌≡◌, ℕ, true, false, List, Option, Some, None, ⊤}
-use Rattle.auction_rows.specs.Types.{Object, Request, Item, User, Category, StoreItem, StoreBid, StoreComment}
+use Rattle.auction_rows.specs.declared.requests.{Object.Object, Request.Request}
+use Rattle.auction_rows.specs.declared.requests.Object.TheVariants.{Item, User, Category}
+use Rattle.auction_rows.specs.declared.requests.Request.TheVariants.{StoreItem, StoreBid, StoreComment}
 use Rattle.auction_rows.specs.Footprint.{is_hot}
 use Rattle.auction_rows.specs.Requests.{shard_of}
 use Rattle.worker_slices.specs.declared.homes.Home.{Home}

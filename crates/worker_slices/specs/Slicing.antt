@@ -1,7 +1,9 @@
 -- A worker's slices of the objects that are split.
 use Rattle.std.specs.Prelude.{None, [], ◌∷◌, ◌≡◌, ℕ, ◌≤◌, ◌*◌, unsigned_abs, if◌then◌else◌, List, map, fold, Option, Some, IsSome, IsNone, slice_get, ⊤}
 use Rattle.std.specs.List.{AllByRecursion}
-use Rattle.auction_rows.specs.Types.{Stars, Facts, BidEntry, ItemEntry, Object, Book, Item, User, Category}
+use Rattle.auction_rows.specs.declared.{values.Stars.Stars, requests.Facts.Facts, requests.BidEntry.BidEntry, requests.ItemEntry.ItemEntry, requests.Object.Object}
+use Rattle.auction_rows.specs.declared.requests.Object.TheVariants.{Item, User, Category}
+use Rattle.auction_rows.specs.Book.{Book}
 use Rattle.auction_rows.specs.Requests.{same_object}
 use Rattle.item_shards.specs.Events.{Event, ListItem, Bid, Comment}
 use Rattle.item_shards.specs.declared.shard.slices.Slice.{Slice}

@@ -2,7 +2,7 @@
 use Rattle.std.proofs.Common.{◌≡◌, ◌<◌, ◌≤◌, List, [], ◌∷◌, ◌++◌, Option, Some, None, length, All, sym, ap, subst, ◌∙◌, arith, length-append}
 use Rattle.std.specs.List.{AllByRecursion, cons_option}
 use Rattle.std.proofs.lemmas.List.Elements.{All-from_recursion, recursion_from_All, filter_map-append}
-use Rattle.auction_rows.specs.Types.{Opening, Row, Entry}
+use Rattle.auction_rows.specs.declared.{values.Opening.Opening, rows.Row.Row, rows.Entry.Entry}
 use Rattle.auction_rows.specs.Book.{Book, worker_of}
 use Rattle.auction_rows.specs.History.{GoOn, ReplaysFrom, book_after, row_of_entry, rows_of}
 use Rattle.auction_rows.proofs.HistoryLemmas.{book_after-replays, book_parts, rows_go_on}

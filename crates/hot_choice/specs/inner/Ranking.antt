@@ -4,7 +4,7 @@ use Rattle.std.specs.List.{IsDistinct}
 use Rattle.std.specs.Map.{keys_of, lookup}
 use Rattle.std.specs.Ordering.{nat_cmp, on, then_cmp, flip_args}
 use Rattle.std.specs.declared.cmp.Ordering.{Ordering}
-use Rattle.auction_rows.specs.Types.{Object, Entry}
+use Rattle.auction_rows.specs.declared.{requests.Object.Object, rows.Entry.Entry}
 use Rattle.auction_rows.specs.Orders.{object_cmp}
 use Rattle.auction_rows.specs.Requests.{same_object, shard_of}
 use Rattle.auction_rows.specs.Choosing.{heat}

@@ -9,7 +9,8 @@ use auction_rows::{
 
 impl Shard {
     ghost use Rattle.std.specs.Prelude.{ℕ};
-    ghost use Rattle.auction_rows.specs.Types.{Item, User, Category, ViewItem, ViewBids, ViewCategory, ViewUser};
+    ghost use Rattle.auction_rows.specs.declared.requests.Object.TheVariants.{Item, User, Category};
+    ghost use Rattle.auction_rows.specs.declared.requests.Request.TheVariants.{ViewItem, ViewBids, ViewCategory, ViewUser};
     ghost use Rattle.auction_rows.specs.ItemViews.{item_told};
     ghost use Rattle.auction_rows.specs.Replies.{reply};
     ghost use Rattle.item_shards.specs.Views.{item_view, bids_view, category_reply, user_reply};

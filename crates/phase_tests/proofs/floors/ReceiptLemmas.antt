@@ -9,7 +9,7 @@ use Rattle.phase_transactions.specs.Workers.{WorkerState, with_try}
 use Rattle.phase_transactions.specs.declared.done.Done.{Done}
 use Rattle.phase_transactions.specs.declared.done.PermitFault.{PermitFault}
 use Rattle.phase_transactions.specs.Performing.{HasDealtWith, HasFailed, HasCommitted}
-use Rattle.auction_rows.specs.Types.{Request, Reply}
+use Rattle.auction_rows.specs.declared.{requests.Request.Request, replies.Reply.Reply}
 use Rattle.shard_boxes.specs.States.{ShardState}
 
 -- those of the workers from one on

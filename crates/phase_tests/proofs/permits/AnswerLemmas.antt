@@ -1,7 +1,7 @@
 -- What a permit is for stays, whatever it answers.
 use Rattle.std.proofs.Common.{◌≡◌, ℕ, List, Option, Some, None, Result, Ok, Err, ap}
 use Rattle.std.specs.Prelude.{IfOk, IfErr, IfSome, IfNone}
-use Rattle.auction_rows.specs.Types.{Request, Reply}
+use Rattle.auction_rows.specs.declared.{requests.Request.Request, replies.Reply.Reply}
 use Rattle.phase_transactions.specs.Workers.{WorkerState, with_try}
 use Rattle.phase_transactions.specs.declared.done.PermitFault.{PermitFault}
 use Rattle.phase_transactions.specs.Performing.{HasFailed, HasCommitted, HasPerformedFirst, HasFailedFirst}

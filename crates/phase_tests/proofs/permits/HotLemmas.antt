@@ -1,7 +1,8 @@
 -- Hot objects with which a permit is made.
 use Rattle.std.proofs.Common.{◌≡◌, ℕ, ◌≤◌, ◌||◌, Bool, true, false, List, [], ◌∷◌, refl, sym, ap, ◌∙◌}
 use Rattle.std.proofs.lemmas.Bool.{false≢true}
-use Rattle.auction_rows.specs.Types.{ItemId, Object, Item}
+use Rattle.auction_rows.specs.declared.requests.{ItemId.ItemId, Object.Object}
+use Rattle.auction_rows.specs.declared.requests.Object.TheVariants.{Item}
 use Rattle.auction_rows.specs.Footprint.{is_hot}
 use Rattle.auction_rows.specs.Requests.{same_object}
 use Rattle.auction_rows.proofs.RequestLemmas.{same_object-true}

@@ -1,7 +1,8 @@
 //! A split permit of worker 0, who has stored the first item.
 ghost use Rattle.std.specs.Prelude.{◌≡◌, ℕ, ◌≤◌, ◌<◌, true, length, Ok};
 ghost use Rattle.std.specs.List.{IsDistinct, AllByRecursion};
-ghost use Rattle.auction_rows.specs.Types.{ItemId as Id, Item};
+ghost use Rattle.auction_rows.specs.declared.requests.ItemId.{ItemId as Id};
+ghost use Rattle.auction_rows.specs.declared.requests.Object.TheVariants.{Item};
 ghost use Rattle.auction_rows.specs.Footprint.{is_hot};
 ghost use Rattle.auction_rows.specs.Requests.{same_object};
 ghost use Rattle.worker_slices.specs.Slicing.{hot_objects, IsStocked};

@@ -1,6 +1,8 @@
 -- A transaction that has taken its shards, and what its request is answered by.
 use Rattle.std.specs.Prelude.{◌≡◌, ℕ, suc, max, ◌<◌, ◌≤◌, false, List, ◌∷◌, [], Option, None, Some, length, ⊤}
-use Rattle.auction_rows.specs.Types.{ItemId, Facts, Object, Request, Refusal, Reply, Item, User, Category, ViewItem, ViewBids, ViewCategory, ViewUser}
+use Rattle.auction_rows.specs.declared.{requests.ItemId.ItemId, requests.Facts.Facts, requests.Object.Object, requests.Request.Request, replies.Refusal.Refusal, replies.Reply.Reply}
+use Rattle.auction_rows.specs.declared.requests.Object.TheVariants.{Item, User, Category}
+use Rattle.auction_rows.specs.declared.requests.Request.TheVariants.{ViewItem, ViewBids, ViewCategory, ViewUser}
 use Rattle.item_shards.specs.declared.shard.acts.Look.{Look}
 use Rattle.item_shards.specs.declared.shard.acts.Look.TheVariants as look
 use Rattle.auction_rows.specs.Refusals.{number_refusal}

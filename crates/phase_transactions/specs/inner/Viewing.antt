@@ -1,7 +1,7 @@
 -- What a view shows.
 use Rattle.std.specs.Prelude.{◌≡◌, ℕ, None}
 use Rattle.std.specs.List.{AllByRecursion}
-use Rattle.auction_rows.specs.Types.{Request, Reply}
+use Rattle.auction_rows.specs.declared.{requests.Request.Request, replies.Reply.Reply}
 use Rattle.item_shards.specs.declared.shard.acts.Look.{Look}
 use Rattle.item_shards.specs.Looking.{IsTrueOf}
 use Rattle.item_shards.specs.ShardContents.{contents}

@@ -1,6 +1,6 @@
 -- What a phase of a run leaves.
 use Rattle.std.specs.Prelude.{◌≡◌, ℕ, suc, ◌+◌, ◌<◌, List, ◌++◌, length}
-use Rattle.auction_rows.specs.Types.{Policy, Object, Request, Entry}
+use Rattle.auction_rows.specs.declared.{limits.Policy.Policy, requests.Object.Object, requests.Request.Request, rows.Entry.Entry}
 use Rattle.auction_rows.specs.Phases.{IsNumbered}
 use Rattle.worker_slices.specs.Stashes.{StashState}
 use Rattle.closing_laws.specs.Standing.{counters_at}

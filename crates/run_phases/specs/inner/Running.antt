@@ -1,6 +1,7 @@
 -- What a run knows between two phases.
 use Rattle.std.specs.Prelude.{ℕ, ◌+◌, ◌-◌, ◌<◌, ◌≤◌, ◌≡◌, min, List, length, drop}
-use Rattle.auction_rows.specs.Types.{Policy, Opening, Request, Book}
+use Rattle.auction_rows.specs.declared.{limits.Policy.Policy, values.Opening.Opening, requests.Request.Request}
+use Rattle.auction_rows.specs.Book.{Book}
 use Rattle.auction_rows.specs.History.{IsBook}
 use Rattle.item_shards.specs.OpeningRows.{rows_by}
 use Rattle.closing_laws.specs.Standing.{counters_at}

@@ -1,7 +1,7 @@
 -- What the workers of a phase are given, and what they can do with it.
 use Rattle.std.specs.Prelude.{ℕ, ◌≡◌, ◌<◌, Bool, List, length, slice_index}
 use Rattle.std.specs.List.{AllByRecursion, AllZip}
-use Rattle.auction_rows.specs.Types.{Policy, Object, Request, Entry}
+use Rattle.auction_rows.specs.declared.{limits.Policy.Policy, requests.Object.Object, requests.Request.Request, rows.Entry.Entry}
 use Rattle.shard_boxes.specs.States.{ShardState}
 use Rattle.phase_transactions.specs.Performing.{HaveOpening}
 use Rattle.worker_slices.specs.Slicing.{hot_objects}

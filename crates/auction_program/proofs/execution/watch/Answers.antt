@@ -1,7 +1,8 @@
 use Rattle.std.proofs.Common.{rules, ◌≡◌, ◌∙◌, [], List, length, ap, sym, subst, MatchOption}
 use Rattle.std.proofs.lemmas.Option.{IfSome_then}
 use base.Growing.{prefix_refl}
-use Rattle.auction_rows.specs.Types.{Row, Book}
+use Rattle.auction_rows.specs.declared.rows.Row.{Row}
+use Rattle.auction_rows.specs.Book.{Book}
 use Rattle.auction_rows.specs.History.{book_after, ReplaysFrom}
 use Rattle.auction_rows.proofs.HistoryLemmas.{book_after-replays}
 use Rattle.auction_run.specs.Boards.{phase_rows}

@@ -1,6 +1,7 @@
 use Rattle.std.proofs.Common.{◌≡◌, List}
 use mathlib.Core.List.{IsPrefix}
-use Rattle.auction_rows.specs.Types.{Row, Book}
+use Rattle.auction_rows.specs.declared.rows.Row.{Row}
+use Rattle.auction_rows.specs.Book.{Book}
 use Rattle.auction_program.specs.Report.{view_of, views, IsEnd}
 use Rattle.auction_program.proofs.texts.views_of.Given as goal
 

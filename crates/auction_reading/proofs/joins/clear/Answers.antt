@@ -1,5 +1,5 @@
 use Rattle.std.proofs.Common.{◌≡◌, ◌∙◌, [], ℕ, List, arith, ap, ap₂, false, length, replicate, sym}
-use Rattle.auction_rows.specs.Types.{Request, Opened}
+use Rattle.auction_rows.specs.declared.requests.{Request.Request, Opened.Opened}
 use Rattle.auction_reading.specs.inner.Said.{WasRead}
 use Rattle.auction_reading.proofs.JoinLemmas.{lent_back}
 use Rattle.auction_reading.proofs.joins.clear.Goals as goal

@@ -1,5 +1,5 @@
 use Rattle.std.proofs.Common.{◌≡◌, ◌∙◌, ◌++◌, List, arith, ap, ap₂, length}
-use Rattle.auction_rows.specs.Types.{Request, Opened}
+use Rattle.auction_rows.specs.declared.requests.{Request.Request, Opened.Opened}
 use Rattle.record_reading.specs.Asking.{Asked}
 use Rattle.auction_reading.specs.inner.Parcels.{scripts_joined}
 use Rattle.auction_reading.proofs.JoinLemmas.{lent_back}

@@ -1,5 +1,6 @@
 use Rattle.std.proofs.Common.{refl, subst}
-use Rattle.auction_rows.specs.Types.{Item, ViewItem}
+use Rattle.auction_rows.specs.declared.requests.Object.TheVariants.{Item}
+use Rattle.auction_rows.specs.declared.requests.Request.TheVariants.{ViewItem}
 use Rattle.phase_transactions.specs.inner.Begun.{CanView, IsOnOne}
 use Rattle.phase_transactions.proofs.answers.item_on.Goals as goal
 

@@ -1,5 +1,6 @@
 use Rattle.std.proofs.Common.{rules, ◌≡◌, Option, None, Some, sym, ap, subst}
-use Rattle.auction_rows.specs.Types.{Facts, Reply, Item, User, Category}
+use Rattle.auction_rows.specs.declared.{requests.Facts.Facts, replies.Reply.Reply}
+use Rattle.auction_rows.specs.declared.requests.Object.TheVariants.{Item, User, Category}
 use Rattle.item_shards.specs.ShardContents.{contents}
 use Rattle.item_shards.specs.Values.{Value}
 use Rattle.item_shards.specs.Views.{item_view, bids_view}

@@ -1,5 +1,6 @@
 use Rattle.std.proofs.Common.{rules, arith, ◌≡◌, ◌≤◌, ◌+◌, ℕ, List, suc, length, refl, inl, subst, sym, ap, ◌∙◌}
-use Rattle.auction_rows.specs.Types.{Row, Book}
+use Rattle.auction_rows.specs.declared.rows.Row.{Row}
+use Rattle.auction_rows.specs.Book.{Book}
 use Rattle.auction_window.specs.Published.{book_of}
 use Rattle.job_threads.proofs.ThreadLemmas.{err_as}
 use Rattle.run_laws.specs.Run.{HasLeft, first_index}

@@ -1,5 +1,6 @@
 use Rattle.std.proofs.Common.{map, sym, ap, ◌∙◌}
-use Rattle.auction_rows.specs.Types.{Item, User, Category, ViewItem, ViewBids, ViewCategory, ViewUser}
+use Rattle.auction_rows.specs.declared.requests.Object.TheVariants.{Item, User, Category}
+use Rattle.auction_rows.specs.declared.requests.Request.TheVariants.{ViewItem, ViewBids, ViewCategory, ViewUser}
 use Rattle.auction_rows.specs.Replies.{reply}
 use Rattle.shard_boxes.specs.States.{state_of}
 use Rattle.auction_shards.specs.Shards.{opening_in}

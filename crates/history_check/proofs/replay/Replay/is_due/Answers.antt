@@ -1,5 +1,5 @@
 use Rattle.std.proofs.Common.{◌≡◌, ◌∙◌, sym, ap, subst}
-use Rattle.auction_rows.specs.Types.{Opening, Reply}
+use Rattle.auction_rows.specs.declared.{values.Opening.Opening, replies.Reply.Reply}
 use Rattle.auction_rows.specs.Replies.{next, reply}
 use Rattle.item_shards.specs.declared.serial.SerialAuction.{SerialAuction}
 use Rattle.item_shards.specs.Serial.{HoldsBook, serial_opening}

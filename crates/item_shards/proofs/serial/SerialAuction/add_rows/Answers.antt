@@ -1,7 +1,7 @@
 use Rattle.std.proofs.Common.{◌<◌, ◌++◌, ◌∷◌, [], take, sym, subst, ◌∙◌}
 use Rattle.std.proofs.lemmas.List.{take_all}
 use Rattle.std.proofs.lemmas.List.Elements.{All-get_or}
-use Rattle.auction_rows.specs.Types.{Opening, Row}
+use Rattle.auction_rows.specs.declared.{values.Opening.Opening, rows.Row.Row}
 use Rattle.auction_rows.specs.History.{GoOn}
 use Rattle.item_shards.specs.Counting.{worker_of}
 use Rattle.item_shards.specs.Serial.{HoldsBook, serial_opening}

@@ -1,6 +1,7 @@
 use Rattle.std.proofs.Common.{◌≡◌, ◌<◌, Option, Some, ◌++◌, sym, ap, subst, ◌∙◌, option_to_list}
 use Rattle.auction_rows.specs.Replies.{reply, row_of, next}
-use Rattle.auction_rows.specs.Types.{Row, Book}
+use Rattle.auction_rows.specs.declared.rows.Row.{Row}
+use Rattle.auction_rows.specs.Book.{Book}
 use Rattle.std.proofs.lemmas.List.{append-nil}
 use Rattle.item_shards.specs.Serial.{serial_opening, HoldsBook}
 use Rattle.item_shards.proofs.SerialLemmas.{goes_on, worker_of_added}

@@ -1,6 +1,7 @@
 use Rattle.std.proofs.Common.{◌≡◌, ◌<◌, Option, None, Some, ◌++◌, sym, ap, subst, ◌∙◌, option_to_list}
 use Rattle.std.proofs.lemmas.List.{append-nil}
-use Rattle.auction_rows.specs.Types.{Row, Book}
+use Rattle.auction_rows.specs.declared.rows.Row.{Row}
+use Rattle.auction_rows.specs.Book.{Book}
 use Rattle.auction_rows.specs.Replies.{reply, row_of}
 use Rattle.item_shards.specs.Serial.{serial_opening, HoldsBook}
 use Rattle.item_shards.proofs.SerialLemmas.{goes_on, view_adds_none, worker_of_added}

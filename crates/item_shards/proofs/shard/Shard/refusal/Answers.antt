@@ -1,5 +1,7 @@
 use Rattle.std.proofs.Common.{◌≡◌, None, option_and_then, refl, sym, ap, ◌∙◌}
-use Rattle.auction_rows.specs.Types.{ItemId, Request, Item, StoreItem, ViewCategory, ViewUser}
+use Rattle.auction_rows.specs.declared.requests.{ItemId.ItemId, Request.Request}
+use Rattle.auction_rows.specs.declared.requests.Object.TheVariants.{Item}
+use Rattle.auction_rows.specs.declared.requests.Request.TheVariants.{StoreItem, ViewCategory, ViewUser}
 use Rattle.auction_rows.specs.Requests.{item_of}
 use Rattle.item_shards.specs.Answering.{refusal_with}
 use Rattle.item_shards.specs.ShardContents.{contents}

@@ -1,6 +1,7 @@
 use Rattle.std.proofs.Common.{◌<◌, ◌∷◌, [], Bool, sym, ap, subst, ◌∙◌}
 use Rattle.auction_rows.specs.Book.{item_entry}
-use Rattle.auction_rows.specs.Types.{Opening, ItemId, Item, Category}
+use Rattle.auction_rows.specs.declared.{values.Opening.Opening, requests.ItemId.ItemId}
+use Rattle.auction_rows.specs.declared.requests.Object.TheVariants.{Item, Category}
 use Rattle.item_shards.specs.Events.{ListItem}
 use Rattle.auction_rows.specs.declared.rows.Row.TheVariants as row
 use Rattle.item_shards.specs.Contents.{Contents, after_acts}

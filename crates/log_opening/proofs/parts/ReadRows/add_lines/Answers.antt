@@ -1,5 +1,6 @@
 use Rattle.std.proofs.Common.{◌≡◌, arith, ◌+◌, ◌∙◌, [], ℕ, List, Option, IfSome, length, refl, rules, sym, ap, subst}
-use Rattle.auction_rows.specs.Types.{Opened, Book}
+use Rattle.auction_rows.specs.declared.requests.Opened.{Opened}
+use Rattle.auction_rows.specs.Book.{Book}
 use Rattle.auction_text.specs.RowLines.{rows_text}
 use Rattle.auction_text.specs.Scripts.{Asked, input_of}
 use Rattle.log_opening.specs.Differences.{IsFirstDifference}

@@ -2,7 +2,8 @@ use Rattle.std.proofs.Common.{◌≡◌, ◌<◌, None, Some, length, refl, sym,
 use Rattle.std.specs.Prelude.{Result, Err, IsErrOf}
 use Rattle.std.proofs.Math.Nat.{lt_of_not-le}
 use Rattle.std.proofs.lemmas.Bool.{false≢true}
-use Rattle.auction_rows.specs.Types.{Refusal, Row, NoSuchUser}
+use Rattle.auction_rows.specs.declared.{replies.Refusal.Refusal, rows.Row.Row}
+use Rattle.auction_rows.specs.declared.replies.Refusal.TheVariants.{NoSuchUser}
 use Rattle.auction_rows.specs.Refusals.{refusal}
 use Rattle.auction_rows.specs.Replies.{reply, row_of}
 use Rattle.auction_rows.specs.Requests.{is_view}

@@ -1,7 +1,8 @@
 use Rattle.std.proofs.Common.{ℕ, Option, ◌++◌, ◌∷◌, [], ◌<◌, length, get_or, ap, sym, ◌∙◌, subst, arith}
 use Rattle.std.specs.List.{AllByRecursion}
 use Rattle.std.proofs.lemmas.List.{take_more}
-use Rattle.auction_rows.specs.Types.{Facts, Object, Item}
+use Rattle.auction_rows.specs.declared.requests.{Facts.Facts, Object.Object}
+use Rattle.auction_rows.specs.declared.requests.Object.TheVariants.{Item}
 use Rattle.phase_laws.proofs.OrderLemmas.{all_push}
 use Rattle.worker_slices.specs.Slicing.{hot_objects, IsStocked}
 use Rattle.closing_laws.specs.Phases.{IsReadFrom}

@@ -1,6 +1,7 @@
 use Rattle.std.proofs.Common.{Bool, sym, ap, ◌∙◌}
 use Rattle.std.proofs.lemmas.Result.{IfOk-at_ok}
-use Rattle.auction_rows.specs.Types.{ItemId, Item}
+use Rattle.auction_rows.specs.declared.requests.ItemId.{ItemId}
+use Rattle.auction_rows.specs.declared.requests.Object.TheVariants.{Item}
 use Rattle.auction_rows.specs.Requests.{shard_of}
 use Rattle.phase_tests.proofs.shards.shard_tests.a_shard_knows_an_item_once_it_is_added.Goals as goal
 

@@ -1,5 +1,6 @@
 use Rattle.std.proofs.Common.{ℕ, refl, ap, subst, ◌∙◌}
-use Rattle.auction_rows.specs.Types.{ItemId, Item}
+use Rattle.auction_rows.specs.declared.requests.ItemId.{ItemId}
+use Rattle.auction_rows.specs.declared.requests.Object.TheVariants.{Item}
 use Rattle.auction_rows.specs.Footprint.{is_hot}
 use Rattle.worker_slices.specs.Slicing.{hot_objects}
 use Rattle.phase_transactions.specs.Workers.{IsLawfulWorker, next_item}

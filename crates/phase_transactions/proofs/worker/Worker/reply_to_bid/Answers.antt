@@ -1,5 +1,6 @@
 use Rattle.std.proofs.Common.{Option, ap, refl, subst, sym}
-use Rattle.auction_rows.specs.Types.{Refusal, BidStored, Refused}
+use Rattle.auction_rows.specs.declared.replies.Refusal.{Refusal}
+use Rattle.auction_rows.specs.declared.replies.Reply.TheVariants.{BidStored, Refused}
 use Rattle.item_shards.specs.Answering.{bid_request}
 use Rattle.phase_transactions.specs.inner.Deeds.{IsReplyUnless}
 use Rattle.phase_transactions.proofs.worker.Worker.reply_to_bid.Goals as goal
