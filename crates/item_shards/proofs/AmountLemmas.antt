@@ -1,9 +1,9 @@
 -- Bids of which the amounts tell which one is greater.
-use Rattle.std.proofs.Common.{◌≡◌, ◌<◌, Bool, true, false, cond, Option, Some, None, sym, ap, subst, ◌∙◌}
+use Rattle.std.proofs.Common.{◌≡◌, ◌<◌, Bool, true, false, cond, Option, Some, None, ap, subst}
 use Rattle.std.specs.Bool.{OnTrue}
 use Rattle.std.specs.Cmp.{nat_cmp_is}
 use Rattle.std.specs.Option.{option_cmp}
-use Rattle.std.specs.Ordering.{is_lt, ord_max, ordering_then}
+use Rattle.std.specs.Ordering.{is_lt, ord_max}
 use Rattle.std.specs.declared.cmp.Ordering.TheVariants.{Less, Greater}
 use Rattle.auction_rows.specs.Orders.{bid_cmp}
 use Rattle.auction_rows.specs.declared.requests.BidEntry.{BidEntry}
@@ -11,10 +11,10 @@ use Rattle.top_records.specs.TopLaws.{IsPast}
 use Rattle.item_shards.specs.Slices.{IsOutbid}
 
 less_by_amount : (bid other : BidEntry) → bid.amount < other.amount → bid_cmp bid other ≡ Less
-less_by_amount bid other less = ap (λ r. ordering_then r _) (sym (nat_cmp_is bid.amount other.amount Less less))
+less_by_amount bid other less = rw (← nat_cmp_is bid.amount other.amount Less less)
 
 greater_by_amount : (bid other : BidEntry) → bid.amount < other.amount → bid_cmp other bid ≡ Greater
-greater_by_amount bid other less = ap (λ r. ordering_then r _) (sym (nat_cmp_is other.amount bid.amount Greater less))
+greater_by_amount bid other less = rw (← nat_cmp_is other.amount bid.amount Greater less)
 
 -- a bid that the greatest outbids leaves that
 pub greatest_stays : (greatest by : Option BidEntry) (bid : BidEntry) → by ≡ greatest → IsOutbid bid by →
