@@ -13,7 +13,7 @@ pub(crate) struct Heads {
 }
 
 impl Model for Heads {
-    ghost use Rattle.std.specs.Prelude.{min, vec_len, vec_capacity};
+    ghost use Rattle.std.specs.Prelude.{◌≡◌, min, vec_len, vec_capacity};
     ghost use Rattle.worker_journals.specs.HeadLists.{HeadList, heads_of};
 
     ghost Value = { HeadList };

@@ -19,13 +19,13 @@ returns-in-Some-clause-says c =
 
 pub returns-in-BidsSeen-clause-says : goal.returns-in-BidsSeen-clause-says
 returns-in-BidsSeen-clause-says c =
-    says_bids _ _ _ _ _ _ c.args.bids.now.items c.in-BidsSeen.shown.now _ c.keep_all.ensures.kept (c.keep_all.ensures.place ∙ c.args.bids.now.ok.0)
+    says_bids _ _ _ _ _ _ c.args.bids.now.items c.in-BidsSeen.shown _ c.keep_all.ensures.kept (c.keep_all.ensures.place ∙ c.args.bids.now.ok.0)
     c.len.ensures.length c.len.ensures.at_most_ten (sym c.in-BidsSeen.is)
 
 pub returns-in-CategorySeen-clause-says : goal.returns-in-CategorySeen-clause-says
 returns-in-CategorySeen-clause-says c =
     let put = c.keep_all-in-CategorySeen.ensures in
-    says_latest _ _ _ _ _ _ c.args.latest.now.items c.in-CategorySeen.shown.now _ put.kept (put.place ∙ c.args.latest.now.ok.0)
+    says_latest _ _ _ _ _ _ c.args.latest.now.items c.in-CategorySeen.shown _ put.kept (put.place ∙ c.args.latest.now.ok.0)
     c.len-in-CategorySeen.ensures.length c.len-in-CategorySeen.ensures.at_most_ten (sym c.in-CategorySeen.is)
 
 pub unreachable-requires : goal.unreachable-requires

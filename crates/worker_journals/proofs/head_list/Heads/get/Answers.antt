@@ -1,6 +1,6 @@
 use Rattle.std.proofs.Common.{◌≡◌, ◌<◌, ◌∙◌, arith, length, subst, sym}
 use Rattle.std.specs.Prelude.{Some, slice_get}
-use Rattle.worker_journals.specs.HeadLists.{HeadList, heads_of}
+use Rattle.worker_journals.specs.HeadLists.{HeadList, head_of, heads_of}
 use Rattle.worker_journals.proofs.HeadListLemmas.{as_many, read_head}
 use Rattle.worker_journals.proofs.head_list.Heads.get.Goals as goal
 
@@ -22,5 +22,5 @@ returns c =
     let same = sym h.asked.ok.0 ∙ c.self.invariant ∙ h.told.ok.0 in
     let within : c.args.place < length (heads_of h.asked.items h.told.items) = subst (λ (l : HeadList). c.args.place < length l.heads) (sym c.self.view_is) c.requires in
     let all = as_many h.asked.items h.told.items same in
-    subst (λ (l : HeadList). slice_get l.heads c.args.place ≡ Some _) c.self.view_is
-    (read_head h.asked.items h.told.items c.args.place c.index-asked.result c.index-told.result (omega (arith, within, all, same)) (omega (arith, within, all)) c.index-asked.ensures c.index-told.ensures)
+    subst (λ (l : HeadList). slice_get l.heads c.args.place ≡ Some (head_of c.index-asked.result.now c.index-told.result.now)) c.self.view_is
+    (read_head h.asked.items h.told.items c.args.place _ _ (omega (arith, within, all, same)) (omega (arith, within, all)) c.index-asked.ensures c.index-told.ensures)
