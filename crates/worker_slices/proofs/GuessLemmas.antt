@@ -1,8 +1,7 @@
 -- Guesses after one is noted, and what no guess says.
-use Rattle.std.proofs.Common.{◌≡◌, ◌<◌, ℕ, zero, suc, Bool, true, false, ◌||◌, List, [], ◌∷◌, ◌++◌, set, refl, subst, arith}
+use Rattle.std.proofs.Common.{◌≡◌, ◌<◌, ℕ, zero, suc, Bool, true, false, ◌||◌, List, [], ◌∷◌, ◌++◌, set, refl, subst, sym, arith}
 use Rattle.std.specs.Prelude.{Some, slice_get}
 use Rattle.std.specs.Bool.{OnTrue}
-use Rattle.std.specs.List.{AllByRecursion}
 use Rattle.std.proofs.lemmas.Bool.{false≢true}
 use Rattle.std.proofs.lemmas.Option.{none-some, same_Some}
 use Rattle.indexmap.specs.Layout.{set_value_at}
@@ -14,11 +13,14 @@ use Rattle.worker_slices.specs.declared.slices.Hot.{Hot}
 use Rattle.worker_slices.specs.Guessing.{AreGuessed, MayStand}
 use Rattle.worker_slices.specs.Slicing.{hot_objects}
 
+written : (guesses : List ℕ) (i guess : ℕ) → guess < 255 → slice_get (set guesses i guess) i ≡ Some 255 → ⊥
+written [] i guess less is = none-some 255 is
+written (first ∷ guesses) zero guess less is = absurd (omega (arith, less, same_Some guess 255 is))
+written (first ∷ guesses) (suc i) guess less is = written guesses i guess less is
+
 -- a guess that is written is a place
-pub written_there : (guesses : List ℕ) (i guess : ℕ) → guess < 255 → slice_get (set guesses i guess) i ≡ Some 255 → ⊥
-written_there [] i guess less is = none-some 255 is
-written_there (first ∷ guesses) zero guess less is = absurd (omega (arith, less, same_Some guess 255 is))
-written_there (first ∷ guesses) (suc i) guess less is = written_there guesses i guess less is
+pub written_there : (guesses : List ℕ) (i j guess : ℕ) → i ≡ j → guess < 255 → slice_get (set guesses i guess) j ≡ Some 255 → ⊥
+written_there guesses i j guess same less is = written guesses i guess less (subst (λ (k : ℕ). slice_get (set guesses i guess) k ≡ Some 255) (sym same) is)
 
 -- and no other guess becomes none
 pub written_elsewhere : (guesses : List ℕ) (i j guess : ℕ) → guess < 255 → (slice_get guesses j ≡ Some 255 → ⊥) → slice_get (set guesses i guess) j ≡ Some 255 → ⊥
@@ -31,10 +33,10 @@ written_elsewhere (first ∷ guesses) (suc i) (suc j) guess less may is = writte
 -- a hot object may stand there
 guessed_if_hot : (guesses : List ℕ) (objects : List Object) (object : Object) → AreGuessed guesses objects → is_hot objects object ≡ true → MayStand guesses object
 guessed_if_hot guesses [] object all hot = absurd (false≢true hot)
-guessed_if_hot guesses (first ∷ objects) object all hot = by (same_object first object) refl hot where
-  by : (b : Bool) → same_object first object ≡ b → (b || is_hot objects object) ≡ true → MayStand guesses object
-  by true same hot = subst (MayStand guesses) (same_object-true first object same) all.0
-  by false same hot = guessed_if_hot guesses objects object all.1 hot
+guessed_if_hot guesses (first ∷ objects) object all hot = by (same_object first object) refl hot (guessed_if_hot guesses objects object all.1) where
+  by : (b : Bool) → same_object first object ≡ b → (b || is_hot objects object) ≡ true → (is_hot objects object ≡ true → MayStand guesses object) → MayStand guesses object
+  by true same hot later = subst (MayStand guesses) (same_object-true first object same) all.0
+  by false same hot later = later hot
 
 -- one that may not is not hot
 pub unguessed : (guesses : List ℕ) (objects : List Object) (object : Object) → AreGuessed guesses objects → (MayStand guesses object → ⊥) → false ≡ is_hot objects object
