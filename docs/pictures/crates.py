@@ -15,7 +15,7 @@ from phases import GROUND, INK, text
 LAYERS = {
     "theory": {"phase_laws": 420},
     "model and records": {"auction_rows": 420, "split_records": 670, "top_records": 670, "item_shards": 690, "request_scripts": 540, "worker_journals": 420, "run_laws": 210,
-                          "auction_window": 350, "hot_choice": 510, "example_mean": 880},
+                          "auction_window": 350, "hot_choice": 510, "example_mean": 880, "record_tests": 790},
     "engine": {"job_threads": 320, "split_engine": 180, "example_bank": 150, "example_likes": 286, "application_tests": 450, "shard_boxes": 690, "auction_shards": 770,
                "worker_slices": 600, "phase_transactions": 600, "phase_permits": 600, "closing_laws": 640, "phase_floor": 630, "phase_workers": 420,
                "run_phases": 560, "auction_run": 560},
@@ -24,7 +24,7 @@ LAYERS = {
     "programs": {"program_opening": 680, "program_serving": 700, "auction_program": 680, "load_program": 985, "check_program": 300, "rubis_auction": 640,
                  "rubis_load": 985, "rubis_check": 300},
     "examples and tests": {"example_vase": 235, "example_phases": 370, "engine_tests": 500, "phase_tests": 605, "program_tests": 745,
-                           "example_watch": 865},
+                           "example_watch": 865, "floor_tests": 975},
 }
 MODEL = "auction_rows"
 KNOWS, KNOWS_NOT = "#b3261e", "#3d6e91"
