@@ -3,6 +3,7 @@
 //! turn.
 mod first_requests;
 mod joined;
+mod one_permit;
 mod phases;
 mod printing;
 mod split;

@@ -1,4 +1,4 @@
-//! Tests of records, shards, boxes, journals, permits, workers and floors by their public calls.
+//! Tests of boxes, permits and workers, and of whole phases, by their public calls.
 #![tactic(auto)]
 
 #[cfg(test)]
@@ -8,15 +8,7 @@ mod calls;
 #[cfg(test)]
 mod comparing;
 #[cfg(test)]
-mod floors;
-#[cfg(test)]
-mod journals;
-#[cfg(test)]
 mod permits;
-#[cfg(test)]
-mod records;
-#[cfg(test)]
-mod shards;
 #[cfg(test)]
 mod testing;
 #[cfg(test)]

@@ -1,8 +1,7 @@
 //! What tests hand in: ten users, two categories, and an item.
 ghost use Rattle.std.specs.Prelude.{◌≡◌, ◌≤◌, [], vec_capacity};
 
-use auction_rows::{Facts, ItemId, Name, Object, Opening, Quantity, Reply, Request};
-use indexmap::IndexSet;
+use auction_rows::{Facts, ItemId, Name, Opening, Quantity, Reply, Request};
 use std::alloc::Global;
 use std::process::Abort;
 
@@ -61,13 +60,6 @@ pub(crate) fn item_seen(facts: &Facts, greatest: (u64, u32), bids: u64, left: u3
         bids,
         left,
     }
-}
-
-/// The one hot object.
-pub(crate) fn only_hot(rt: &impl Abort, alloc: Global, object: Object) -> IndexSet<Object> {
-    let mut hot = IndexSet::new(alloc);
-    let _is_new = hot.insert(object).ok().expect(rt, "memory");
-    hot
 }
 
 /// Room for so many.

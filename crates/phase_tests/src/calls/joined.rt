@@ -4,8 +4,8 @@ ghost use Rattle.phase_floor.specs.Closings.{IsReceipt};
 ghost use Rattle.phase_floor.specs.Floors.{AreBegun};
 ghost use Rattle.phase_floor.specs.States.{states_of};
 
+use crate::calls::one_permit::only;
 use crate::calls::printing::{look_for_memory, print_count};
-use crate::floors::one_permit::only;
 use crate::testing::bid;
 use auction_rows::{MOST_TRIES, Request};
 use phase_floor::{Joined, JoinedFloor};

@@ -5,8 +5,8 @@ ghost use Rattle.phase_floor.specs.Closings.{IsReceipt};
 ghost use Rattle.phase_floor.specs.Floors.{AreBegun};
 ghost use Rattle.phase_floor.specs.States.{states_of};
 
+use crate::calls::one_permit::only;
 use crate::calls::printing::print_count;
-use crate::floors::one_permit::only;
 use crate::testing::{VIEW, bid};
 use auction_rows::{MOST_TRIES, Object, Request};
 use indexmap::IndexSet;

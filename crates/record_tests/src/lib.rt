@@ -1,0 +1,17 @@
+//! Tests of records, shards and journals by their public calls.
+#![tactic(auto)]
+
+#[cfg(test)]
+mod comparing;
+#[cfg(test)]
+mod journal_tests;
+#[cfg(test)]
+mod merge_tests;
+#[cfg(test)]
+mod shard_tests;
+#[cfg(test)]
+mod split_tests;
+#[cfg(test)]
+mod testing;
+#[cfg(test)]
+mod two_journals_tests;
