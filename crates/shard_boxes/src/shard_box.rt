@@ -1,6 +1,6 @@
 //! One box, the passes to it, its rule, and what each step of a pass tells.
-ghost use Rattle.std.specs.Prelude.{◌≡◌, ◌≢◌, [], true, false, IfOk};
-ghost use Rattle.ruled_cell.specs.Passes.{view, IsPassOf, IsSamePass, Carries, IsAtRest};
+ghost use Rattle.std.specs.Prelude.{◌≡◌, ◌≢◌, [], true, false, IfOk, MatchOption};
+ghost use Rattle.ruled_cell.specs.Passes.{view, IsPassOf, IsSamePass, Carries, IsAtRest, KeepsSlot};
 ghost use Rattle.shard_boxes.specs.States.{state_of, IsWithin};
 ghost use Rattle.shard_boxes.specs.Lines.{after_lines};
 ghost use Rattle.shard_boxes.specs.Helds.{MayPut};
@@ -136,7 +136,7 @@ pub struct Grant {
 impl Model for Grant {
     ghost use Rattle.std.specs.Coded.{codes};
     ghost use Rattle.item_shards.specs.contracts.shard.Shard as shard;
-    ghost use Rattle.ruled_cell.specs.Passes.{view, Carries};
+    ghost use Rattle.ruled_cell.specs.Passes.{Carries};
     ghost use Rattle.shard_boxes.specs.Passes.{GrantState, grant_of};
 
     ghost Value = { GrantState };
@@ -145,7 +145,7 @@ impl Model for Grant {
 
     ghost view = { λ l. grant_of l.pass };
 
-    ghost invariant = { λ l. Carries l.pass (view l.pass).holds };
+    ghost invariant = { λ l. Carries l.pass (grant_of l.pass).knows.holds };
 }
 
 impl ShardBox {
@@ -230,8 +230,27 @@ impl ShardBox {
     }
 }
 
-// Tries until the shard is in the box. A look comes before each attempt, as an attempt takes the
-// cell's cache line from the others.
+// An attempt after a look, which leaves the cell's cache line with the others until there is a
+// shard.
+fn take_if_full(
+    cell: &RuledCell<Shard, Knowledge, OneShard>,
+    pass: &mut Pass<Shard, Knowledge>,
+) -> Option<Shard>
+    requires cell { IsPassOf cell.now pass.old }
+    requires rest { IsAtRest pass.old }
+    requires speaks { Speaks (view pass.old) }
+    ensures cell { IsSamePass pass.old pass.new }
+    ensures slot { MatchOption result (KeepsSlot pass.old pass.new) (λ shard. Carries pass.new true) }
+    ensures taken { MatchOption result (view pass.new ≡ view pass.old)
+        (λ shard. TakenBy (view pass.old) shard (view pass.new)) }
+{
+    if !cell.is_full() {
+        return None;
+    }
+    cell.take_as::<TakeStep>(pass)
+}
+
+// Tries until the shard is in the box.
 #[cold]
 #[inline(never)]
 fn take_from<R: Wait>(
@@ -248,10 +267,8 @@ fn take_from<R: Wait>(
 {
     let backoff = Backoff::new();
     for _ in rt.forever() {
-        if cell.is_full() {
-            if let Some(shard) = cell.take_as::<TakeStep>(pass) {
-                return shard;
-            }
+        if let Some(shard) = take_if_full(cell, pass) {
+            return shard;
         }
         backoff.snooze();
     }
