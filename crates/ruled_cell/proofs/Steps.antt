@@ -1,5 +1,5 @@
 -- Each step of a pass keeps the rule of a cell.
-use Rattle.std.proofs.Common.{◌≡◌, ◌≢◌, ℕ, suc, zero, ◌<◌, eqb, List, [], ◌∷◌, ◌++◌, map, length, get_or, set, sym, refl, ap, ◌∙◌, subst, ⊎_elim, arith, length-set, get_or-set_same}
+use Rattle.std.proofs.Common.{◌≡◌, ◌≢◌, ℕ, suc, zero, ◌<◌, eqb, List, [], ◌∷◌, ◌++◌, map, get_or, set, sym, refl, ap, ◌∙◌, subst, ⊎_elim, arith, length-set, get_or-set_same}
 use mathlib.Core.Option.{some, some-injective, some-ne-none}
 use mathlib.Core.Option as maybe
 use lib.ListN.{get_elem?}
@@ -8,7 +8,7 @@ use Rattle.std.specs.Prelude.{Option, Some, None}
 use Rattle.std.proofs.lemmas.List.{map-set, map-append, set-get_or}
 use Rattle.atomic_table.specs.Table.{State, Me, Act, keeps, takes, gives, Valid, carried_after, stepped, Allows, Splits, Joins, opening, rest}
 use Rattle.atomic_table.proofs.Lists.{at_set, set_here, set_again, at_map, at_snoc, exchanged}
-use Rattle.crossbeam_queue.specs.Fifo.{Pushes, Pops, Learns, Forks, Merges, Held}
+use Rattle.crossbeam_queue.specs.Fifo.{Pushes, Pops, Learns, Forks, Merges}
 use Rattle.ruled_cell.specs.declared.Stage.{Stage}
 use Rattle.ruled_cell.specs.declared.Stage.TheVariants.{Making, Idle, Holding}
 use Rattle.ruled_cell.specs.declared.Turn.{Turn}

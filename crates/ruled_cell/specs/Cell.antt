@@ -27,6 +27,7 @@ module _ {T : Type 0} where
   held (out j) = []
 
 module _ {T : Type 0} (homes : List (maybe.Option (Option T))) where
+  -- the value lies in the slot
   abbrev pub Lies : Place T → Type 0
   Lies (home x) = get_elem? homes 0 ≡ some (some (Some x))
   Lies (out j) = Unit {0}
@@ -37,15 +38,19 @@ module _ {T : Type 0} (homes : List (maybe.Option (Option T))) where
   Knows place j Idle = Unit {0}
   Knows place j Holding = place ≡ out j
 
+-- what the user of the cell has a pass know
 abbrev pub client : {V : Type 0} → Turn V → V
 client d = d.client
 
-pub record CellRule {T V : Type 0} (holds : List T → List V → Type 0) (s : State (Option T) (Turn V)) : Type 0 where
+-- the rule of the table: what the cell holds and what the passes know keep the user's rule
+pub record CellRule {T V : Type 0} (holds : List T → List V → Type 0)
+    (s : State (Option T) (Turn V)) : Type 0 where
   pub place : Place T
   pub wide : 0 < length s.words
   pub shows : slice_index_or s.words 0 0 ≡ face place
   pub lies : Lies s.homes place
-  pub each_pass : (j : ℕ) (d : Turn V) → get_elem? s.views j ≡ some d → Knows s.homes place j d.stage
+  pub each_pass : (j : ℕ) (d : Turn V) → get_elem? s.views j ≡ some d →
+      Knows s.homes place j d.stage
   pub kept : holds (held place) (map client s.views)
 
 module _ {V : Type 0} where
@@ -71,12 +76,19 @@ module _ {T V : Type 0} where
 
   -- the pass has the slot, with the value in it
   abbrev pub Got : (V → T → V → Type 0) → Seated T V → Seated T V → Type 0
-  Got then m m' = (m.0.stage ≡ Idle) × (m'.0.stage ≡ Holding) × ((x : T) × (m'.1 ≡ (0, Some x) ∷ m.1) × then m.0.client x m'.0.client)
+  Got then m m' =
+      (m.0.stage ≡ Idle) × (m'.0.stage ≡ Holding)
+      × ((x : T) × (m'.1 ≡ (0, Some x) ∷ m.1) × then m.0.client x m'.0.client)
 
   -- the pass has the slot if the word was 1, and if not, the cell held nothing
-  abbrev pub took : (V → T → V → Type 0) → (V → List T → Type 0) → Seated T V → ℕ → Seated T V → Type 0
-  took then fact m r m' = (r ≡ 1 → Got then m m') × (r ≢ 1 → (m' ≡ m) × Held 0 (fact m.0.client))
+  abbrev pub took : (V → T → V → Type 0) → (V → List T → Type 0) → Seated T V → ℕ → Seated T V →
+      Type 0
+  took then fact m r m' =
+      (r ≡ 1 → Got then m m')
+      × (r ≢ 1 → (m' ≡ m) × Held 0 (fact m.0.client))
 
   -- the slot is at home, with the value that was in it
   abbrev pub gave : (V → T → V → Type 0) → Seated T V → Seated T V → Type 0
-  gave then m m' = (m'.0.stage ≡ Idle) × (m'.1 ≡ rest m.1) × ((x : T) → m.1 ≡ (0, Some x) ∷ rest m.1 → then m.0.client x m'.0.client)
+  gave then m m' =
+      (m'.0.stage ≡ Idle) × (m'.1 ≡ rest m.1)
+      × ((x : T) → m.1 ≡ (0, Some x) ∷ rest m.1 → then m.0.client x m'.0.client)

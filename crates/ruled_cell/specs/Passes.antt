@@ -1,5 +1,5 @@
 -- What a clause says of a cell, and of its passes.
-use Rattle.std.specs.Prelude.{◌≡◌, ℕ, Bool, true, false, Option, None, [], ◌∷◌}
+use Rattle.std.specs.Prelude.{◌≡◌, Bool, true, false, Option, None, [], ◌∷◌}
 use Rattle.atomic_table.specs.declared.shared.Seat.{Seat}
 use Rattle.ruled_cell.specs.declared.Stage.TheVariants.{Idle, Holding}
 use Rattle.ruled_cell.specs.declared.Turn.{Turn}

@@ -35,10 +35,14 @@ impl<T, V, P: Protocol<T, V>> RuledCell<T, V, P> {
     pub fn take_as<M: Outcome<T, V> + Lesson<T, V>>(&self, pass: &mut Pass<T, V>) -> Option<T>
         requires cell { IsPassOf self.now pass.old }
         requires rest { IsAtRest pass.old }
-        requires rule { Pops P.holds pass.old.id (view pass.old) (M.then (view pass.old)) × Learns P.holds pass.old.id (view pass.old) (M.fact (view pass.old)) }
+        requires rule { Pops P.holds pass.old.id (view pass.old) (M.then (view pass.old))
+            × Learns P.holds pass.old.id (view pass.old) (M.fact (view pass.old)) }
         ensures cell { IsSamePass pass.old pass.new }
-        ensures slot { MatchOption result (KeepsSlot pass.old pass.new) (λ x. Carries pass.new true) }
-        ensures rule { MatchOption result ((view pass.new ≡ view pass.old) × Held 0 (M.fact (view pass.old))) (λ x. M.then (view pass.old) x (view pass.new)) }
+        ensures slot { MatchOption result (KeepsSlot pass.old pass.new)
+            (λ value. Carries pass.new true) }
+        ensures rule { MatchOption result
+            ((view pass.new ≡ view pass.old) × Held 0 (M.fact (view pass.old)))
+            (λ value. M.then (view pass.old) value (view pass.new)) }
     {
         let words = &self.table.shared;
         let found = words.compare_exchange::<Take<M>>(pass, WORD, FULL, EMPTY);
@@ -53,7 +57,8 @@ impl<T, V, P: Protocol<T, V>> RuledCell<T, V, P> {
     pub fn put_as<M: Outcome<T, V>>(&self, pass: &mut Pass<T, V>, value: T)
         requires cell { IsPassOf self.now pass.old }
         requires slot { Carries pass.old true }
-        requires rule { Pushes P.holds 1 pass.old.id (view pass.old) value (M.then (view pass.old) value) }
+        requires rule { Pushes P.holds 1 pass.old.id (view pass.old) value
+            (M.then (view pass.old) value) }
         ensures cell { IsSamePass pass.old pass.new }
         ensures slot { Carries pass.new false }
         ensures rule { M.then (view pass.old) value (view pass.new) }
@@ -76,10 +81,12 @@ impl<T, V, P: Protocol<T, V>> RuledCell<T, V, P> {
     /// A second pass, which knows the other part of what this one knew.
     pub fn another<M: Split<V>>(&self, pass: &mut Pass<T, V>) -> Pass<T, V>
         requires cell { IsPassOf self.now pass.old }
-        requires rule { Forks P.holds pass.old.id (view pass.old) (M.left (view pass.old)) (M.right (view pass.old)) }
+        requires rule { Forks P.holds pass.old.id (view pass.old) (M.left (view pass.old))
+            (M.right (view pass.old)) }
         ensures cell { IsSamePass pass.old pass.new × IsPassOf self.now result }
         ensures slot { KeepsSlot pass.old pass.new × Carries result false }
-        ensures rule { (view pass.new ≡ M.left (view pass.old)) × (view result ≡ M.right (view pass.old)) }
+        ensures rule { (view pass.new ≡ M.left (view pass.old))
+            × (view result ≡ M.right (view pass.old)) }
     {
         self.table.shared.split_seat::<Twin<M>>(pass)
     }
@@ -88,7 +95,8 @@ impl<T, V, P: Protocol<T, V>> RuledCell<T, V, P> {
     pub fn absorb<M: Join<V>>(&self, pass: &mut Pass<T, V>, other: Pass<T, V>)
         requires cell { IsPassOf self.now pass.old × IsPassOf self.now other }
         requires slot { Carries other false }
-        requires rule { Merges P.holds pass.old.id (view pass.old) other.id (view other) (M.both (view pass.old) (view other)) M.spent }
+        requires rule { Merges P.holds pass.old.id (view pass.old) other.id (view other)
+            (M.both (view pass.old) (view other)) M.spent }
         ensures cell { IsSamePass pass.old pass.new }
         ensures slot { KeepsSlot pass.old pass.new }
         ensures rule { view pass.new ≡ M.both (view pass.old) (view other) }

@@ -240,7 +240,8 @@ fn take_if_full(
     requires rest { IsAtRest pass.old }
     requires speaks { Speaks (view pass.old) }
     ensures cell { IsSamePass pass.old pass.new }
-    ensures slot { MatchOption result (KeepsSlot pass.old pass.new) (λ shard. Carries pass.new true) }
+    ensures slot { MatchOption result (KeepsSlot pass.old pass.new)
+        (λ shard. Carries pass.new true) }
     ensures taken { MatchOption result (view pass.new ≡ view pass.old)
         (λ shard. TakenBy (view pass.old) shard (view pass.new)) }
 {
