@@ -16,7 +16,7 @@ LAYERS = {
     "theory": {"phase_laws": 420},
     "model and records": {"auction_rows": 420, "split_records": 670, "top_records": 670, "item_shards": 690, "request_scripts": 540, "worker_journals": 420, "run_laws": 210, "keyed_laws": 100,
                           "auction_window": 350, "hot_choice": 510, "example_mean": 880, "record_tests": 790},
-    "engine": {"job_threads": 320, "split_engine": 180, "application_tests": 325, "shard_boxes": 690, "auction_shards": 770,
+    "engine": {"job_threads": 320, "split_engine": 180, "application_tests": 325, "ruled_cell": 800, "shard_boxes": 690, "auction_shards": 770,
                "worker_slices": 600, "phase_transactions": 600, "phase_permits": 600, "closing_laws": 640, "phase_floor": 630, "phase_workers": 420,
                "run_phases": 560, "auction_run": 560},
     "texts": {"program_options": 420, "zipf_draws": 560, "record_reading": 880, "auction_reading": 810, "live_reading": 960, "auction_text": 880, "part_log": 860,

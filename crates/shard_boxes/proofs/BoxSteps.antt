@@ -101,9 +101,6 @@ begins =
 out : (items : List Shard) (views : List Knowledge) → BoxRule items views → (pass : ℕ) (v : Knowledge) → get_elem? views pass ≡ some v → v.holds ≡ true → items ≡ []
 out items views h pass v at t = ⊎_elim (λ (x : IsIn h.box items views). absurd (both_ways v.holds t (x.free pass v at))) (λ (x : IsOut h.box items views). x.none) h.place
 
-pub learns_empty : (pass : ℕ) (v : Knowledge) → v.holds ≡ true → Learns BoxRule pass v (λ items. items ≡ [])
-learns_empty pass v t items views h at = out items views h pass v at t
-
 cons_ne : (x : Shard) (xs : List Shard) → x ∷ xs ≢ []
 cons_ne x xs e = cc
 

@@ -1,5 +1,5 @@
 -- What a grant shows: the box that it is for, and what its pass knows.
-use Rattle.crossbeam_queue.specs.Passes.{Pass, view}
+use Rattle.ruled_cell.specs.Passes.{Pass, view}
 use Rattle.item_shards.specs.declared.shard.Shard.{Shard}
 use Rattle.shard_boxes.specs.declared.shard_box.Knowledge.{Knowledge}
 use Rattle.shard_boxes.specs.Keys.{BoxId}

@@ -1,6 +1,6 @@
 //! One box, the passes to it, its rule, and what each step of a pass tells.
-ghost use Rattle.std.specs.Prelude.{◌≡◌, ◌≢◌, [], true, false, IfOk};
-ghost use Rattle.crossbeam_queue.specs.Passes.{view, IsPassOf};
+ghost use Rattle.std.specs.Prelude.{◌≡◌, ◌≢◌, [], true, false, IfOk, MatchOption};
+ghost use Rattle.ruled_cell.specs.Passes.{view, IsPassOf, IsSamePass, Carries, IsAtRest, KeepsSlot};
 ghost use Rattle.shard_boxes.specs.States.{state_of, IsWithin};
 ghost use Rattle.shard_boxes.specs.Lines.{after_lines};
 ghost use Rattle.shard_boxes.specs.Helds.{MayPut};
@@ -10,9 +10,9 @@ ghost use Rattle.shard_boxes.specs.Rule.{Speaks, SpeaksForAll, IsSpare, TakenBy,
 use crate::boxes::PhaseName;
 use crate::line::{LineName, Trace};
 use crossbeam_queue::protocol::{Join, Lesson, Outcome, Protocol, Split};
-use crossbeam_queue::{Pass, RuledArrayQueue};
 use crossbeam_utils::Backoff;
 use item_shards::Shard;
+use ruled_cell::{Pass, RuledCell};
 use std::alloc::{AllocError, Global};
 use std::collections::LinkedList;
 use std::marker::{Model, PhantomData};
@@ -49,10 +49,6 @@ impl<N: PhaseName> Outcome<Shard, Knowledge> for OpenStep<N> {
     ghost then = { λ v shard w. w ≡ opened N.workers shard };
 }
 
-impl<N: PhaseName> Lesson<Shard, Knowledge> for OpenStep<N> {
-    ghost fact = { λ v items. items ≡ [] };
-}
-
 /// A pass takes the shard, if it is there.
 pub struct TakeStep;
 
@@ -79,17 +75,13 @@ impl Lesson<Shard, Knowledge> for TakeLastStep {
     ghost fact = { λ v items. items ≢ [] };
 }
 
-/// The holder puts the shard back, after the line named, if there is one: the box is empty.
+/// The holder puts the shard back, after the line named, if there is one.
 pub struct PutStep<L>(PhantomData<L>);
 
 impl<L: LineName> Outcome<Shard, Knowledge> for PutStep<L> {
     ghost use Rattle.shard_boxes.specs.Rule.{put};
 
     ghost then = { λ v shard w. w ≡ put v L.line };
-}
-
-impl<L: LineName> Lesson<Shard, Knowledge> for PutStep<L> {
-    ghost fact = { λ v items. items ≡ [] };
 }
 
 /// The new pass speaks for the first worker.
@@ -116,27 +108,23 @@ impl Join<Knowledge> for CollectStep {
 
 /// A box for one shard.
 pub struct ShardBox {
-    queue: RuledArrayQueue<Shard, Knowledge, OneShard>,
+    cell: RuledCell<Shard, Knowledge, OneShard>,
 }
 
 // Not derived: a derived drop is made and proved anew in each crate that lets one go.
 impl Drop for ShardBox {
     fn drop(self) {
-        let Self { queue } = self;
-        drop(queue);
+        let Self { cell } = self;
+        drop(cell);
     }
 }
 
 impl Model for ShardBox {
-    ghost use Rattle.std.specs.Prelude.{◌≡◌};
-    ghost use Rattle.crossbeam_queue.specs.Passes.{ruled_capacity};
     ghost use Rattle.atomic_table.specs.Seated.{TableId};
 
     ghost Value = { TableId };
 
-    ghost view = { λ p. p.queue.table.shared.table_id };
-
-    ghost invariant = { λ p. ruled_capacity p.queue ≡ 1 };
+    ghost view = { λ p. p.cell.table.shared.table_id };
 }
 
 /// A right to a box. It has no bytes.
@@ -146,9 +134,9 @@ pub struct Grant {
 }
 
 impl Model for Grant {
-    ghost use Rattle.std.specs.Prelude.{◌≡◌, []};
     ghost use Rattle.std.specs.Coded.{codes};
     ghost use Rattle.item_shards.specs.contracts.shard.Shard as shard;
+    ghost use Rattle.ruled_cell.specs.Passes.{Carries};
     ghost use Rattle.shard_boxes.specs.Passes.{GrantState, grant_of};
 
     ghost Value = { GrantState };
@@ -157,7 +145,7 @@ impl Model for Grant {
 
     ghost view = { λ l. grant_of l.pass };
 
-    ghost invariant = { λ l. l.pass.me.1 ≡ [] };
+    ghost invariant = { λ l. Carries l.pass (grant_of l.pass).knows.holds };
 }
 
 impl ShardBox {
@@ -165,8 +153,8 @@ impl ShardBox {
     pub fn new(alloc: Global) -> Result<(ShardBox, Grant), AllocError>
         ensures { IfOk result (λ r. (r.1.box_id ≡ r.0) × (r.1.knows ≡ maker)) }
     {
-        let (queue, pass) = RuledArrayQueue::<Shard, Knowledge, OneShard>::ruled(alloc, 1)?;
-        Ok((ShardBox { queue }, Grant { pass }))
+        let (cell, pass) = RuledCell::ruled(alloc)?;
+        Ok((ShardBox { cell }, Grant { pass }))
     }
 
     /// A phase opens: its shard goes into the box.
@@ -176,13 +164,7 @@ impl ShardBox {
         requires within { IsWithin (state_of shard) }
         ensures { grant.new ≡ record grant.old { knows = opened N.workers shard } }
     {
-        match self
-            .queue
-            .push_as::<OpenStep<N>, R>(rt, &mut grant.pass, shard)
-        {
-            Ok(()) => (),
-            Err(_) => unreachable!(),
-        }
+        self.cell.put_as::<OpenStep<N>>(&mut grant.pass, shard);
     }
 
     /// Takes the shard: at the first attempt, or once it is in the box.
@@ -193,9 +175,9 @@ impl ShardBox {
         ensures place { grant.new.box_id ≡ grant.old.box_id }
         ensures taken { TakenBy grant.old.knows result grant.new.knows }
     {
-        match self.queue.try_pop_as::<TakeStep>(&mut grant.pass) {
+        match self.cell.take_as::<TakeStep>(&mut grant.pass) {
             Some(shard) => shard,
-            None => take_from(rt, &self.queue, &mut grant.pass),
+            None => take_from(rt, &self.cell, &mut grant.pass),
         }
     }
 
@@ -208,16 +190,7 @@ impl ShardBox {
             (state_of shard) L.line }
         ensures { grant.new ≡ record grant.old { knows = put grant.old.knows L.line } }
     {
-        if let Err(shard) = self.queue.try_push_as::<PutStep<L>>(&mut grant.pass, shard) {
-            // A failed attempt tells nothing of the box; this call finds it empty.
-            match self
-                .queue
-                .push_as::<PutStep<L>, R>(rt, &mut grant.pass, shard)
-            {
-                Ok(()) => (),
-                Err(_) => unreachable!(),
-            }
-        }
+        self.cell.put_as::<PutStep<L>>(&mut grant.pass, shard);
     }
 
     /// A grant for the first worker for which this one speaks.
@@ -229,7 +202,7 @@ impl ShardBox {
         ensures right { result ≡ record grant.old { knows = first_of grant.old.knows } }
     {
         Grant {
-            pass: self.queue.another::<DealStep>(&mut grant.pass),
+            pass: self.cell.another::<DealStep>(&mut grant.pass),
         }
     }
 
@@ -239,7 +212,7 @@ impl ShardBox {
         ensures { grant.new ≡ record grant.old { knows = joined grant.old.knows other.knows } }
     {
         let Grant { pass } = other;
-        self.queue.absorb::<CollectStep>(&mut grant.pass, pass);
+        self.cell.absorb::<CollectStep>(&mut grant.pass, pass);
     }
 
     /// Takes the shard by a grant that speaks for all workers.
@@ -250,11 +223,32 @@ impl ShardBox {
         ensures place { grant.new.box_id ≡ grant.old.box_id }
         ensures taken { TakenBy grant.old.knows result grant.new.knows }
     {
-        match self.queue.pop_as::<TakeLastStep, R>(rt, &mut grant.pass) {
+        match self.cell.take_as::<TakeLastStep>(&mut grant.pass) {
             Some(shard) => shard,
             None => unreachable!(),
         }
     }
+}
+
+// An attempt after a look, which leaves the cell's cache line with the others until there is a
+// shard.
+fn take_if_full(
+    cell: &RuledCell<Shard, Knowledge, OneShard>,
+    pass: &mut Pass<Shard, Knowledge>,
+) -> Option<Shard>
+    requires cell { IsPassOf cell.now pass.old }
+    requires rest { IsAtRest pass.old }
+    requires speaks { Speaks (view pass.old) }
+    ensures cell { IsSamePass pass.old pass.new }
+    ensures slot { MatchOption result (KeepsSlot pass.old pass.new)
+        (λ shard. Carries pass.new true) }
+    ensures taken { MatchOption result (view pass.new ≡ view pass.old)
+        (λ shard. TakenBy (view pass.old) shard (view pass.new)) }
+{
+    if !cell.is_full() {
+        return None;
+    }
+    cell.take_as::<TakeStep>(pass)
 }
 
 // Tries until the shard is in the box.
@@ -262,17 +256,19 @@ impl ShardBox {
 #[inline(never)]
 fn take_from<R: Wait>(
     rt: &R,
-    queue: &RuledArrayQueue<Shard, Knowledge, OneShard>,
+    cell: &RuledCell<Shard, Knowledge, OneShard>,
     pass: &mut Pass<Shard, Knowledge>,
 ) -> Shard
-    requires queue { IsPassOf queue.now pass.old }
+    requires cell { IsPassOf cell.now pass.old }
+    requires rest { IsAtRest pass.old }
     requires speaks { Speaks (view pass.old) }
-    ensures queue { IsPassOf queue.now pass.new }
+    ensures cell { IsSamePass pass.old pass.new }
+    ensures slot { Carries pass.new true }
     ensures taken { TakenBy (view pass.old) result (view pass.new) }
 {
     let backoff = Backoff::new();
     for _ in rt.forever() {
-        if let Some(shard) = queue.pop_as::<TakeStep, R>(rt, pass) {
+        if let Some(shard) = take_if_full(cell, pass) {
             return shard;
         }
         backoff.snooze();

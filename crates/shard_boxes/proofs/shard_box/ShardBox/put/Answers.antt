@@ -1,26 +1,20 @@
 use Rattle.std.proofs.Common.{sym, ap, ◌∙◌, subst}
-use Rattle.item_shards.specs.declared.shard.Shard.{Shard}
 use Rattle.shard_boxes.specs.declared.shard_box.Knowledge.{Knowledge}
 use Rattle.shard_boxes.specs.States.{state_of}
 use Rattle.shard_boxes.specs.Lines.{after_lines}
 use Rattle.shard_boxes.specs.Helds.{MayPut}
 use Rattle.shard_boxes.specs.Passes.{GrantState}
 use Rattle.shard_boxes.specs.Rule.{start_of}
-use Rattle.shard_boxes.proofs.BoxSteps.{puts, learns_empty}
+use Rattle.shard_boxes.proofs.BoxSteps.{puts}
+use Rattle.shard_boxes.proofs.Carried.{carried}
 use Rattle.shard_boxes.proofs.shard_box.ShardBox.put.Goals as goal
 
-pub try_push_as-requires-clause-rule : goal.try_push_as-requires-clause-rule
-try_push_as-requires-clause-rule g c =
+pub put_as-requires-clause-rule : goal.put_as-requires-clause-rule
+put_as-requires-clause-rule g c =
     let knows = sym (ap (λ (l : GrantState). l.knows) c.grant.view_is) in
     let holds = ap (λ (v : Knowledge). v.holds) (sym knows) ∙ c.requires.holds in
     let may = subst (λ (v : Knowledge). MayPut (after_lines (start_of v) v.seen) (state_of c.args.shard) g.L.LineName.line) knows c.requires.may in
     puts _ _ _ _ _ holds may
 
-pub push_as-requires-clause-rule : goal.push_as-requires-clause-rule
-push_as-requires-clause-rule g c =
-    let back = c.in-Err.ensures.rule in
-    let knows = sym (back.1 ∙ ap (λ (l : GrantState). l.knows) c.grant.view_is) in
-    let holds = ap (λ (v : Knowledge). v.holds) (sym knows) ∙ c.requires.holds in
-    let may = subst (λ (y : Knowledge × Shard). MayPut (after_lines (start_of y.0) y.0.seen) (state_of y.1) g.L.LineName.line)
-    (λ i. (knows i, sym back.0 i)) c.requires.may in
-    (puts _ _ _ _ _ holds may, learns_empty _ _ holds)
+pub put_as-requires-clause-slot : goal.put_as-requires-clause-slot
+put_as-requires-clause-slot g c = carried c.grant.inside.pass _ _ (ap (λ (l : GrantState). l.knows) c.grant.view_is) c.requires.holds c.grant.invariant

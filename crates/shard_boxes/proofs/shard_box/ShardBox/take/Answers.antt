@@ -5,5 +5,6 @@ use Rattle.shard_boxes.specs.Rule.{Speaks}
 use Rattle.shard_boxes.proofs.BoxSteps.{takes}
 use Rattle.shard_boxes.proofs.shard_box.ShardBox.take.Goals as goal
 
-pub try_pop_as-requires-clause-rule : goal.try_pop_as-requires-clause-rule
-try_pop_as-requires-clause-rule g c = takes _ _ (subst (λ (v : Knowledge). Speaks v) (sym (ap (λ (l : GrantState). l.knows) c.grant.view_is)) c.requires.speaks)
+pub take_as-requires-clause-rule : goal.take_as-requires-clause-rule
+take_as-requires-clause-rule g c =
+    (takes _ _ (subst (λ (v : Knowledge). Speaks v) (sym (ap (λ (l : GrantState). l.knows) c.grant.view_is)) c.requires.speaks), λ _ _ _ _. tt)

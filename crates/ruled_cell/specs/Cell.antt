@@ -1,0 +1,94 @@
+-- The rule of a cell, and what each of its steps tells.
+-- Word 0 is 1 while the slot is at home with a value, and 0 otherwise.
+use Rattle.std.specs.Prelude.{◌≡◌, ◌≢◌, ℕ, ◌<◌, List, [], ◌∷◌, map, length, slice_index_or, Option, Some, None}
+use mathlib.Core.Option.{some}
+use mathlib.Core.Option as maybe
+use lib.ListN.{get_elem?}
+use Rattle.atomic_table.specs.Table.{State, Me, rest}
+use Rattle.crossbeam_queue.specs.Fifo.{Held}
+use Rattle.ruled_cell.specs.declared.Stage.{Stage}
+use Rattle.ruled_cell.specs.declared.Stage.TheVariants.{Making, Idle, Holding}
+use Rattle.ruled_cell.specs.declared.Turn.{Turn}
+
+-- the slot is at home with a value, or it is for the pass of this number
+pub data Place (T : Type 0) : Type 0 where
+  home : T → Place T
+  out : ℕ → Place T
+
+module _ {T : Type 0} where
+  -- the word
+  abbrev pub face : Place T → ℕ
+  face (home x) = 1
+  face (out j) = 0
+
+  -- what the cell holds
+  abbrev pub held : Place T → List T
+  held (home x) = x ∷ []
+  held (out j) = []
+
+module _ {T : Type 0} (homes : List (maybe.Option (Option T))) where
+  -- the value lies in the slot
+  abbrev pub Lies : Place T → Type 0
+  Lies (home x) = get_elem? homes 0 ≡ some (some (Some x))
+  Lies (out j) = Unit {0}
+
+  -- what the stage of the pass j tells of the slot
+  abbrev pub Knows : Place T → ℕ → Stage → Type 0
+  Knows place j Making = (place ≡ out j) × (get_elem? homes 0 ≡ some (some None))
+  Knows place j Idle = Unit {0}
+  Knows place j Holding = place ≡ out j
+
+-- what the user of the cell has a pass know
+abbrev pub client : {V : Type 0} → Turn V → V
+client d = d.client
+
+-- the rule of the table: what the cell holds and what the passes know keep the user's rule
+pub record CellRule {T V : Type 0} (holds : List T → List V → Type 0)
+    (s : State (Option T) (Turn V)) : Type 0 where
+  pub place : Place T
+  pub wide : 0 < length s.words
+  pub shows : slice_index_or s.words 0 0 ≡ face place
+  pub lies : Lies s.homes place
+  pub each_pass : (j : ℕ) (d : Turn V) → get_elem? s.views j ≡ some d →
+      Knows s.homes place j d.stage
+  pub kept : holds (held place) (map client s.views)
+
+module _ {V : Type 0} where
+  abbrev pub staged : Stage → V → Turn V
+  staged st v = record { stage = st; client = v }
+
+  abbrev pub making : V → Turn V
+  making v = staged Making v
+
+  abbrev pub idle : V → Turn V
+  idle v = staged Idle v
+
+  abbrev pub holding : V → Turn V
+  holding v = staged Holding v
+
+abbrev Seated : Type 0 → Type 0 → Type 0
+Seated T V = Me (Option T) (Turn V)
+
+module _ {T V : Type 0} where
+  -- the maker has the slot
+  abbrev pub began : Seated T V → Seated T V → Type 0
+  began m m' = m' ≡ (holding m.0.client, (0, None) ∷ m.1)
+
+  -- the pass has the slot, with the value in it
+  abbrev pub Got : (V → T → V → Type 0) → Seated T V → Seated T V → Type 0
+  Got then m m' =
+      (m.0.stage ≡ Idle) × (m'.0.stage ≡ Holding)
+      × ((x : T) × (m'.1 ≡ (0, Some x) ∷ m.1) × then m.0.client x m'.0.client)
+
+  -- the pass has the slot if the word was 1, and if not, the cell held nothing
+  abbrev pub took : (V → T → V → Type 0) → (V → List T → Type 0) → Seated T V → ℕ → Seated T V →
+      Type 0
+  took then fact m r m' =
+      (r ≡ 1 → Got then m m')
+      × (r ≢ 1 → (m' ≡ m) × Held 0 (fact m.0.client))
+
+  -- the slot is at home, with the value that was in it
+  abbrev pub gave : (V → T → V → Type 0) → Seated T V → Seated T V → Type 0
+  gave then m m' =
+      (m'.0.stage ≡ Idle) × (m'.1 ≡ rest m.1)
+      × ((x : T) → m.1 ≡ (0, Some x) ∷ rest m.1 → then m.0.client x m'.0.client)
