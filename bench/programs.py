@@ -66,8 +66,10 @@ def built_path(crate: str) -> str:
     return path
 
 
+RUSTC = ("rustc", "-C", "opt-level=3", "-C", "codegen-units=1", "--edition", "2021")
+
 # What is compiled for each run, and by which words, if the first of them is there.
-COMPILED = {"plain": ("rustc", "-C", "opt-level=3", "-C", "codegen-units=1", "--edition", "2021", f"{HERE}/plain/main.rs", "-o"),
+COMPILED = {"plain": (*RUSTC, f"{HERE}/plain/main.rs", "-o"),
             "one_pass": ("cc", "-O3", f"{HERE}/one_pass.c", "-o")}
 
 

@@ -1,8 +1,9 @@
 #!/usr/bin/env python3
 """Shows that the documents speak of what there is: a name in backticks is in the code, a path and a link lead to a file, in commands too, each block of code of
-docs/TUTORIAL.md is in the file named above it, each definition that the pages of definitions (docs/DEFINITIONS.md, docs/ENGINE_DEFINITIONS.md) quote is, except
-for layout, that of the file named above it, each name in a table with a column of files is in a file beside it, each crate and each law has its place, what
-bench/run wrote has the figures of figures.csv, each picture is what its script draws, and the pages of users and the front are not too long.
+docs/TUTORIAL.md and docs/APPLICATIONS.md is in the file named above it, each definition that the pages of definitions (docs/DEFINITIONS.md,
+docs/ENGINE_DEFINITIONS.md) quote is, except for layout, that of the file named above it, each name in a table with a column of files is in a file beside it, each
+crate and each law has its place, what bench/run and bench/applications wrote has the figures of their tables, each picture is what its script draws, and the pages
+of users and the front are not too long.
 
     tests/documents.py
 """
@@ -20,7 +21,7 @@ from program import DOCUMENTS, TESTS, Tally, described, run
 
 ROOT = TESTS.parent
 CODE = {".rt", ".rs", ".antt", ".py", ".c", ".sh", ".sql", ".txt", ".edit"}
-TUTORIAL = DOCUMENTS / "TUTORIAL.md"
+TUTORIALS = (DOCUMENTS / "TUTORIAL.md", DOCUMENTS / "APPLICATIONS.md")
 DEFINITIONS = (DOCUMENTS / "DEFINITIONS.md", DOCUMENTS / "ENGINE_DEFINITIONS.md")
 # Which column has the names in a table whose last one has their files.
 OF_NAMES = {"Definition", "Law", "Function"}
@@ -40,6 +41,8 @@ DRAWN = {"contended.svg": ("examples/timeline.py", "examples/contended.history",
 OF_USERS = ("README", "docs/GUARANTEES", "docs/EXAMPLE", "docs/PERFORMANCE", "docs/FORMATS", "docs/TUTORIAL", "docs/WINDOWS", "docs/CHECKING", "docs/LOADS",
             "docs/OUTGROWING", "docs/SERVING", "CONTRIBUTING", "CHANGELOG", "tests/README")
 MOST_WORDS, MOST_OF_THE_FIRST = 16_000, 1_200
+# Who writes an application reads this page and none of those above.
+OF_APPLICATIONS, MOST_OF_APPLICATIONS = "docs/APPLICATIONS", 2_800
 # A page tells how many lines of code a script has: those with more than a comment, a docstring or what lays code out.
 LINES = (DOCUMENTS / "SERVING.md", re.compile(r"(\d+) lines of Python code"), ROOT / "examples" / "front.py")
 NO_CODE = {tokenize.COMMENT, tokenize.NL, tokenize.NEWLINE, tokenize.INDENT, tokenize.DEDENT, tokenize.ENDMARKER}
@@ -143,8 +146,8 @@ def laws(tally: Tally) -> None:
 
 
 def blocks_of_code(tally: Tally) -> None:
-    """blocks of code of the tutorial"""
-    for path, block in blocks(TUTORIAL):
+    """blocks of code of the tutorials"""
+    for path, block in (named for page in TUTORIALS for named in blocks(page)):
         if path != THE_READERS:
             tally.check(block in (ROOT / path).read_text(), f"in {path} stands {block!r}")
 
@@ -214,9 +217,10 @@ def stands_in(place: Path, name: str) -> bool:
 
 
 def figures(tally: Tally) -> None:
-    """figures that bench/run wrote, those of docs/performance/figures.csv"""
-    got = run([sys.executable, "-B", ROOT / "bench" / "run", "--compare"])
-    tally.check(got.status == 0, f"bench/run --compare: {described(got)}")
+    """figures that bench/run and bench/applications wrote, those of docs/performance"""
+    for script in ("run", "applications"):
+        got = run([sys.executable, "-B", ROOT / "bench" / script, "--compare"])
+        tally.check(got.status == 0, f"bench/{script} --compare: {described(got)}")
 
 
 def pictures(tally: Tally) -> None:
@@ -233,7 +237,9 @@ def pictures(tally: Tally) -> None:
 def lengths(tally: Tally) -> None:
     """lengths of the pages of users"""
     # Marks of tables and lists are no words.
-    words = {page: len(re.findall(r"\S*\w\S*", (ROOT / f"{page}.md").read_text())) for page in OF_USERS}
+    words = {page: len(re.findall(r"\S*\w\S*", (ROOT / f"{page}.md").read_text())) for page in (*OF_USERS, OF_APPLICATIONS)}
+    alone = words.pop(OF_APPLICATIONS)
+    tally.check(alone <= MOST_OF_APPLICATIONS, f"{OF_APPLICATIONS} has {alone} words, of at most {MOST_OF_APPLICATIONS}")
     tally.check(words[OF_USERS[0]] <= MOST_OF_THE_FIRST, f"{OF_USERS[0]} has {words[OF_USERS[0]]} words, of at most {MOST_OF_THE_FIRST}")
     tally.check(sum(words.values()) <= MOST_WORDS, f"the pages of users have {sum(words.values())} words, of at most {MOST_WORDS}")
 

@@ -45,6 +45,8 @@ FAULTS = {
     "windows ready": (*REFUSED, "error: Memory"),
     "application ready": REFUSED,
     "application run": (NO_MEMORY, NO_THREAD),
+    "lines ready": REFUSED,
+    "lines judged": (NO_MEMORY,),
     LOOK: ("refused",),
 }
 

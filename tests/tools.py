@@ -1,6 +1,6 @@
 #!/usr/bin/env python3
-"""Shows that the tools do as they say: bench/tune, whose command has to run, bench/starts, the help of example_watch, man pages, and what each script says of
-wrong words, of what is not there, and of an interruption.
+"""Shows that the tools do as they say: bench/tune, whose command has to run, bench/starts, the help of example_watch, loads of applications, bench/applications,
+man pages, and what each script says of wrong words, of what is not there, and of an interruption.
 
     tests/tools.py [PROGRAM]
 """
@@ -23,7 +23,7 @@ from model import Outcome
 from program import BUILT, DOCUMENTS, EXAMPLES, SECONDS, TESTS, Tally, built, described, executable, parser_of, run
 
 BENCH, PYTHON = TESTS.parent / "bench", [sys.executable, "-B"]
-RUN, TUNE, STARTS = (BENCH / name for name in ("run", "tune", "starts"))
+RUN, TUNE, STARTS, APPLICATIONS = (BENCH / name for name in ("run", "tune", "starts", "applications"))
 THREE, MAN_PAGES = EXAMPLES / "sql" / "three.sh", DOCUMENTS / "man_pages.py"
 SKEWED = EXAMPLES / "skewed.csv"
 NEEDED = ["--workers", "4", "--users", "6", "--categories", "3"]
@@ -34,7 +34,7 @@ NONE = str(TESTS / "none")
 OF_A_PROGRAM = [TESTS / f"{name}.py" for name in ("checking", "ends", "failover", "joined", "lasting", "library_calls", "limits", "live", "logs", "postgres",
                                                   "quorum", "refused_memory", "second_opinion", "serving", "timeline", "tools", "worked")]
 OF_EXAMPLES = [EXAMPLES / f"{name}.py" for name in ("client", "front", "front_quorum", "load", "small_engine", "timeline", "sql/load", "sql/perform")]
-OF_WORDS = [*OF_A_PROGRAM, TESTS / "compare_programs.py", TESTS / "loads.py", *OF_EXAMPLES, MAN_PAGES, RUN, TUNE, STARTS]
+OF_WORDS = [*OF_A_PROGRAM, TESTS / "compare_programs.py", TESTS / "loads.py", *OF_EXAMPLES, MAN_PAGES, RUN, TUNE, STARTS, APPLICATIONS]
 CLIENT, FRONT, QUORUM, LOAD, SMALL_ENGINE, TIMELINE, _, PERFORM = OF_EXAMPLES
 
 # Stands for the program under test.
@@ -70,6 +70,9 @@ ANSWERS = [
     ([MAN_PAGES, TESTS, NONE], 2, NONE),
     ([RUN, "--only", "none"], 2, "none is none of workers"),
     ([RUN, "--skip", "none"], 2, "none is none of sqlite"),
+    ([APPLICATIONS, "--bank", NONE], 2, NONE),
+    ([APPLICATIONS, "--tries", "0"], 2, "--tries"),
+    ([APPLICATIONS, "--draw", "--out", NONE], 1, NONE),
     ([STARTS, "--rows", "9"], 2, "10000"),
     ([STARTS, "--tries", "0"], 2, "--tries"),
     ([STARTS, "--program", "/bin/false", "--rows", "10000"], 1, "no reply"),
@@ -218,12 +221,50 @@ def lines_of_help(said: str) -> list[str]:
     return [" ".join(line.split()) for line in words.splitlines() if line]
 
 
+# Loads of applications, of 4,000 requests, and what they leave by any number of workers and any policy: likes of page 1, or what 100 accounts hold at first.
+LEFT = {
+    "example_likes": (("--pages=1 --views=0", 4000), ("--pages=1 --views=100", 0), ("--pages=1 --views=0 --threshold=8 --users=1", 4000)),
+    "example_bank": (("--accounts=100 --views=100", 100_000_000), ("--accounts=100 --views=0 --transfers=100", 100_000_000)),
+}
+
+
+def loads_of_applications(tally: Tally, _program: Path) -> None:
+    """loads of applications, and their help"""
+    for name, loads in LEFT.items():
+        program = built(name)
+        helps.help_and_version(tally, program, name, None)
+        for words, sum_left in loads:
+            for workers in (1, 4):
+                got = run([program, "--requests=4000", f"--workers={workers}", *words.split()])
+                right = re.fullmatch(rf"4000 requests: [0-9.]+(s|ms|µs|ns), sum {sum_left}\n", got.stdout.decode())
+                tally.check(got.status == 0 and bool(right), f"{name} {words}, {workers} workers: {described(got)}")
+
+
+def figures_of_applications(tally: Tally, _program: Path) -> None:
+    """figures, plot and page of bench/applications, also drawn again; and a program that prints none"""
+    if shutil.which("rustc") is None:
+        return tally.skip("bench/applications", "rustc is not installed")
+    words = [*PYTHON, APPLICATIONS, "--likes", built("example_likes"), "--bank"]
+    with TemporaryDirectory() as folder:
+        written = [Path(folder) / "docs" / name for name in ("APPLICATIONS.md", "performance/applications.csv", "performance/applications.svg")]
+        got = run([*words, built("example_bank"), "--requests", "4000", "--tries", "2", "--out", folder])
+        tally.check(got.status == 0 and all(path.exists() for path in written), f"bench/applications: {described(got)}")
+        first = [path.read_bytes() for path in written]
+        # Two lines of heads, and of each of six loads three systems by four counts of workers, and one without locks.
+        tally.check(first[1].count(b"\n") == 2 + 6 * (3 * 4 + 1), f"lines of applications.csv: {first[1]!r}")
+        got = run([*PYTHON, APPLICATIONS, "--draw", "--out", folder])
+        tally.same("bench/applications --draw", got, Outcome(0, b"", b""))
+        tally.check([path.read_bytes() for path in written] == first, "bench/applications --draw writes the same")
+    got = run([*words, "/bin/true", "--requests", "4000", "--tries", "1", "--fast"])
+    tally.check(got.status == 1 and b"/bin/true --workers=1 --requests=4000" in got.stderr.splitlines()[-1], f"bench/applications of no bank: {described(got)}")
+
+
 def main() -> None:
     parser = parser_of(__doc__)
     parser.add_argument("program", type=executable, nargs="?", default=str(BUILT))
     program = parser.parse_args().program
     tally = Tally()
-    for check in (tuned, starts, helps_of_windows, answers, interruptions, builds, man_pages):
+    for check in (tuned, starts, helps_of_windows, loads_of_applications, figures_of_applications, answers, interruptions, builds, man_pages):
         passed = tally.passed
         check(tally, program)
         print(f"{tally.passed - passed:6} passed: {check.__doc__}")

@@ -3,7 +3,8 @@ ghost use Rattle.std.specs.Prelude.{◌<◌, length};
 
 use crate::counters::CounterRequest::{Add, Read};
 use crate::counters::{CounterReply, Counters};
-use split_engine::{Line, check_history, perform};
+use split_engine::HistoryFault::{Lacking, Wrong};
+use split_engine::{HistoryFault, Line, check_history, perform};
 use std::alloc::{AllocError, Global};
 use std::test::Fail;
 
@@ -16,14 +17,17 @@ fn line(worker: u32, index: u32, reply: CounterReply) -> Line<CounterReply> {
 }
 
 // What the referee finds of lines for two scripts over counters that show 1 and 2.
-fn verdict(alloc: Global, lines: &[Line<CounterReply>]) -> Result<Result<(), usize>, AllocError>
+fn verdict(
+    alloc: Global,
+    lines: &[Line<CounterReply>],
+) -> Result<Result<(), HistoryFault>, AllocError>
     requires { length lines.now < 1000 }
 {
     let first = vec![in alloc; Add { to: (0, 1), by: 4 }, Read { counter: 1 }]?;
     let second = vec![in alloc; Read { counter: 0 }]?;
     let scripts = [first, second];
     let mut counters = vec![in alloc; 1u64, 2u64]?;
-    Ok(check_history::<Counters>(&mut counters, &scripts, lines))
+    Ok(check_history::<Counters>(alloc, &mut counters, &scripts, lines))
 }
 
 #[test]
@@ -36,10 +40,18 @@ fn verdicts(rt: HostRuntime) -> Result<(), Fail> {
     let unasked = line(0, 2, CounterReply::Added);
     let stranger = line(2, 0, CounterReply::Added);
     assert_eq!(rt; verdict(alloc, &[read, added, six])?, Ok(()));
-    assert_eq!(rt; verdict(alloc, &[read, added, seven])?, Err(2));
-    assert_eq!(rt; verdict(alloc, &[added, read, six])?, Err(1));
-    assert_eq!(rt; verdict(alloc, &[read, unasked, added])?, Err(1));
-    assert_eq!(rt; verdict(alloc, &[stranger, read, added])?, Err(0));
+    assert_eq!(rt; verdict(alloc, &[read, added, seven])?, Err(Wrong(2)));
+    assert_eq!(rt; verdict(alloc, &[added, read, six])?, Err(Wrong(1)));
+    assert_eq!(rt; verdict(alloc, &[read, unasked, added])?, Err(Wrong(1)));
+    assert_eq!(rt; verdict(alloc, &[stranger, read, added])?, Err(Wrong(0)));
+    assert_eq!(rt; verdict(alloc, &[read, added, read])?, Err(Wrong(2)));
+    assert_eq!(rt;
+        verdict(alloc, &[added, six])?,
+        Err(Lacking {
+            worker: 1,
+            index: 0
+        })
+    );
     Ok(())
 }
 

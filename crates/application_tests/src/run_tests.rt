@@ -2,7 +2,9 @@
 //! hand.
 use crate::counters::CounterRequest::{Add, Read};
 use crate::counters::{CounterReply, CounterRequest, Counters};
-use split_engine::{Entry, Policy, ScriptFault, check_scripts, run, split_phases_replay};
+use split_engine::{
+    Entry, Policy, ScriptFault, check_scripts, run, runs_replay_as_one, split_phases_replay,
+};
 use std::alloc::{AllocError, Global};
 use std::test::Fail;
 
@@ -98,6 +100,52 @@ fn nothing_is_split(rt: HostRuntime) -> Result<(), Fail> {
             "after {rounds} rounds"
         );
     }
+    Ok(())
+}
+
+// A run goes on from the table that another has left.
+#[test]
+fn a_run_goes_on(rt: HostRuntime) -> Result<(), Fail> {
+    let alloc = rt.alloc();
+    runs_replay_as_one::<Counters>();
+    let first = vec![in alloc; Add { to: (0, 1), by: 5 }, Read { counter: 1 }]?;
+    let second = vec![in alloc; Add { to: (0, 0), by: 2 }]?;
+    let counters = vec![in alloc; 0u64, 3u64]?;
+    let outcome = run::<Counters, HostRuntime>(
+        &rt,
+        alloc,
+        counters,
+        &[first, second],
+        policy(1, 1),
+    )?;
+    let wanted = [
+        (0, 0, CounterReply::Added),
+        (1, 0, CounterReply::Added),
+        (0, 1, CounterReply::Shows(8)),
+    ];
+    assert_eq!(rt;
+        told(alloc, &outcome.history)?.as_slice(),
+        wanted.as_slice()
+    );
+    let first = vec![in alloc; Read { counter: 0 }, Add { to: (1, 1), by: 1 }]?;
+    let second = vec![in alloc; Add { to: (0, 1), by: 10 }]?;
+    let outcome = run::<Counters, HostRuntime>(
+        &rt,
+        alloc,
+        outcome.table,
+        &[first, second],
+        policy(1, 1),
+    )?;
+    let wanted = [
+        (0, 0, CounterReply::Shows(9)),
+        (1, 0, CounterReply::Added),
+        (0, 1, CounterReply::Added),
+    ];
+    assert_eq!(rt;
+        told(alloc, &outcome.history)?.as_slice(),
+        wanted.as_slice()
+    );
+    assert_eq!(rt; outcome.table.as_slice(), [19, 20].as_slice());
     Ok(())
 }
 

@@ -1,15 +1,22 @@
-//! A bank: three workers perform requests over three accounts, each on a thread; and a referee
-//! judges two histories.
+//! A bank: three workers perform requests over three accounts, each on a thread, and a referee
+//! judges two histories; or a load, by its options.
 #![tactic(auto)]
 
 mod bank;
+mod load;
 
 use crate::bank::BankRequest::{Balance, Close, Deposit, Transfer};
 use crate::bank::{Account, Bank, BankReply};
+use crate::load::measure;
 use anyhow::Result;
+use program_options::program_words;
 use split_engine::{Line, Outcome, Policy, check_history, check_scripts, run};
 use std::alloc::Global;
 use std::io;
+use std::process::ExitCode;
+use std::rt::{Clock, Env};
+use std::sync::Wait;
+use std::thread::Threads;
 
 const FULL: Account = Account {
     held: 100,
@@ -34,7 +41,32 @@ const POLICY: Policy = Policy {
     threshold: 1,
 };
 
-fn main(rt: HostRuntime) -> Result<()> {
+fn main(rt: HostRuntime) -> ExitCode {
+    match perform(&rt) {
+        Ok(status) => status,
+        Err(fault) => {
+            // What can't be written still has its status.
+            let _ = eprintln!(rt; "{fault}");
+            ExitCode::FAILURE
+        }
+    }
+}
+
+// Performs a load if the program has words, and else the example.
+fn perform<R>(rt: &R) -> Result<ExitCode>
+where
+    R: Env + Threads + Wait + Sync + Clock + Print + Eprint + Alloc<A = Global>,
+{
+    let words = program_words(rt)?;
+    if words.len() > 1 {
+        return measure(rt, &words);
+    }
+    show(rt)?;
+    Ok(ExitCode::SUCCESS)
+}
+
+// Three scripts over three accounts.
+fn show<R: Threads + Wait + Sync + Print + Alloc<A = Global>>(rt: &R) -> Result<()> {
     let alloc = rt.alloc();
     let accounts = vec![in alloc; FULL, EMPTY, CLOSED]?;
     let first = vec![in alloc;
@@ -62,9 +94,9 @@ fn main(rt: HostRuntime) -> Result<()> {
     ]?;
     let scripts = [first, second, third];
     check_scripts::<Bank>(&scripts, accounts.len())?;
-    let outcome = run::<Bank, HostRuntime>(&rt, alloc, accounts, &scripts, POLICY)?;
-    print_outcome(&rt, &outcome)?;
-    judge_two(&rt, alloc)
+    let outcome = run::<Bank, R>(rt, alloc, accounts, &scripts, POLICY)?;
+    print_outcome(rt, &outcome)?;
+    judge_two(rt, alloc)
 }
 
 // The history in the order in which it replays, and what the accounts hold after it.
@@ -81,18 +113,17 @@ fn print_outcome(rt: &impl Print, outcome: &Outcome<Bank>) -> io::Result<()> {
     Ok(())
 }
 
-// Tells what the referee finds of two histories of one script over an empty account: the place of
-// the first wrong line, if there is one.
+// Tells what the referee finds of two histories of one script over an empty account.
 fn judge_two(rt: &impl Print, alloc: Global) -> Result<()> {
     let script = vec![in alloc; Deposit { to: 0, amount: 5 }, Balance { of: 0 }]?;
     let scripts = [script];
     let right = [line(0, BankReply::Done), line(1, BankReply::Holds(5))];
     let mut accounts = vec![in alloc; EMPTY]?;
-    let verdict = check_history::<Bank>(&mut accounts, &scripts, &right);
+    let verdict = check_history::<Bank>(alloc, &mut accounts, &scripts, &right);
     println!(rt; "right: {verdict:?}")?;
     let wrong = [line(1, BankReply::Holds(0)), line(0, BankReply::NotEnough)];
     let mut accounts = vec![in alloc; EMPTY]?;
-    let verdict = check_history::<Bank>(&mut accounts, &scripts, &wrong);
+    let verdict = check_history::<Bank>(alloc, &mut accounts, &scripts, &wrong);
     println!(rt; "wrong: {verdict:?}")?;
     Ok(())
 }

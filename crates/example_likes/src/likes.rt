@@ -39,6 +39,12 @@ pub struct Tally {
     pub last: Option<u64>,
 }
 
+/// A user or a page before the first like.
+pub const NONE: Tally = Tally {
+    likes: 0,
+    last: None,
+};
+
 /// Likes, after Doppel's benchmark LIKE (Narula et al., OSDI 2014).
 pub struct Likes;
 

@@ -1,11 +1,19 @@
-//! Two users like one page, each by a worker with a thread of its own.
+//! Two users like one page, each by a worker with a thread of its own; or a load, by its options.
 #![tactic(auto)]
 
 mod likes;
+mod load;
 
-use crate::likes::{LikeRequest, Likes, Tally};
+use crate::likes::{LikeRequest, Likes, NONE};
+use crate::load::measure;
 use anyhow::Result;
+use program_options::program_words;
 use split_engine::{Policy, run};
+use std::alloc::Global;
+use std::process::ExitCode;
+use std::rt::{Clock, Env};
+use std::sync::Wait;
+use std::thread::Threads;
 
 // A joined phase with a request of each script and a split one with two, twice.
 const POLICY: Policy = Policy {
@@ -15,14 +23,35 @@ const POLICY: Policy = Policy {
     threshold: 1,
 };
 
-fn main(rt: HostRuntime) -> Result<()> {
+fn main(rt: HostRuntime) -> ExitCode {
+    match perform(&rt) {
+        Ok(status) => status,
+        Err(fault) => {
+            // What can't be written still has its status.
+            let _ = eprintln!(rt; "{fault}");
+            ExitCode::FAILURE
+        }
+    }
+}
+
+// Performs a load if the program has words, and else the example.
+fn perform<R>(rt: &R) -> Result<ExitCode>
+where
+    R: Env + Threads + Wait + Sync + Clock + Print + Eprint + Alloc<A = Global>,
+{
+    let words = program_words(rt)?;
+    if words.len() > 1 {
+        return measure(rt, &words);
+    }
+    show(rt)?;
+    Ok(ExitCode::SUCCESS)
+}
+
+// Two scripts over two users and a page.
+fn show<R: Threads + Wait + Sync + Print + Alloc<A = Global>>(rt: &R) -> Result<()> {
     let alloc = rt.alloc();
     // Keys 0 and 1 are users, key 2 is a page.
-    let none = Tally {
-        likes: 0,
-        last: None,
-    };
-    let tallies = vec![in alloc; none, none, none]?;
+    let tallies = vec![in alloc; NONE, NONE, NONE]?;
     let first = vec![in alloc;
         LikeRequest::Like {
             user: 0,
@@ -45,7 +74,7 @@ fn main(rt: HostRuntime) -> Result<()> {
         LikeRequest::View { user: 1, page: 2 },
     ]?;
     let scripts = [first, second];
-    let outcome = run::<Likes, HostRuntime>(&rt, alloc, tallies, &scripts, POLICY)?;
+    let outcome = run::<Likes, R>(rt, alloc, tallies, &scripts, POLICY)?;
     for entry in &outcome.history {
         println!(rt;
             "worker {}, request {}: {:?}",

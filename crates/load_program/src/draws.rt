@@ -5,11 +5,12 @@ ghost use Rattle.load_program.specs.Loads.{EachFrom};
 ghost use Rattle.load_program.specs.Stored.{HasShare, IsLineAt, IsRowAt, IsStored, NamesStored, item_at};
 
 use crate::load::ScriptLine;
-use crate::plan::{Counts, Plan, Popularity};
+use crate::plan::{Counts, Plan};
 use auction_rows::{Facts, ItemId, ItemRow, MOST_QUANTITY, Name, Quantity, Request, Row, Stars};
 use rand::RngExt;
 use rand_xoshiro::Xoshiro256PlusPlus;
 use std::alloc::{AllocError, Global};
+use zipf_draws::Popularity;
 
 // No start price is above the least amount that is bid.
 const MOST_START: u64 = 100;

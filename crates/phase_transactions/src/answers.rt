@@ -101,11 +101,27 @@ impl<N: PhaseName> Worker<N> {
     }
 }
 
-/// What a view looks at on the one shard that it takes, and the reply.
-pub(crate) fn view_on<N: PhaseName>(taken: &Taken<N>, request: &Request) -> (Look, Reply)
+/// What a view looks at.
+#[inline(always)]
+pub(crate) fn look_of(request: &Request) -> Look
+    requires { is_view request.now ≡ true }
+    ensures { result ≡ look_for request.now }
+{
+    match *request {
+        Request::ViewItem { item } => Look::Item(item),
+        Request::ViewBids { item } => Look::Bids(item),
+        Request::ViewCategory { category } => Look::Category(category),
+        Request::ViewUser { user } => Look::User(user),
+        _ => unreachable!(),
+    }
+}
+
+/// What the one shard that a view takes replies.
+#[inline(always)]
+pub(crate) fn view_on<N: PhaseName>(taken: &Taken<N>, request: &Request) -> Reply
     requires view { is_view request.now ≡ true }
     requires one { IsOnOne request.now taken.now }
-    ensures { IsShownBy taken.now request.now result.0 result.1 }
+    ensures { IsShownBy taken.now request.now (look_for request.now) result }
 {
     match taken {
         Taken::One(one) => view(one.shard(), request),
@@ -125,22 +141,20 @@ pub(crate) fn item_on<N: PhaseName>(taken: &Taken<N>, item: ItemId) -> Option<It
     }
 }
 
-// What a view looks at on a shard in which its object lies, and the reply.
-fn view(shard: &Shard, request: &Request) -> (Look, Reply)
+// What a shard in which its object lies replies to a view.
+#[inline(always)]
+fn view(shard: &Shard, request: &Request) -> Reply
     requires view { is_view request.now ≡ true }
     requires can { CanView shard.now request.now }
-    ensures looks { result.0 ≡ look_for request.now }
     ensures answers { (counters : CountersValue) → (worker : ℕ) →
-        IsReplyTo counters worker request.now result.1 }
-    ensures shown { IsTrueOf (contents shard.now) (shown_with None result.1 result.0) }
+        IsReplyTo counters worker request.now result }
+    ensures shown { IsTrueOf (contents shard.now) (shown_with None result (look_for request.now)) }
 {
     match *request {
-        Request::ViewItem { item } => (Look::Item(item), shard.view_item(item)),
-        Request::ViewBids { item } => (Look::Bids(item), shard.view_bids(item)),
-        Request::ViewCategory { category } => {
-            (Look::Category(category), shard.view_category(category))
-        }
-        Request::ViewUser { user } => (Look::User(user), shard.view_user(user)),
+        Request::ViewItem { item } => shard.view_item(item),
+        Request::ViewBids { item } => shard.view_bids(item),
+        Request::ViewCategory { category } => shard.view_category(category),
+        Request::ViewUser { user } => shard.view_user(user),
         _ => unreachable!(),
     }
 }

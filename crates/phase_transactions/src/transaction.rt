@@ -10,7 +10,7 @@ ghost use Rattle.shard_boxes.specs.Keys.{KeyState};
 ghost use Rattle.phase_transactions.specs.declared.done.PermitFault.TheVariants.{NumberFull};
 ghost use Rattle.phase_transactions.specs.Txns.{IsBid};
 
-use crate::answers::{item_on, view_on};
+use crate::answers::{item_on, look_of, view_on};
 use crate::deeds::{BidCall, Call, Deeds, Store, View, Written};
 use crate::done::PermitFault;
 use crate::taken::{Begun, make_room, number_on, put_all, put_back, take_all};
@@ -25,7 +25,7 @@ use worker_slices::Homes;
 
 impl<N: PhaseName> Worker<N> {
     ghost use Rattle.worker_slices.specs.declared.homes.Homes.{Homes as HomesValue};
-    ghost use Rattle.phase_transactions.specs.inner.Begun.{step_of, HasBegun, HasFirst, HasRoomFor, IsAnsweredBy, states_in};
+    ghost use Rattle.phase_transactions.specs.inner.Begun.{step_of, HasBegun, HasFirst, HasRoomFor, IsAnsweredBy, IsOnOne, states_in};
     ghost use Rattle.phase_transactions.specs.inner.Homes.{AreHomesOf, HasHomes};
     ghost use Rattle.worker_slices.specs.Homes.{IsHotStore, shard_at};
     ghost use Rattle.phase_transactions.specs.Performing.{asks, CanTransact, HasCommitted, HasCommittedSome, HasFailed, HasPerformed, HasStoredOrIsFull, HasStoredSome, HaveOpening, StoresItem};
@@ -280,7 +280,7 @@ impl<N: PhaseName> Worker<N> {
         }
     }
 
-    // Performs a view. Not inlined: only a view needs room for a whole reply on the stack.
+    // Performs a view. Not inlined: other requests need none of its room on the stack.
     #[inline(never)]
     fn show<R: Wait>(
         &mut self,
@@ -309,14 +309,34 @@ impl<N: PhaseName> Worker<N> {
             self.put_view(rt, boxes, begun, &view);
             return Ok(());
         }
-        let (look, reply) = view_on(&begun.taken, request);
+        self.show_whole(rt, boxes, begun, call);
+        Ok(())
+    }
+
+    // Shows what a view asks for on the shard that it took, by a whole reply. Not inlined: the view
+    // of an item needs no room for one on the stack.
+    #[inline(never)]
+    fn show_whole<R: Wait>(&mut self, rt: &R, boxes: &Boxes<N>, begun: Begun<N>, call: Call<'_>)
+        requires view { is_view call.request.now ≡ true }
+        requires one { IsOnOne call.request.now begun.taken }
+        requires opened { HaveOpening N.initial self.old.opening }
+        requires begun { (homes : HomesValue) × (key : KeyState) × HasBegun
+            (step_of N.initial N.workers boxes.now key homes)
+            self.old call.request.now begun }
+        requires left { 0 < self.old.left }
+        ensures { (homes : HomesValue) → (key : KeyState) → HasBegun
+            (step_of N.initial N.workers boxes.now key homes)
+            self.old call.entry.request.now begun →
+            HasCommittedSome N.initial (record self.old { key = key }) self.new
+            call.entry.request.now call.entry.index }
+    {
+        let reply = view_on(&begun.taken, call.request);
         let view = View {
             call,
-            look,
+            look: look_of(call.request),
             answer: Answer::of(&reply),
         };
         self.put_view(rt, boxes, begun, &view);
-        Ok(())
     }
 
     // Puts the shard of a view back with its line, and commits it.

@@ -137,8 +137,9 @@ fn purchase(text: &[u8], at: usize) -> Option<(Request, usize)>
     Some((request, next))
 }
 
-// The view that a text goes on with, to the end of the line.
-#[inline(never)]
+// The view that a text goes on with, to the end of the line. Inlined, as are `store_at` and
+// `line_at`: each call would copy the request, with room for an item's facts.
+#[inline(always)]
 fn view_at(text: &[u8], at: usize) -> Option<(Request, usize)>
     requires ends { EndsLine text.now }
     requires within { at < length text.now }
@@ -164,7 +165,7 @@ fn view_at(text: &[u8], at: usize) -> Option<(Request, usize)>
 }
 
 // The store that a text goes on with, to the end of the line.
-#[inline(never)]
+#[inline(always)]
 fn store_at(text: &[u8], at: usize) -> Option<(Request, usize)>
     requires ends { EndsLine text.now }
     requires within { at < length text.now }
@@ -232,7 +233,7 @@ fn asked_at(text: &[u8], at: usize) -> Option<(bool, Request, usize)>
 }
 
 /// What the line from a place on says, if it is plain, and the place after it.
-#[inline(never)]
+#[inline(always)]
 pub fn line_at(text: &[u8], at: usize) -> Option<(Record, usize)>
     requires ends { EndsLine text.now }
     requires within { at < length text.now }

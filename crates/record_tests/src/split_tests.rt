@@ -54,3 +54,17 @@ fn top_list_of_two_slices(rt: HostRuntime) {
     let wanted = [11, 10, 9, 8, 7, 6, 5, 4, 3, 2];
     assert_same(&rt, top.entries(), wanted.as_slice());
 }
+
+#[test]
+fn least_of_a_full_list(rt: HostRuntime) {
+    let mut top = TopRec::<u64, 3>::identity();
+    top.insert(5);
+    top.insert(9);
+    assert_same(&rt, top.least(), None);
+    top.insert(7);
+    assert_same(&rt, top.least(), Some(5));
+    top.insert(4);
+    assert_same(&rt, top.least(), Some(5));
+    top.insert(6);
+    assert_same(&rt, top.least(), Some(6));
+}

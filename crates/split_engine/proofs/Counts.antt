@@ -16,7 +16,7 @@ use Rattle.split_engine.specs.Rules.{Rules}
 use Rattle.split_engine.specs.declared.state.TheConstants.{MOST_COMMITS}
 use Rattle.split_engine.specs.Serial.{IsWithin}
 use Rattle.split_engine.specs.Serving.{calls_before, call_of, entries_of, total, IsScript, AreScripts}
-use Rattle.split_engine.specs.inner.Phases.{is_taken, split_calls, put_off, HasStashed, HasServed, HaveServed, IsRunState}
+use Rattle.split_engine.specs.inner.Phases.{is_taken, split_calls, put_off, HasStashed, HasServed, HaveServed, IsRunState, AllFinished}
 use Rattle.split_engine.specs.inner.Assignments.{Assignment, assignments, HasDone, left_of, all_left}
 use Rattle.split_engine.proofs.Sessions.{long_before}
 
@@ -188,6 +188,19 @@ module _ {Record Slice Fixed Request Reply Act : Type 0} (rules : Rules Record S
   passed_few size v (s ∷ ss) [] history h = absurd h
   passed_few size v (s ∷ ss) (d ∷ ds) history h =
       let here = h.0.next_in in let again = passed_few size (suc v) ss ds history h.1 in omega (arith, here, again)
+
+  -- once all is performed, each request has a commit
+  none_waiting : (ss : List (List Request)) (ds : List (Cursor Request)) → AllFinished ss ds → (waiting ds ≡ 0) × (passed ds ≡ total ss)
+  none_waiting [] [] h = (refl, refl)
+  none_waiting [] (d ∷ ds) h = absurd h
+  none_waiting (s ∷ ss) [] h = absurd h
+  none_waiting (s ∷ ss) (d ∷ ds) h =
+      let again = none_waiting ss ds h.1 in let none : length d.stash.items ≡ 0 = ap length h.0.1 in (omega (arith, none, again.0), omega (arith, h.0.0, again.1))
+
+  pub all_committed : (Fits : ℕ → Record → Type 0) (n : ℕ) (opened : List Record) (scripts : List (List Request)) (table : List Record) (history : List (Entry Request Reply))
+      (cursors : List (Cursor Request)) → IsRunState rules Fits n opened scripts table history cursors → AllFinished scripts cursors → length history ≡ total scripts
+  all_committed Fits n opened scripts table history cursors f h =
+      let all = commits Fits n opened scripts table history cursors f in let done = none_waiting scripts cursors h in omega (arith, all, done.0, done.1)
 
   -- there is room for a worker's turn
   turn_few : (size v : ℕ) (ss : List (List Request)) (ds : List (Cursor Request)) (k : ℕ) (s : List Request) (d : Cursor Request) (history : List (Entry Request Reply)) →

@@ -1,7 +1,9 @@
 mod Splits
 mod Works
+mod KeptSlices
 mod States
 mod Ends
 mod Lines
 mod Sessions
 mod Counts
+mod MarkRows

@@ -235,14 +235,6 @@ module _ {Record Slice Fixed Request Reply Act : Type 0} (rules : Rules Record S
         merged_steps t (replicate (length opened) rules.empty) es (subst (λ m. length (replicate m rules.empty) ≡ length t) len (length-replicate (length t) rules.empty)) h
         ∙ ap (λ s. fold step s es) (subst (λ m. merged_all rules t (replicate m rules.empty) ≡ t) len (merged_none n t fit))
 
-    pub both_merged : (n : ℕ) {one two all : List (Entry Request Reply)} → AllByRecursion (Fits n) opened → Interleaves one two all → AllByRecursion Split all →
-        merged_all rules (merged_all rules opened (slices_of rules opened one)) (slices_of rules opened two) ≡ table_after rules opened all
-    both_merged n {one = one} {two = two} {all = all} fit i h =
-        let one_split = all_of_first Split i h in
-        ap (λ s. merged_all rules s (slices_of rules opened two)) (merged_slices n opened one refl fit one_split)
-        ∙ merged_slices (n + length one + length one) (fold step opened one) two (length-steps opened one) (steps_fit n opened one fit one_split) (all_of_second Split i h)
-        ∙ sym (interleaved i opened h) ∙ sym (steps opened all (λ key. refl) h)
-
     pub length-slices : (es : List (Entry Request Reply)) → length (slices_of rules opened es) ≡ length opened
     length-slices es = length-all es (replicate (length opened) rules.empty) ∙ length-replicate (length opened) rules.empty
 

@@ -103,12 +103,6 @@ module _ {Q R : Type 0} where
       ap (map call_of) (filter-append (λ (e : Entry Q R). e.worker == w) history more ∙ ap (λ es. own_part w history ++ es) (part_own w more own))
       ∙ map-append call_of (own_part w history) more
 
-  pub calls_other : (w : ℕ) (history more : List (Entry Q R)) → AllByRecursion (λ (e : Entry Q R). e.worker ≡ w → ⊥) more →
-      calls_of w (history ++ more) ≡ calls_of w history
-  calls_other w history more others =
-      ap (map call_of) (filter-append (λ (e : Entry Q R). e.worker == w) history more ∙ ap (λ es. own_part w history ++ es) (part_other w more others)
-      ∙ append-nil (own_part w history))
-
   pub own_not : (w v : ℕ) → (w ≡ v → ⊥) → (more : List (Entry Q R)) → AllByRecursion (λ (e : Entry Q R). e.worker ≡ w) more →
       AllByRecursion (λ (e : Entry Q R). e.worker ≡ v → ⊥) more
   own_not w v ne more own = all-weaker (λ (e : Entry Q R). e.worker ≡ w) (λ e. e.worker ≡ v → ⊥) (λ e is same. ne (sym is ∙ same)) more own

@@ -10,7 +10,6 @@ use Rattle.std.proofs.lemmas.List.Elements.{filter-append}
 use Rattle.std.proofs.lemmas.List.Sums.{fold-append}
 use Rattle.split_engine.specs.declared.entry.Entry.{Entry}
 use Rattle.split_engine.specs.Rules.{Rules}
-use Rattle.split_engine.specs.Splitting.{IsSplitEntry, after_split, merged_all}
 use Rattle.split_engine.specs.Serial.{next, reply, after_entry, ReplaysFrom, table_after}
 use Rattle.split_engine.specs.Serving.{calls_before, call_of, commit}
 use Rattle.split_engine.specs.inner.Phases.{is_taken, split_calls, put_off, HasPerformedOnSlices, HasPerformed}
@@ -51,20 +50,6 @@ all_at P (x ∷ xs) (suc n) d h all = all_at P xs n d (omega arith) all.1
 
 module _ {Record Slice Fixed Request Reply Act : Type 0} (rules : Rules Record Slice Fixed Request Reply Act) (IsSmall : Act → Type 0)
     (hot : List Bool) (table : List Record) (worker : ℕ) where
-  pub did_more : (before all : List (ℕ × Request)) (journal : List (Entry Request Reply)) (slices later : List Slice) (stash : List (ℕ × Request)) (e : Entry Request Reply) →
-      HasPerformedOnSlices rules IsSmall hot table worker all journal slices before stash → IsSplitEntry rules IsSmall table e → e.worker ≡ worker →
-      is_taken rules hot e.request ≡ true → later ≡ after_split rules table slices e →
-      HasPerformedOnSlices rules IsSmall hot table worker (all ++ call_of e ∷ []) (journal ++ e ∷ []) later before stash
-  did_more before all journal slices later stash e d s w taken l = record {
-    split = all_more _ journal e d.split s;
-    own = all_more _ journal e d.own w;
-    performed = map-append call_of journal (e ∷ []) ∙ ap (λ cs. cs ++ call_of e ∷ []) d.performed
-        ∙ sym (filter_one (λ call. is_taken rules hot call.1) all (call_of e) true taken);
-    stash_is = d.stash_is ∙ ap (λ cs. before ++ cs) (sym (append-nil (put_off rules hot all))
-        ∙ sym (filter_one (λ call. not (is_taken rules hot call.1)) all (call_of e) false (ap not taken)));
-    slices_are = l ∙ ap (λ ss. after_split rules table ss e) d.slices_are ∙ sym (fold-append (after_split rules table) _ journal (e ∷ []));
-  }
-
   pub stashed_more : (before all : List (ℕ × Request)) (journal : List (Entry Request Reply)) (slices : List Slice) (stash : List (ℕ × Request)) (call : ℕ × Request) →
       HasPerformedOnSlices rules IsSmall hot table worker all journal slices before stash → is_taken rules hot call.1 ≡ false →
       HasPerformedOnSlices rules IsSmall hot table worker (all ++ call ∷ []) journal slices before (stash ++ call ∷ [])
@@ -98,11 +83,3 @@ module _ {Record Slice Fixed Request Reply Act : Type 0} (rules : Rules Record S
   pub performed_one : (w : ℕ) (t u : List Record) (call : ℕ × Request) → u ≡ next rules t call.1 →
       HasPerformed rules w (call ∷ []) t u (commit w call (reply rules t call.1) ∷ [])
   performed_one w t u call e = record { replays = (refl, tt); table_is = e; own = (refl, tt); performed = refl }
-
-  pub merged_more : (acc grown : List Record) (made r : Record) (s : Slice) (rs : List Record) (ss : List Slice) →
-      grown ≡ acc ++ made ∷ [] → made ≡ rules.merged r s →
-      grown ++ merged_all rules rs ss ≡ acc ++ merged_all rules (r ∷ rs) (s ∷ ss)
-  merged_more acc grown made r s rs ss g m =
-      ap (λ xs. xs ++ merged_all rules rs ss) g
-      ∙ append_assoc acc (made ∷ []) (merged_all rules rs ss)
-      ∙ ap (λ x. acc ++ x ∷ merged_all rules rs ss) m

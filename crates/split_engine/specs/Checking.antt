@@ -1,18 +1,34 @@
 -- What the referee finds of a history that is given as lines.
-use Rattle.std.specs.Prelude.{◌≡◌, List, Option, Some, None, fold}
-use Rattle.phase_laws.specs.Replay.{Replays}
+use Rattle.std.specs.Prelude.{◌≡◌, ℕ, ◌==◌, ◌&&◌, Bool, true, false, List, [], ◌∷◌, ◌++◌, Option, Some, None, fold, take, slice_get, ⊤}
+use Rattle.std.specs.List.{list_any}
+use Rattle.std.specs.Option.{option_map}
 use Rattle.split_engine.specs.declared.referee.Line.{Line}
+use Rattle.split_engine.specs.declared.referee.HistoryFault.{HistoryFault}
+use Rattle.split_engine.specs.declared.referee.HistoryFault.TheVariants.{Wrong, Lacking, Memory}
 use Rattle.split_engine.specs.Rules.{Rules}
 use Rattle.split_engine.specs.Serial.{reply, next}
 use Rattle.split_engine.specs.Serving.{request_at}
 
+-- whether one of some lines has this request
+abbrev pub has_line : {R : Type 0} → List (Line R) → ℕ → ℕ → Bool
+has_line lines worker index =
+    list_any (λ line. (line.worker == worker) && (line.index == index)) lines
+
+-- marks say of each request of the scripts whether one of these lines has it
+abbrev pub AreMarks : {Q R : Type 0} → List (List Q) → List (Line R) → List (List Bool) → Type 0
+AreMarks scripts lines marks = (worker index : ℕ) → request_at marks worker index
+    ≡ option_map (λ q. has_line lines worker index) (request_at scripts worker index)
+
 module _ {Record Slice Fixed Request Reply Act : Type 0}
     (rules : Rules Record Slice Fixed Request Reply Act) (scripts : List (List Request)) where
-  -- a line's request is there, and its reply is the one that the table gives
-  abbrev pub IsRightLine : List Record → Line Reply → Type 0
-  IsRightLine table line =
-      (q : Request) × (request_at scripts line.worker line.index ≡ Some q)
-      × (line.reply ≡ reply rules table q)
+  -- a line is right after some lines that leave this table: its request is there, none of them has
+  -- it, and its reply is the one that the table gives
+  pub record IsRightLine (before : List (Line Reply)) (table : List Record)
+      (line : Line Reply) : Type 0 where
+    pub request : Request
+    pub there : request_at scripts line.worker line.index ≡ Some request
+    pub first : has_line before line.worker line.index ≡ false
+    pub reply_is : line.reply ≡ reply rules table request
 
   -- the table after a request, if there is one
   abbrev pub next_if : List Record → Option Request → List Record
@@ -23,10 +39,30 @@ module _ {Record Slice Fixed Request Reply Act : Type 0}
   abbrev pub after_line : List Record → Line Reply → List Record
   after_line table line = next_if table (request_at scripts line.worker line.index)
 
-  -- lines replay: each is right at the table after those before it
-  abbrev pub lines_replay : List Record → List (Line Reply) → Type 0
-  lines_replay = Replays IsRightLine after_line
-
   -- the table after lines
   abbrev pub after_lines : List Record → List (Line Reply) → List Record
   after_lines = fold after_line
+
+  -- lines replay after others that leave this table: each is right after all before it
+  abbrev pub lines_replay : List (Line Reply) → List Record → List (Line Reply) → Type 0
+  lines_replay before table [] = ⊤
+  lines_replay before table (line ∷ lines) =
+      IsRightLine before table line
+      × lines_replay (before ++ line ∷ []) (after_line table line) lines
+
+  -- Lines are a history of the scripts: they replay, and each request has one.
+  pub record IsHistory (table : List Record) (lines : List (Line Reply)) : Type 0 where
+    pub replays : lines_replay [] table lines
+    pub none_lacks : (worker index : ℕ) (q : Request) → request_at scripts worker index ≡ Some q →
+        has_line lines worker index ≡ true
+
+  -- why lines are no history: the line at a place is the first that is not right; all are right, and
+  -- no line has a request; or no memory was left to judge them
+  abbrev pub IsHistoryFault : List Record → List (Line Reply) → HistoryFault → Type 0
+  IsHistoryFault table lines (Wrong place) = lines_replay [] table (take place lines)
+      × (line : Line Reply) × (slice_get lines place ≡ Some line)
+      × (IsRightLine (take place lines) (after_lines table (take place lines)) line → ⊥)
+  IsHistoryFault table lines (Lacking worker index) = lines_replay [] table lines
+      × (q : Request) × (request_at scripts worker index ≡ Some q)
+      × (has_line lines worker index ≡ false)
+  IsHistoryFault table lines Memory = ⊤

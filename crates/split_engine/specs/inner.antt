@@ -1,3 +1,5 @@
 -- What no contract of a public function names.
 pub mod Assignments
+pub mod Kept
+pub mod Marking
 pub mod Phases

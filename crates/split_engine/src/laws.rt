@@ -1,5 +1,5 @@
 //! Why split phases replay, for every application.
-ghost use Rattle.std.specs.Prelude.{◌≡◌, ℕ, List};
+ghost use Rattle.std.specs.Prelude.{◌≡◌, ◌++◌, ℕ, List};
 ghost use Rattle.std.specs.List.{AllByRecursion};
 ghost use Rattle.split_engine.specs.declared.entry.Entry.{Entry as Commit};
 ghost use Rattle.split_engine.specs.Serial.{ReplaysFrom, table_after};
@@ -18,4 +18,15 @@ pub fn split_phases_replay<A: Application>()
         (all : List (Commit A.Request A.Reply)) → AllByRecursion (A.fits n) table →
         InterleavesAll journals all → AllByRecursion (IsSplitEntry A.rules A.is_small table) all →
         all_merged A.rules table table journals ≡ table_after A.rules table all }
+{}
+
+/// If a run goes on from the table that another has left, both replay as one, and the table that the
+/// second leaves is the one after both histories.
+pub fn runs_replay_as_one<A: Application>()
+    ensures { (table between : List A.Record)
+        (first second : List (Commit A.Request A.Reply)) →
+        ReplaysFrom A.rules table first → between ≡ table_after A.rules table first →
+        ReplaysFrom A.rules between second →
+        ReplaysFrom A.rules table (first ++ second)
+        × (table_after A.rules between second ≡ table_after A.rules table (first ++ second)) }
 {}

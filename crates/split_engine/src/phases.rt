@@ -12,7 +12,7 @@ ghost use Rattle.split_engine.specs.inner.Assignments.{Assignment, assignment, a
 
 use crate::application::Application;
 use crate::fault::RunFault;
-use crate::slices::merge_all;
+use crate::slices::Guesses;
 use crate::split::{SplitData, SplitPhase, SplitPlan, SplitTask, begin};
 use crate::state::{Cursor, MOST_COMMITS, Outcome, RunState};
 use job_threads::work_all;
@@ -26,6 +26,7 @@ fn tasks<'a, A: Application>(
     phase: SplitPhase<'a, A>,
     scripts: &'a [Vec<A::Request>],
     cursors: Vec<Cursor<A::Request>>,
+    mut guesses: Vec<Guesses>,
 ) -> Result<Vec<SplitTask<'a, A>>, AllocError>
     requires few { length scripts.now < index_end }
     requires quota { 2 * phase.plan.quota < most_acts }
@@ -37,7 +38,7 @@ fn tasks<'a, A: Application>(
     ensures can { IfOk result (λ made. AllByRecursion (λ task. CanDo A.rules
         (assignment task.phase.table.now task.phase.plan.hot.now task.worker task.script.now
         task.phase.plan.quota task.start.cursor)
-        task.start.journal.items task.start.slices.items) made.items) }
+        task.start.journal.items task.start.slices) made.items) }
     ensures len { IfOk result (λ made. length made.items ≡ length scripts.now) }
     ensures tasks { IfOk result (λ made. map (λ task.
         assignment task.phase.table.now task.phase.plan.hot.now task.worker task.script.now
@@ -58,27 +59,28 @@ fn tasks<'a, A: Application>(
             },
             worker: worker as u32,
             script: &scripts[worker],
-            start: begin::<A>(alloc, phase.table.len(), cursor)?,
+            start: begin::<A>(
+                alloc,
+                phase.table.len(),
+                cursor,
+                guesses.pop().unwrap_or(Vec::new(alloc)),
+            )?,
         })?;
     }
     Ok(made)
 }
 
 // Takes in what a worker did: merges its slices.
-fn take_in<A: Application>(
-    alloc: Global,
-    state: RunState<A>,
-    own: SplitData<A>,
-) -> Result<RunState<A>, AllocError>
+fn take_in<A: Application>(state: RunState<A>, own: SplitData<A>) -> Result<RunState<A>, AllocError>
     requires done { (given : Assignment A.Record A.Request)
         × (length given.table ≡ length state.so_far.table.items)
-        × HasDone A.rules A.is_small given own.cursor own.journal.items own.slices.items }
+        × HasDone A.rules A.is_small given own.cursor own.journal.items own.slices }
     requires room { length state.so_far.history.items + length own.journal.items ≤ MOST_COMMITS }
     requires fits { (n : ℕ) × (n < most_before)
         × AllByRecursion (A.fits (n + 2 * length state.so_far.history.items))
         state.so_far.table.items }
     ensures table { IfOk result (λ new.
-        new.so_far.table.items ≡ merged_all A.rules state.so_far.table.items own.slices.items) }
+        new.so_far.table.items ≡ merged_all A.rules state.so_far.table.items own.slices) }
     ensures history { IfOk result (λ new.
         new.so_far.history.items ≡ state.so_far.history.items ++ own.journal.items) }
     ensures cursors { IfOk result (λ new.
@@ -92,19 +94,24 @@ fn take_in<A: Application>(
     let RunState {
         so_far,
         mut cursors,
+        mut guesses,
     } = state;
-    let Outcome { mut history, table } = so_far;
+    let Outcome {
+        mut history,
+        mut table,
+    } = so_far;
     let SplitData {
         cursor,
         mut journal,
         slices,
     } = own;
-    let table = merge_all::<A>(alloc, table, slices)?;
+    guesses.push(slices.merge_into(&mut table))?;
     history.append(&mut journal)?;
     cursors.push(cursor)?;
     Ok(RunState {
         so_far: Outcome { history, table },
         cursors,
+        guesses,
     })
 }
 
@@ -121,22 +128,26 @@ fn take_in_all<A: Application>(
         × AllByRecursion (λ a. a.cursor.next ≤ length a.script) given
         × AllByRecursion (λ a. a.table ≡ so_far.table.items) given
         × AllZip (λ a answer. IfOk answer (λ own.
-        HasDone A.rules A.is_small a own.cursor own.journal.items own.slices.items))
+        HasDone A.rules A.is_small a own.cursor own.journal.items own.slices))
         given answers.items }
     ensures { (given : List (Assignment A.Record A.Request)) →
         AllByRecursion (λ a. a.cursor.next ≤ length a.script) given →
         AllByRecursion (λ a. a.table ≡ so_far.table.items) given →
         AllZip (λ a answer. IfOk answer (λ own.
-        HasDone A.rules A.is_small a own.cursor own.journal.items own.slices.items))
+        HasDone A.rules A.is_small a own.cursor own.journal.items own.slices))
         given answers.items →
         IfOk result (λ state. HasClosed A.rules A.is_small A.fits given
         so_far.table.items so_far.history.items
         state.so_far.table.items state.so_far.history.items state.cursors.items) }
 {
     let cursors = Vec::with_capacity(alloc, answers.len())?;
-    let mut state = RunState { so_far, cursors };
+    let mut state = RunState {
+        so_far,
+        cursors,
+        guesses: Vec::new(alloc),
+    };
     for answer in answers {
-        state = take_in::<A>(alloc, state, answer?)?;
+        state = take_in::<A>(state, answer?)?;
     }
     Ok(state)
 }
@@ -154,7 +165,7 @@ fn close<A: Application>(
         × (n < most_before) × IsRunState A.rules A.fits n opened (lists scripts.now)
         so_far.table.items so_far.history.items cursors
         × AllZip (λ a answer. IfOk answer (λ own.
-        HasDone A.rules A.is_small a own.cursor own.journal.items own.slices.items))
+        HasDone A.rules A.is_small a own.cursor own.journal.items own.slices))
         (assignments so_far.table.items plan.hot.now plan.quota 0 (lists scripts.now) cursors)
         answers.items }
     ensures { (n : ℕ) (opened : List A.Record) (cursors : List (CursorValue A.Request)) →
@@ -162,7 +173,7 @@ fn close<A: Application>(
         IsRunState A.rules A.fits n opened (lists scripts.now)
         so_far.table.items so_far.history.items cursors →
         AllZip (λ a answer. IfOk answer (λ own.
-        HasDone A.rules A.is_small a own.cursor own.journal.items own.slices.items))
+        HasDone A.rules A.is_small a own.cursor own.journal.items own.slices))
         (assignments so_far.table.items plan.entry.hot.now plan.entry.quota 0
         (lists scripts.now) cursors)
         answers.items →
@@ -203,12 +214,16 @@ where
         IfOk result (λ new. IsRunState A.rules A.fits n opened (lists scripts.now)
         new.so_far.table.items new.so_far.history.items new.cursors.items) }
 {
-    let RunState { so_far, cursors } = state;
+    let RunState {
+        so_far,
+        cursors,
+        guesses,
+    } = state;
     let phase = SplitPhase {
         table: &so_far.table,
         plan,
     };
-    let tasks = tasks::<A>(alloc, phase, scripts, cursors)?;
+    let tasks = tasks::<A>(alloc, phase, scripts, cursors, guesses)?;
     let answers = work_all(rt, alloc, tasks)?;
     Ok(close::<A>(alloc, scripts, plan, so_far, answers)?)
 }

@@ -1,13 +1,16 @@
 //! The referee: judges a history of an application on one thread.
-ghost use Rattle.std.specs.Prelude.{◌≡◌, ℕ, suc, true, false, Some, None, MatchOption, ◌+◌, ◌*◌, ◌<◌, length, take, slice_get, IfOk, IfErr};
+ghost use Rattle.std.specs.Prelude.{◌≡◌, ℕ, suc, true, false, Some, None, MatchOption, ◌+◌, ◌*◌, ◌<◌, ◌++◌, ◌∷◌, [], List, length, IfOk, IfErr};
 ghost use Rattle.std.specs.List.{AllByRecursion};
 ghost use Rattle.split_engine.specs.declared.referee.Line.{Line as LineValue};
 ghost use Rattle.split_engine.specs.Rules.{most_acts};
 ghost use Rattle.split_engine.specs.Serving.{lists, request_at, IsScript};
-ghost use Rattle.split_engine.specs.Checking.{IsRightLine, after_line, lines_replay, after_lines};
+ghost use Rattle.split_engine.specs.Checking.{AreMarks, IsRightLine, after_line, after_lines, IsHistory, IsHistoryFault};
 
 use crate::application::Application;
 use crate::joined::perform;
+use crate::marks::{mark, new_marks, unmarked};
+use std::alloc::{AllocError, Global};
+use thiserror::Error;
 
 /// A line of a history: the request with this index of a worker's script was answered so.
 #[derive(Clone, Copy)]
@@ -28,6 +31,31 @@ pub trait Checkable: Application {
         ensures other { result ≡ false → told.now ≡ given.now → ⊥ };
 }
 
+/// Why lines are no history.
+#[derive(Clone, Copy, Debug, PartialEq, Eq, Drop, Error)]
+pub enum HistoryFault {
+    /// The line at this place is the first wrong one: no script has its request, a line before it
+    /// has it too, or its reply is not the one that the table gives.
+    #[error("line {0} is wrong")]
+    Wrong(usize),
+    /// Each line is right, but none has this request of a worker.
+    #[error("worker {worker}, request {index}: no line")]
+    Lacking { worker: usize, index: usize },
+    /// No memory was left.
+    #[error("no memory")]
+    Memory,
+}
+
+impl From<AllocError> for HistoryFault {
+    ghost use Rattle.split_engine.specs.declared.referee.HistoryFault.TheVariants.{Memory};
+
+    ghost from_gives = { λ _ fault. fault ≡ Memory };
+
+    fn from(_refused: AllocError) -> HistoryFault {
+        HistoryFault::Memory
+    }
+}
+
 // The request that a line names.
 fn asked<'a, Q: Copy, R>(scripts: &'a [Vec<Q>], line: &Line<R>) -> Option<&'a Q>
     ensures { MatchOption result
@@ -38,19 +66,28 @@ fn asked<'a, Q: Copy, R>(scripts: &'a [Vec<Q>], line: &Line<R>) -> Option<&'a Q>
     scripts.get(line.worker as usize)?.get(line.index as usize)
 }
 
-// Judges a line: the table is then the one after it.
+// Judges a line after others, which have these marks: its request is then marked, and the table is
+// the one after it.
 fn check_line<A: Checkable>(
     table: &mut Vec<A::Record>,
+    marks: &mut Vec<Vec<bool>>,
     scripts: &[Vec<A::Request>],
     line: &Line<A::Reply>,
 ) -> bool
     requires scripts { AllByRecursion (IsScript A.rules (length table.old.items))
         (lists scripts.now) }
+    requires marks { (before : List (LineValue A.Reply))
+        × AreMarks (lists scripts.now) before (lists marks.old.items) }
     requires fits { (n : ℕ) × (n + 1 < most_acts) × AllByRecursion (A.fits n) table.old.items }
-    ensures right { result ≡ true →
-        IsRightLine A.rules (lists scripts.now) table.old.items line.now }
-    ensures wrong { result ≡ false →
-        IsRightLine A.rules (lists scripts.now) table.old.items line.now → ⊥ }
+    ensures right { (before : List (LineValue A.Reply)) →
+        AreMarks (lists scripts.now) before (lists marks.old.items) → result ≡ true →
+        IsRightLine A.rules (lists scripts.now) before table.old.items line.now }
+    ensures wrong { (before : List (LineValue A.Reply)) →
+        AreMarks (lists scripts.now) before (lists marks.old.items) → result ≡ false →
+        IsRightLine A.rules (lists scripts.now) before table.old.items line.now → ⊥ }
+    ensures marks { (before : List (LineValue A.Reply)) →
+        AreMarks (lists scripts.now) before (lists marks.old.items) → result ≡ true →
+        AreMarks (lists scripts.now) (before ++ line.now ∷ []) (lists marks.new.items) }
     ensures table { result ≡ true →
         table.new.items ≡ after_line A.rules (lists scripts.now) table.old.items line.now }
     ensures size { length table.new.items ≡ length table.old.items }
@@ -60,36 +97,40 @@ fn check_line<A: Checkable>(
     let Some(request) = asked(scripts, line) else {
         return false;
     };
+    if mark(marks, line.worker as usize, line.index as usize) {
+        return false;
+    }
     let reply = perform::<A>(table, request);
     A::is_same_reply(&line.reply, &reply)
 }
 
-/// Judges a history that is given as lines: it replays from this table, which is then the one after
-/// it, or this is the place of the first wrong line.
+/// Judges a history that is given as lines. They are one if they replay from this table, which is
+/// then the one after them, and if each request of each script has just one line.
 pub fn check_history<A: Checkable>(
+    alloc: Global,
     table: &mut Vec<A::Record>,
     scripts: &[Vec<A::Request>],
     lines: &[Line<A::Reply>],
-) -> Result<(), usize>
+) -> Result<(), HistoryFault>
     requires scripts { AllByRecursion (IsScript A.rules (length table.old.items))
         (lists scripts.now) }
     requires fits { (n : ℕ) × (n + 2 * length lines.now < most_acts)
         × AllByRecursion (A.fits n) table.old.items }
-    ensures replays { IfOk result (λ _.
-        lines_replay A.rules (lists scripts.now) table.old.items lines.now) }
+    ensures history { IfOk result (λ _.
+        IsHistory A.rules (lists scripts.now) table.old.items lines.now) }
     ensures table { IfOk result (λ _.
         table.new.items ≡ after_lines A.rules (lists scripts.now) table.old.items lines.now) }
-    ensures wrong { IfErr result (λ place.
-        lines_replay A.rules (lists scripts.now) table.old.items (take place lines.now)
-        × (line : LineValue A.Reply) × (slice_get lines.now place ≡ Some line)
-        × (IsRightLine A.rules (lists scripts.now)
-        (after_lines A.rules (lists scripts.now) table.old.items (take place lines.now))
-        line → ⊥)) }
+    ensures fault { IfErr result
+        (IsHistoryFault A.rules (lists scripts.now) table.old.items lines.now) }
 {
+    let mut marks = new_marks(alloc, scripts)?;
     for place in 0..lines.len() {
-        if !check_line::<A>(table, scripts, &lines[place]) {
-            return Err(place);
+        if !check_line::<A>(table, &mut marks, scripts, &lines[place]) {
+            return Err(HistoryFault::Wrong(place));
         }
     }
-    Ok(())
+    match unmarked(&marks) {
+        Some((worker, index)) => Err(HistoryFault::Lacking { worker, index }),
+        None => Ok(()),
+    }
 }

@@ -8,9 +8,9 @@ ghost use Rattle.split_engine.specs.inner.Phases.{IsRunState, AreFresh, AllFinis
 
 use crate::application::Application;
 use crate::fault::RunFault;
-use crate::hot::{hot_keys, key_counts};
 use crate::joined::joined_phase;
 use crate::phases::split_phase;
+use crate::phasing::Phasing;
 use crate::split::SplitPlan;
 use crate::state::{Cursor, MOST_COMMITS, Outcome, RunState};
 use std::alloc::{AllocError, Global};
@@ -69,7 +69,7 @@ fn perform_round<A: Application + Send + Sync, R: Threads + Wait + Sync>(
     rt: &R,
     alloc: Global,
     scripts: &[Vec<A::Request>],
-    policy: &Policy,
+    phasing: &mut Phasing,
     state: RunState<A>,
 ) -> Result<RunState<A>, RunFault>
 where
@@ -81,10 +81,12 @@ where
     A::Act: Send,
     requires few { length scripts.now < index_end }
     requires total { total (lists scripts.now) ≤ MOST_COMMITS }
+    requires hot { length phasing.old.hot.items ≡ length state.so_far.table.items }
     requires state { (n : ℕ) × (opened : List A.Record) × (n < most_before)
         × AllByRecursion (IsScript A.rules (length opened)) (lists scripts.now)
         × IsRunState A.rules A.fits n opened (lists scripts.now)
         state.so_far.table.items state.so_far.history.items state.cursors.items }
+    ensures hot { length phasing.new.hot.items ≡ length phasing.old.hot.items }
     ensures fault { IfErr result (IsRunFault (length scripts.now)) }
     ensures state { (n : ℕ) (opened : List A.Record) → n < most_before →
         AllByRecursion (IsScript A.rules (length opened)) (lists scripts.now) →
@@ -95,12 +97,11 @@ where
 {
     let mut state = state;
     let from = state.so_far.history.len();
-    joined_phase::<A>(scripts, policy.joined_quota, &mut state)?;
-    let counts = key_counts::<A>(alloc, state.so_far.table.len(), &state.so_far.history, from)?;
-    let hot = hot_keys(alloc, &counts, policy.threshold)?;
+    joined_phase::<A>(scripts, phasing.policy.joined_quota, &mut state)?;
+    phasing.choose::<A>(&state.so_far.history, from)?;
     let plan = SplitPlan {
-        hot: &hot,
-        quota: policy.split_quota.min(MOST_COMMITS),
+        hot: &phasing.hot,
+        quota: phasing.policy.split_quota.min(MOST_COMMITS),
     };
     split_phase::<A, R>(rt, alloc, scripts, plan, state)
 }
@@ -108,12 +109,24 @@ where
 // What the run gives, once all scripts are performed.
 fn finish<A: Application>(scripts: &[Vec<A::Request>], state: RunState<A>) -> Outcome<A>
     requires { AllFinished (lists scripts.now) state.cursors.items }
-    ensures { (n : ℕ) (opened : List A.Record) →
+    ensures outcome { (n : ℕ) (opened : List A.Record) →
         IsRunState A.rules A.fits n opened (lists scripts.now)
         state.so_far.table.items state.so_far.history.items state.cursors.items →
         IsOutcome A.rules opened (lists scripts.now) result.history.items result.table.items }
+    ensures fits { (n : ℕ) (opened : List A.Record) →
+        IsRunState A.rules A.fits n opened (lists scripts.now)
+        state.so_far.table.items state.so_far.history.items state.cursors.items →
+        AllByRecursion (A.fits (n + 2 * length result.history.items)) result.table.items }
+    ensures count { (n : ℕ) (opened : List A.Record) →
+        IsRunState A.rules A.fits n opened (lists scripts.now)
+        state.so_far.table.items state.so_far.history.items state.cursors.items →
+        length result.history.items ≡ total (lists scripts.now) }
 {
-    let RunState { so_far, cursors: _ } = state;
+    let RunState {
+        so_far,
+        cursors: _,
+        guesses: _,
+    } = state;
     so_far
 }
 
@@ -121,7 +134,8 @@ fn finish<A: Application>(scripts: &[Vec<A::Request>], state: RunState<A>) -> Ou
 /// has each request of each script once, replays on one thread, and leaves the table.
 ///
 /// `check_scripts` is the test of `scripts`. `fits`: each record is one that fewer than 2^31 acts
-/// can make.
+/// can make. A run may go on from the table that another has left, if both together are that short:
+/// each commit is two acts.
 pub fn run<A: Application + Send + Sync, R: Threads + Wait + Sync>(
     rt: &R,
     alloc: Global,
@@ -140,8 +154,14 @@ where
     requires fits { (n : ℕ) × (n < most_before) × AllByRecursion (A.fits n) table.items }
     ensures outcome { IfOk result (λ outcome. IsOutcome A.rules table.items (lists scripts.now)
         outcome.history.items outcome.table.items) }
+    ensures fits { (n : ℕ) → n < most_before → AllByRecursion (A.fits n) table.items →
+        IfOk result (λ outcome.
+        AllByRecursion (A.fits (n + 2 * length outcome.history.items)) outcome.table.items) }
+    ensures count { IfOk result (λ outcome.
+        length outcome.history.items ≡ total (lists scripts.now)) }
     ensures fault { IfErr result (IsRunFault (length scripts.now)) }
 {
+    let mut phasing = Phasing::new(alloc, table.len(), policy)?;
     let cursors = new_cursors::<A::Request>(alloc, scripts.len())?;
     let mut state = RunState {
         so_far: Outcome {
@@ -149,12 +169,13 @@ where
             table,
         },
         cursors,
+        guesses: Vec::new(alloc),
     };
     for _round in 0..policy.rounds {
         if is_finished(scripts, &state.cursors) {
             return Ok(finish::<A>(scripts, state));
         }
-        state = perform_round::<A, R>(rt, alloc, scripts, &policy, state)?;
+        state = perform_round::<A, R>(rt, alloc, scripts, &mut phasing, state)?;
     }
     joined_phase::<A>(scripts, usize::MAX, &mut state)?;
     Ok(finish::<A>(scripts, state))

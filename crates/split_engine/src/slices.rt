@@ -1,59 +1,121 @@
-//! A worker's slices, one of each record.
-ghost use Rattle.std.specs.Prelude.{◌≡◌, ℕ, suc, ◌+◌, ◌<◌, ◌≤◌, true, length, replicate, IfOk};
+//! A worker's slices in a split phase.
+ghost use Rattle.std.specs.Prelude.{◌≡◌, ℕ, suc, ◌+◌, ◌<◌, ◌≤◌, true, length, replicate, slice_index_or, IfOk, IfErr, OnOk};
 ghost use Rattle.std.specs.List.{AllByRecursion};
 ghost use Rattle.split_engine.specs.Rules.{most_acts};
+ghost use Rattle.split_engine.specs.inner.Kept.{AreKept, spread};
 ghost use Rattle.split_engine.specs.Splitting.{after_slice_act, merged_all};
 
 use crate::application::Application;
 use std::alloc::{AllocError, Global};
+use std::marker::Model;
 
-/// So many slices to which nothing was done.
-pub(crate) fn new_slices<A: Application>(
-    alloc: Global,
-    count: usize,
-) -> Result<Vec<A::Slice>, AllocError>
-    ensures { IfOk result (λ slices. slices.items ≡ replicate count A.rules.empty) }
-{
-    let mut slices = Vec::with_capacity(alloc, count)?;
-    for _made in 0..count {
-        slices.push(A::empty_slice())?;
-    }
-    Ok(slices)
-}
+/// Of each key of a table, where its slice may stand. Any guess will do, since it is checked there:
+/// so those of a phase serve the next one.
+pub(crate) type Guesses = Vec<usize>;
 
-/// Does an act on the slice at a key.
-pub(crate) fn act_on_slice<A: Application>(slices: &mut Vec<A::Slice>, key: u32, act: A::Act)
-    requires within { key < length slices.old.items }
-    requires fits { (n : ℕ) × (n < most_acts) × AllByRecursion (A.slice_fits n) slices.old.items }
-    requires small { A.is_small act }
-    requires splits { A.rules.is_splittable act ≡ true }
-    ensures slices { slices.new.items ≡ after_slice_act A.rules slices.old.items key act }
-    ensures fits { (n : ℕ) → AllByRecursion (A.slice_fits n) slices.old.items →
-        AllByRecursion (A.slice_fits (suc n)) slices.new.items }
-{
-    A::apply_to_slice(&mut slices[key as usize], act);
-}
-
-/// The table into whose records slices are merged, one into each.
-pub(crate) fn merge_all<A: Application>(
-    alloc: Global,
-    table: Vec<A::Record>,
+/// A worker's slices of the records on which it acted, each made when it is first needed. Contracts
+/// see a slice of each record of the table: those that are not kept are empty.
+#[derive(Drop)]
+pub(crate) struct Slices<A: Application> {
+    guesses: Guesses,
+    keys: Vec<u32>,
     slices: Vec<A::Slice>,
-) -> Result<Vec<A::Record>, AllocError>
-    requires len { length slices.items ≡ length table.items }
-    requires fits { (n : ℕ) × (m : ℕ) × (n + m ≤ most_acts) × AllByRecursion (A.fits n) table.items
-        × AllByRecursion (A.slice_fits m) slices.items }
-    ensures { IfOk result (λ merged. merged.items ≡ merged_all A.rules table.items slices.items) }
+}
+
+impl<A: Application> Model for Slices<A> {
+    ghost use Rattle.std.specs.Prelude.{List};
+    ghost use Rattle.split_engine.specs.inner.Kept.{AreKept, spread};
+
+    ghost Value = { List A.Slice };
+
+    ghost view = { λ s. spread A.rules s.guesses.items s.keys.items s.slices.items };
+
+    ghost invariant = { λ s. AreKept s.guesses.items s.keys.items s.slices.items };
+}
+
+// Where the slice of a key stands: it is made if there is none.
+fn place_of<A: Application>(
+    guesses: &mut Guesses,
+    keys: &mut Vec<u32>,
+    slices: &mut Vec<A::Slice>,
+    key: u32,
+) -> Result<usize, AllocError>
+    requires within { key < length guesses.old.items }
+    requires kept { AreKept guesses.old.items keys.old.items slices.old.items }
+    ensures kept { AreKept guesses.new.items keys.new.items slices.new.items }
+    ensures same { spread A.rules guesses.new.items keys.new.items slices.new.items
+        ≡ spread A.rules guesses.old.items keys.old.items slices.old.items }
+    ensures at { IfOk result (λ place. (place < length keys.new.items)
+        × (slice_index_or keys.new.items place 0 ≡ key)) }
 {
-    let mut merged = Vec::with_capacity(alloc, table.len())?;
-    let mut slices = slices.into_iter();
-    for held in table {
-        let Some(slice) = slices.next() else {
-            unreachable!()
-        };
-        let mut held = held;
-        A::merge(&mut held, slice);
-        merged.push(held)?;
+    let guess = guesses[key as usize];
+    if let Some(there) = keys.get(guess) {
+        if *there == key {
+            return Ok(guess);
+        }
     }
-    Ok(merged)
+    keys.reserve(1)?;
+    slices.reserve(1)?;
+    let place = keys.len();
+    guesses[key as usize] = place;
+    keys.push_reserved(key);
+    slices.push_reserved(A::empty_slice());
+    Ok(place)
+}
+
+impl<A: Application> Slices<A> {
+    /// No slices of so many records. Guesses for as many are used again; others are made anew.
+    pub(crate) fn new(alloc: Global, size: usize, guesses: Guesses) -> Result<Slices<A>, AllocError>
+        ensures { IfOk result (λ slices. slices ≡ replicate size A.rules.empty) }
+    {
+        let guesses = if guesses.len() == size {
+            guesses
+        } else {
+            vec![in alloc; 0usize; size]?
+        };
+        Ok(Slices {
+            guesses,
+            keys: Vec::new(alloc),
+            slices: Vec::new(alloc),
+        })
+    }
+
+    /// Does an act on the slice of a key.
+    pub(crate) fn act(&mut self, key: u32, act: A::Act) -> Result<(), AllocError>
+        requires within { key < length self.old }
+        requires fits { (n : ℕ) × (n < most_acts) × AllByRecursion (A.slice_fits n) self.old }
+        requires small { A.is_small act }
+        requires splits { A.rules.is_splittable act ≡ true }
+        ensures slices { OnOk result (self.new ≡ after_slice_act A.rules self.old key act) }
+        ensures fault { IfErr result (λ _. self.new ≡ self.old) }
+        ensures len { length self.new ≡ length self.old }
+        ensures fits { (n : ℕ) → AllByRecursion (A.slice_fits n) self.old →
+            OnOk result (AllByRecursion (A.slice_fits (suc n)) self.new) }
+    {
+        let place = place_of::<A>(&mut self.guesses, &mut self.keys, &mut self.slices, key)?;
+        A::apply_to_slice(&mut self.slices[place], act);
+        Ok(())
+    }
+
+    /// Merges the slices into the records of a table, and gives the guesses for the next phase.
+    pub(crate) fn merge_into(self, table: &mut Vec<A::Record>) -> Guesses
+        requires len { length self ≡ length table.old.items }
+        requires fits { (n : ℕ) × (m : ℕ) × (n + m ≤ most_acts)
+            × AllByRecursion (A.fits n) table.old.items × AllByRecursion (A.slice_fits m) self }
+        ensures { table.new.items ≡ merged_all A.rules table.old.items self }
+    {
+        let Slices {
+            guesses,
+            keys,
+            slices,
+        } = self;
+        let mut slices = slices.into_iter();
+        for place in 0..keys.len() {
+            let Some(slice) = slices.next() else {
+                unreachable!()
+            };
+            A::merge(&mut table[keys[place] as usize], slice);
+        }
+        guesses
+    }
 }

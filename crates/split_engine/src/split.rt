@@ -9,7 +9,7 @@ ghost use Rattle.split_engine.specs.inner.Assignments.{assignment, CanDo, HasDon
 
 use crate::application::Application;
 use crate::entry::Entry;
-use crate::slices::{act_on_slice, new_slices};
+use crate::slices::{Guesses, Slices};
 use crate::state::Cursor;
 use job_threads::Job;
 use std::alloc::{AllocError, Global};
@@ -36,19 +36,20 @@ pub(crate) struct SplitPhase<'a, A: Application> {
 pub(crate) struct SplitData<A: Application> {
     pub(crate) cursor: Cursor<A::Request>,
     pub(crate) journal: Vec<Entry<A::Request, A::Reply>>,
-    pub(crate) slices: Vec<A::Slice>,
+    pub(crate) slices: Slices<A>,
 }
 
-/// What a worker begins a split phase with: a slice of each record, to which nothing was done.
+/// What a worker begins a split phase with, over so many records: no slice is kept.
 pub(crate) fn begin<A: Application>(
     alloc: Global,
     size: usize,
     cursor: Cursor<A::Request>,
+    guesses: Guesses,
 ) -> Result<SplitData<A>, AllocError>
-    ensures unused { IfOk result (λ own. IsUnused A.rules size own.journal.items own.slices.items) }
+    ensures unused { IfOk result (λ own. IsUnused A.rules size own.journal.items own.slices) }
     ensures cursor { IfOk result (λ own. own.cursor ≡ cursor) }
 {
-    let slices = new_slices::<A>(alloc, size)?;
+    let slices = Slices::new(alloc, size, guesses)?;
     Ok(SplitData {
         cursor,
         journal: Vec::new(alloc),
@@ -59,27 +60,27 @@ pub(crate) fn begin<A: Application>(
 // Performs a request on slices: what is fixed of its records is read from the table.
 fn perform<A: Application>(
     table: &[A::Record],
-    slices: &mut Vec<A::Slice>,
+    slices: &mut Slices<A>,
     request: &A::Request,
-) -> A::Reply
+) -> Result<A::Reply, AllocError>
     requires splits { A.rules.splits request.now ≡ true }
     requires within { IsWithin A.rules (length table.now) request.now }
-    requires len { length slices.old.items ≡ length table.now }
-    requires fits { (n : ℕ) × (n + 1 < most_acts)
-        × AllByRecursion (A.slice_fits n) slices.old.items }
-    ensures reply { result ≡ (split_decision A.rules table.now request.now).reply }
+    requires len { length slices.old ≡ length table.now }
+    requires fits { (n : ℕ) × (n + 1 < most_acts) × AllByRecursion (A.slice_fits n) slices.old }
+    ensures reply { IfOk result (λ reply.
+        reply ≡ (split_decision A.rules table.now request.now).reply) }
     ensures first_small { A.is_small (split_decision A.rules table.now request.now).first }
     ensures second_small { A.is_small (split_decision A.rules table.now request.now).second }
-    ensures slices { slices.new.items ≡ after_slice_both A.rules slices.old.items
-        (A.rules.keys request.now) (split_decision A.rules table.now request.now) }
+    ensures slices { OnOk result (slices.new ≡ after_slice_both A.rules slices.old
+        (A.rules.keys request.now) (split_decision A.rules table.now request.now)) }
 {
     let (first, second) = A::keys(request);
     let fixed_first = A::fixed(&table[first as usize]);
     let fixed_second = A::fixed(&table[second as usize]);
     let decision = A::decide_split(request, fixed_first, fixed_second);
-    act_on_slice::<A>(slices, first, decision.first);
-    act_on_slice::<A>(slices, second, decision.second);
-    decision.reply
+    slices.act(first, decision.first)?;
+    slices.act(second, decision.second)?;
+    Ok(decision.reply)
 }
 
 // Whether a request is performed in a split phase in which these keys are hot.
@@ -101,20 +102,20 @@ fn perform_or_put_off<A: Application>(
 ) -> Result<(), AllocError>
     requires within { IsWithin A.rules (length phase.now.table.now) request.now }
     requires hot { length phase.now.plan.hot.now ≡ length phase.now.table.now }
-    requires len { length own.old.slices.items ≡ length phase.now.table.now }
+    requires len { length own.old.slices ≡ length phase.now.table.now }
     requires fits { (n : ℕ) × (n + 1 < most_acts)
-        × AllByRecursion (A.slice_fits n) own.old.slices.items }
+        × AllByRecursion (A.slice_fits n) own.old.slices }
     ensures few { OnOk result (length own.new.journal.items ≤ length own.old.journal.items + 1) }
     ensures next { own.new.cursor.next ≡ own.old.cursor.next }
     ensures done { OnOk result ((before all : List (ℕ × A.Request)) →
         HasPerformedOnSlices A.rules A.is_small phase.now.plan.hot.now phase.now.table.now worker
-        all own.old.journal.items own.old.slices.items before own.old.cursor.stash.items →
+        all own.old.journal.items own.old.slices before own.old.cursor.stash.items →
         HasPerformedOnSlices A.rules A.is_small phase.now.plan.hot.now phase.now.table.now worker
         (all ++ (index, request.now) ∷ [])
-        own.new.journal.items own.new.slices.items before own.new.cursor.stash.items) }
+        own.new.journal.items own.new.slices before own.new.cursor.stash.items) }
 {
     if is_taken::<A>(phase.plan.hot, request) {
-        let reply = perform::<A>(phase.table, &mut own.slices, request);
+        let reply = perform::<A>(phase.table, &mut own.slices, request)?;
         own.journal.push(Entry {
             worker,
             index,
@@ -137,11 +138,11 @@ pub(crate) fn perform_quota<A: Application>(
     requires { CanDo A.rules
         (assignment phase.now.table.now phase.now.plan.hot.now worker script.now
         phase.now.plan.quota start.cursor)
-        start.journal.items start.slices.items }
+        start.journal.items start.slices }
     ensures { IfOk result (λ own. HasDone A.rules A.is_small
         (assignment phase.now.table.now phase.now.plan.hot.now worker script.now
         phase.now.plan.quota start.cursor)
-        own.cursor own.journal.items own.slices.items) }
+        own.cursor own.journal.items own.slices) }
 {
     let mut own = start;
     let from = own.cursor.next;
@@ -171,12 +172,12 @@ impl<'a, A: Application> Job for SplitTask<'a, A> {
     ghost can_work = { λ task. CanDo A.rules
         (assignment task.phase.table.now task.phase.plan.hot.now task.worker task.script.now
         task.phase.plan.quota task.start.cursor)
-        task.start.journal.items task.start.slices.items };
+        task.start.journal.items task.start.slices };
 
     ghost keeps = { λ task answer. IfOk answer (λ own. HasDone A.rules A.is_small
         (assignment task.phase.table.now task.phase.plan.hot.now task.worker task.script.now
         task.phase.plan.quota task.start.cursor)
-        own.cursor own.journal.items own.slices.items) };
+        own.cursor own.journal.items own.slices) };
 
     fn work(self) -> Result<SplitData<A>, AllocError> {
         let SplitTask {

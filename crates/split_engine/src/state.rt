@@ -1,6 +1,7 @@
 //! Where a run stands between two phases.
 use crate::application::Application;
 use crate::entry::Entry;
+use crate::slices::Guesses;
 
 /// How many requests the scripts of a run may have together.
 pub const MOST_COMMITS: usize = 1_073_741_824;
@@ -27,4 +28,6 @@ pub(crate) struct Cursor<Q> {
 pub(crate) struct RunState<A: Application> {
     pub(crate) so_far: Outcome<A>,
     pub(crate) cursors: Vec<Cursor<A::Request>>,
+    /// What the workers' slices in the last split phase leave for those of the next one.
+    pub(crate) guesses: Vec<Guesses>,
 }

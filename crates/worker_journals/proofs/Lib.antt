@@ -13,3 +13,4 @@ pub mod PlaceLemmas
 pub mod LastLemmas
 pub mod AddedLemmas
 pub mod RisingLemmas
+pub mod HeadListLemmas

@@ -1,5 +1,5 @@
 -- Indexes that rise: one more at their end, and two lists of them.
-use Rattle.std.proofs.Common.{◌≡◌, ◌≤◌, ◌+◌, ◌∙◌, ℕ, List, [], ◌∷◌, ◌++◌, map, Some, refl, sym, ap, subst, append_assoc}
+use Rattle.std.proofs.Common.{◌≡◌, ◌≤◌, ◌+◌, ◌∙◌, ℕ, List, [], ◌∷◌, ◌++◌, map, None, Some, refl, sym, ap, subst, append_assoc}
 use Rattle.std.specs.Prelude.{slice_get}
 use Rattle.std.proofs.lemmas.List.{map-append}
 use Rattle.std.proofs.lemmas.Option.{same_Some}
@@ -39,6 +39,12 @@ passed_more from middle next entries left more after so_far parts rise = record 
   parts = so_far.parts ∙ ap (λ es. so_far.passed ++ es) parts ∙ sym (append_assoc so_far.passed more after);
   rise = subst (λ xs. RisesTo from xs next) (sym (map-append entry_index so_far.passed more)) (rises_further from middle next (map entry_index so_far.passed) (map entry_index more) so_far.rise rise);
 }
+
+-- none rise from any index
+pub none_rise : (phase worker : ℕ) (sides : SideLists) (from : ℕ) (heads : List Head) → None ≡ slice_get heads 0 →
+    EntriesRiseTo from (map (entry_from phase worker sides) heads) from
+none_rise phase worker sides from [] is = refl
+none_rise phase worker sides from (head ∷ heads) is = absurd (cc is)
 
 -- so the entries of heads rise from any index up to the first head's
 pub entries_from : (phase worker : ℕ) (sides : SideLists) (from next : ℕ) (heads : List Head) (head : Head) → Some head ≡ slice_get heads 0 → RisesTo 0 (map head_index heads) next → from ≤ head.index

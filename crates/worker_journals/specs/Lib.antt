@@ -6,3 +6,4 @@ pub mod Merged
 pub mod Histories
 pub mod Places
 pub mod Rising
+pub mod HeadLists

@@ -11,14 +11,31 @@ ghost use Rattle.worker_journals.specs.Sides.{reply_from};
 use auction_rows::{BidId, BuyId, CommentId, ItemId, Refusal, StoreReply};
 use request_scripts::{ShortRequest, SideIndex};
 
-// Seven words: less than a cache line.
-const _: () = prove!(size_of::<Head>() == 56);
+// A quarter of a cache line.
+const _: () = prove!(size_of::<ToldHead>() == 16);
+
+// Five words.
+const _: () = prove!(size_of::<AskedHead>() == 40);
 
 /// A commit, but for its phase and worker, which are the journal's.
 #[derive(Clone, Copy)]
 pub(crate) struct Head {
     pub(crate) number: u64,
     pub(crate) request: ShortRequest,
+    pub(crate) index: u32,
+    pub(crate) reply: ShortReply,
+}
+
+/// The part of a head that no text of replies reads.
+#[derive(Clone, Copy)]
+pub(crate) struct AskedHead {
+    pub(crate) number: u64,
+    pub(crate) request: ShortRequest,
+}
+
+/// The part of a head that a text of replies reads.
+#[derive(Clone, Copy)]
+pub(crate) struct ToldHead {
     pub(crate) index: u32,
     pub(crate) reply: ShortReply,
 }

@@ -7,6 +7,7 @@ ghost use Rattle.worker_journals.specs.Rising.{EntriesRiseTo};
 ghost use Rattle.worker_journals.specs.Places.{entry_items, entry_reply, entry_request, entry_store_reply, is_refused};
 
 use crate::entries::{Answer, EntryRef};
+use crate::head_list::Heads;
 use crate::heads::Head;
 use crate::sides::Sides;
 use auction_rows::{Entry, ItemView, Object, Reply, Request, StoreReply};
@@ -22,7 +23,7 @@ use std::marker::Model;
 pub struct Journal {
     phase: u64,
     worker: u32,
-    heads: Vec<Head>,
+    heads: Heads,
     sides: Sides,
     // Whether the indexes of the entries rise.
     is_rising: bool,
@@ -47,17 +48,16 @@ impl Drop for Journal {
 }
 
 impl Model for Journal {
-    ghost use Rattle.std.specs.Prelude.{vec_capacity};
     ghost use Rattle.worker_journals.specs.Journals.{JournalView};
     ghost use Rattle.worker_journals.specs.Entries.{shown, IsKept};
     ghost use Rattle.worker_journals.specs.Rising.{IsRising};
 
     ghost Value = { JournalView };
 
-    ghost view = { λ j. shown j.phase j.worker j.heads.items j.sides };
+    ghost view = { λ j. shown j.phase j.worker j.heads.heads j.sides };
 
-    ghost invariant = { λ j. IsKept j.phase j.worker j.heads.items (vec_capacity j.heads) j.sides
-        × IsRising j.is_rising j.heads.items j.next };
+    ghost invariant = { λ j. IsKept j.phase j.worker j.heads.heads j.heads.room j.sides
+        × IsRising j.is_rising j.heads.heads j.next };
 }
 
 impl Journal {
@@ -75,7 +75,7 @@ impl Journal {
         Ok(Journal {
             phase,
             worker,
-            heads: Vec::with_capacity(alloc, room)?,
+            heads: Heads::with_room(alloc, room)?,
             sides: Sides::with_room(alloc, room)?,
             is_rising: true,
             next: 0,
@@ -103,7 +103,7 @@ impl Journal {
         self.is_rising = still_rise(self.is_rising, self.next, index);
         self.next = u64::from(index) + 1;
         let (request, reply) = self.sides.keep(request, reply);
-        self.heads.push_reserved(Head {
+        self.heads.push(Head {
             number,
             request,
             index,
@@ -178,7 +178,7 @@ impl Journal {
         requires { place < length self.now.entries }
         ensures { slice_get self.now.entries place ≡ Some result }
     {
-        let head = self.heads[place];
+        let head = self.heads.get(place);
         Entry {
             phase: self.phase,
             number: head.number,
@@ -194,7 +194,7 @@ impl Journal {
         requires { place < length self.now.entries }
         ensures { slice_get (map entry_number self.now.entries) place ≡ Some result }
     {
-        self.heads[place].number
+        self.heads.get(place).number
     }
 
     /// The index of the entry at a place from 0.
@@ -202,7 +202,7 @@ impl Journal {
         requires { place < length self.now.entries }
         ensures { slice_get (map entry_index self.now.entries) place ≡ Some result }
     {
-        self.heads[place].index
+        self.heads.get(place).index
     }
 
     /// What was asked at a place from 0.
@@ -210,7 +210,7 @@ impl Journal {
         requires { place < length self.now.entries }
         ensures { slice_get (map entry_request self.now.entries) place ≡ Some result }
     {
-        self.sides.request(self.heads[place].request)
+        self.sides.request(self.heads.get(place).request)
     }
 
     /// The reply at a place from 0, made whole.
@@ -218,7 +218,7 @@ impl Journal {
         requires { place < length self.now.entries }
         ensures { slice_get (map entry_reply self.now.entries) place ≡ Some result }
     {
-        self.sides.reply(self.heads[place].reply)
+        self.sides.reply(self.heads.get(place).reply)
     }
 
     /// The reply at a place from 0, if it shows nothing.
@@ -226,7 +226,7 @@ impl Journal {
         requires { place < length self.now.entries }
         ensures { slice_get (map entry_store_reply self.now.entries) place ≡ Some result }
     {
-        self.heads[place].reply.as_store_reply()
+        self.heads.get(place).reply.as_store_reply()
     }
 
     /// What the entry at a place from 0 shows of an item, if it is a view of one.
@@ -236,7 +236,7 @@ impl Journal {
         ensures { slice_get (map entry_items self.now.entries) place
             ≡ Some (option_to_list (option_map (λ seen. seen.now) result)) }
     {
-        self.sides.item_seen(self.heads[place].reply)
+        self.sides.item_seen(self.heads.get(place).reply)
     }
 
     /// Whether the entry at a place from 0 is refused.
@@ -244,7 +244,7 @@ impl Journal {
         requires { place < length self.now.entries }
         ensures { slice_get (map is_refused self.now.entries) place ≡ Some result }
     {
-        self.heads[place].reply.is_refusal()
+        self.heads.get(place).reply.is_refusal()
     }
 
     /// The object that the entry at a place from 0 writes, if it is an accepted splittable store.
@@ -252,8 +252,9 @@ impl Journal {
         requires { place < length self.now.entries }
         ensures { slice_get (map written_by self.now.entries) place ≡ Some result }
     {
-        let Head { request, reply, .. } = self.heads[place];
-        self.sides.object_written(self.worker, request, reply)
+        let head = self.heads.get(place);
+        self.sides
+            .object_written(self.worker, head.request, head.reply)
     }
 
     /// For how many entries in all there is a place.

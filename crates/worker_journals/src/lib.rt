@@ -3,6 +3,7 @@
 #![tactic(auto)]
 
 mod entries;
+mod head_list;
 mod heads;
 mod history;
 mod journal;

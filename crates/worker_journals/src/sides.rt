@@ -288,19 +288,23 @@ fn keep_reply(
     if let Some(seen) = item_seen(reply) {
         return ShortReply::ItemSeen(keep_one(items, seen));
     }
-    match *reply {
-        Reply::ItemStored(id) => ShortReply::ItemStored(id),
-        Reply::BidStored(id) => ShortReply::BidStored(id),
-        Reply::CommentStored(id) => ShortReply::CommentStored(id),
-        Reply::Bought(id) => ShortReply::Bought(id),
+    match reply {
+        Reply::ItemStored(id) => ShortReply::ItemStored(*id),
+        Reply::BidStored(id) => ShortReply::BidStored(*id),
+        Reply::CommentStored(id) => ShortReply::CommentStored(*id),
+        Reply::Bought(id) => ShortReply::Bought(*id),
         Reply::ItemSeen { .. } => unreachable!(),
-        Reply::BidsSeen(shown) => ShortReply::BidsSeen(shown.len() as u8, keep_all(bids, &shown)),
+        Reply::BidsSeen(shown) => ShortReply::BidsSeen(shown.len() as u8, keep_all(bids, shown)),
         Reply::CategorySeen(shown) => {
-            ShortReply::CategorySeen(shown.len() as u8, keep_all(latest, &shown))
+            ShortReply::CategorySeen(shown.len() as u8, keep_all(latest, shown))
         }
         Reply::UserSeen { rating, comments } => {
-            ShortReply::UserSeen(keep_one(users, UserSeen { rating, comments }))
+            let seen = UserSeen {
+                rating: *rating,
+                comments: *comments,
+            };
+            ShortReply::UserSeen(keep_one(users, seen))
         }
-        Reply::Refused(reason) => ShortReply::Refused(reason),
+        Reply::Refused(reason) => ShortReply::Refused(*reason),
     }
 }

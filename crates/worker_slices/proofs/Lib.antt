@@ -4,3 +4,4 @@ pub mod RowSlices
 pub mod SlicedLemmas
 pub mod StashLemmas
 pub mod StockLemmas
+pub mod GuessLemmas

@@ -2,3 +2,4 @@ pub mod Stashes
 pub mod Slicing
 pub mod Counting
 pub mod Homes
+pub mod Guessing

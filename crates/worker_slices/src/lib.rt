@@ -3,6 +3,7 @@
 #![tactic(auto)]
 
 mod counters;
+mod guesses;
 mod homes;
 mod slices;
 mod stash;

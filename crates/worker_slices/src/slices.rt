@@ -1,13 +1,16 @@
 //! A worker's slices of the objects that are split.
 ghost use Rattle.std.specs.Prelude.{◌≡◌, ◌+◌, ◌-◌, ◌↔◌, ◌++◌, ◌∷◌, [], IfOk, IfSome, IsNone, List, ℕ, length, take, is_some};
+ghost use Rattle.std.specs.Bool.{OnTrue};
 ghost use Rattle.std.specs.List.{IsDistinct, AllByRecursion};
 ghost use Rattle.auction_rows.specs.declared.requests.Object.{Object as ObjectValue};
 ghost use Rattle.item_shards.specs.declared.shard.slices.Slice.{Slice as SliceValue};
 ghost use Rattle.worker_slices.specs.declared.slices.Hot.{Hot as HotValue};
+ghost use Rattle.worker_slices.specs.Guessing.{AreGuessed};
 ghost use Rattle.worker_slices.specs.Slicing.{hot_objects, slices_of, stocks_of, stock_of, slices_in, with_slice_changed, slices_after_acts, IsAt, IsStocked, HasAtMost, HaveAtMost, slice_with_bid, slice_with_comment, slice_with_item, slice_of};
 
+use crate::guesses::Guesses;
 use crate::homes::{Home, Homes};
-use auction_rows::{BidEntry, Facts, ItemEntry, Object, Request, Stars, StoreReply, shard_of};
+use auction_rows::{BidEntry, Facts, ItemEntry, Object, Request, Stars, StoreReply};
 use indexmap::IndexMap;
 use item_shards::{CategorySlice, ItemSlice, Slice, UserSlice};
 use shard_boxes::MOST_COMMITS;
@@ -81,15 +84,12 @@ impl Hot {
     }
 }
 
-// How many guesses of a place there are.
-const GUESSES: usize = 64;
-
 /// A worker's slices of the hot objects of a split phase, in the order handed in. Contracts see the
 /// list of the objects with what is held of each.
 pub struct Slices {
     hot: IndexMap<Object, Hot>,
     // Where an object may be: a guess, which is checked at its place.
-    guesses: [u8; GUESSES],
+    guesses: Guesses,
 }
 
 // Not derived: a derived drop is made and proved anew in each crate that lets one go.
@@ -105,7 +105,8 @@ impl Model for Slices {
 
     ghost view = { λ s. s.hot.entries };
 
-    ghost invariant = { λ s. AllByRecursion IsStocked (stocks_of s.hot.entries) };
+    ghost invariant = { λ s. AllByRecursion IsStocked (stocks_of s.hot.entries)
+        × AreGuessed s.guesses.places (hot_objects s.hot.entries) };
 }
 
 impl Slices {
@@ -123,7 +124,7 @@ impl Slices {
     {
         Slices {
             hot: IndexMap::new(alloc),
-            guesses: [0; GUESSES],
+            guesses: Guesses::none(),
         }
     }
 
@@ -135,11 +136,9 @@ impl Slices {
         ensures { IfOk result (λ slices. slices ≡ slices_of hot.now []) }
     {
         let mut slices = IndexMap::with_capacity(alloc, hot.len())?;
-        let mut guesses = [0; GUESSES];
+        let mut guesses = Guesses::none();
         for (object, stock) in hot {
-            if let Some(guess) = guesses.get_mut(guess_for(*object)) {
-                *guess = (slices.len() % 256) as u8;
-            }
+            guesses.note(*object, slices.len());
             match slices.insert(*object, Hot::new(*object, *stock)) {
                 Ok(_) => {}
                 Err(_) => return Err(AllocError),
@@ -172,21 +171,24 @@ impl Slices {
         if self.hot.is_empty() {
             return None;
         }
-        if let Some(place) = self.guessed(object) {
-            return Some(place);
+        let Some(guess) = self.guesses.of(object) else {
+            return None;
+        };
+        if self.is_at(guess, object) {
+            return Some(guess);
         }
         self.hot.get_index_of(&object)
     }
 
-    // The place that is guessed for an object, where that stands there.
+    // Whether an object stands at a place.
     #[inline(always)]
-    fn guessed(&self, object: Object) -> Option<usize>
-        ensures { IfSome result (λ place. IsAt self.now place object) }
+    fn is_at(&self, place: usize, object: Object) -> bool
+        ensures { OnTrue result (IsAt self.now place object) }
     {
-        let guess = self.guesses.get(guess_for(object))?;
-        let place = *guess as usize;
-        let (there, _) = self.hot.get_index(place)?;
-        if *there == object { Some(place) } else { None }
+        match self.hot.get_index(place) {
+            Some((there, _)) => *there == object,
+            None => false,
+        }
     }
 
     /// What is fixed of the object at a place: of an item its facts, and how many are left.
@@ -259,10 +261,4 @@ impl Slices {
             _ => {}
         }
     }
-}
-
-// Which of the guesses is that of an object's place.
-#[inline(always)]
-fn guess_for(object: Object) -> usize {
-    shard_of(object, GUESSES as u32) as usize
 }

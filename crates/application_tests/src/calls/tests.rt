@@ -1,7 +1,8 @@
-//! A run with two rounds on two threads. What it answers stands in `tests/library_calls.txt`.
+//! A run with two rounds on two threads, and the referee. What they answer stands in
+//! `tests/library_calls.txt`.
 use crate::counters::CounterRequest::{Add, Read};
-use crate::counters::Counters;
-use split_engine::{Policy, run};
+use crate::counters::{CounterReply, Counters};
+use split_engine::{Line, Policy, check_history, run};
 use std::test::Fail;
 
 const POLICY: Policy = Policy {
@@ -25,6 +26,34 @@ fn application(rt: HostRuntime) -> Result<(), Fail> {
         Ok(outcome) => {
             let _ = println!(rt; "application run: {} entries", outcome.history.len());
             assert_eq!(rt; outcome.table.as_slice(), [3, 3].as_slice());
+            Ok(())
+        }
+        Err(fault) => Err(Fail::new(fault)),
+    }
+}
+
+fn line(index: u32, reply: CounterReply) -> Line<CounterReply> {
+    Line {
+        worker: 0,
+        index,
+        reply,
+    }
+}
+
+#[test]
+fn lines(rt: HostRuntime) -> Result<(), Fail> {
+    let alloc = rt.alloc();
+    let add = Add { to: (0, 1), by: 1 };
+    let scripts = [vec![in alloc; add, Read { counter: 0 }]?];
+    let mut counters = vec![in alloc; 0u64, 0u64]?;
+    let told = [
+        line(0, CounterReply::Added),
+        line(1, CounterReply::Shows(1)),
+    ];
+    let _ = println!(rt; "lines ready: {} lines", told.len());
+    match check_history::<Counters>(alloc, &mut counters, &scripts, &told) {
+        Ok(()) => {
+            let _ = println!(rt; "lines judged: a history");
             Ok(())
         }
         Err(fault) => Err(Fail::new(fault)),

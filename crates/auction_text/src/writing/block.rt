@@ -4,7 +4,7 @@ ghost use Rattle.std.specs.Prelude.{◌≡◌, ◌+◌, ◌≤◌, ◌++◌, dec
 ghost use Rattle.std.specs.Fmt.{signed_decimal};
 ghost use Rattle.auction_text.specs.Replies.{labelled, labelled_id, labelled_optional};
 
-use auction_rows::BidId;
+use auction_rows::{BidId, CommentId, ItemId};
 use itoa::{Buffer, write_digits};
 use std::marker::Model;
 
@@ -140,9 +140,12 @@ impl Numeral {
 pub struct Block<const N: usize> {
     bytes: [u8; N],
     len: usize,
-    // The index and the serial that were added last: mostly the next ones follow.
+    // The index, and the serials of items, bids and comments that were added last: mostly the next
+    // ones follow.
     index: Numeral,
-    serial: Numeral,
+    item: Numeral,
+    bid: Numeral,
+    comment: Numeral,
 }
 
 /// A block of lines that are written.
@@ -167,7 +170,9 @@ impl<const N: usize> Block<N> {
             bytes: [0; N],
             len: 0,
             index: Numeral::zero(),
-            serial: Numeral::zero(),
+            item: Numeral::zero(),
+            bid: Numeral::zero(),
+            comment: Numeral::zero(),
         }
     }
 
@@ -289,6 +294,20 @@ impl<const N: usize> Block<N> {
         self.len = self.index.put(all, self.len);
     }
 
+    /// Adds a label and the id of an item: a worker, a point and a serial.
+    #[inline(always)]
+    pub(crate) fn push_item_id(&mut self, label: &[u8], id: ItemId)
+        requires { length label.now + 41 + length self.old ≤ N }
+        ensures text { self.new ≡ self.old ++ labelled_id label.now id.worker id.serial }
+        ensures length { length self.new ≤ length label.now + 41 + length self.old }
+    {
+        self.push_labelled(label, u64::from(id.worker));
+        self.push(b".");
+        self.item.turn(u64::from(id.serial));
+        let all = &mut self.bytes[..];
+        self.len = self.item.put(all, self.len);
+    }
+
     /// Adds a label and the id of a bid: a worker, a point and a serial.
     #[inline(always)]
     pub(crate) fn push_bid_id(&mut self, label: &[u8], id: BidId)
@@ -298,8 +317,22 @@ impl<const N: usize> Block<N> {
     {
         self.push_labelled(label, u64::from(id.worker));
         self.push(b".");
-        self.serial.turn(u64::from(id.serial));
+        self.bid.turn(u64::from(id.serial));
         let all = &mut self.bytes[..];
-        self.len = self.serial.put(all, self.len);
+        self.len = self.bid.put(all, self.len);
+    }
+
+    /// Adds a label and the id of a comment: a worker, a point and a serial.
+    #[inline(always)]
+    pub(crate) fn push_comment_id(&mut self, label: &[u8], id: CommentId)
+        requires { length label.now + 41 + length self.old ≤ N }
+        ensures text { self.new ≡ self.old ++ labelled_id label.now id.worker id.serial }
+        ensures length { length self.new ≤ length label.now + 41 + length self.old }
+    {
+        self.push_labelled(label, u64::from(id.worker));
+        self.push(b".");
+        self.comment.turn(u64::from(id.serial));
+        let all = &mut self.bytes[..];
+        self.len = self.comment.put(all, self.len);
     }
 }

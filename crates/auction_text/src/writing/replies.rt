@@ -143,9 +143,9 @@ fn put_store_reply<const N: usize>(block: &mut Block<N>, reply: StoreReply)
     ensures length { length block.new ≤ MOST_OF_A_STORE_REPLY + length block.old }
 {
     match reply {
-        StoreReply::ItemStored(id) => block.push_id(b"item ", id.worker, id.serial),
+        StoreReply::ItemStored(id) => block.push_item_id(b"item ", id),
         StoreReply::BidStored(id) => block.push_bid_id(b"bid ", id),
-        StoreReply::CommentStored(id) => block.push_id(b"comment ", id.worker, id.serial),
+        StoreReply::CommentStored(id) => block.push_comment_id(b"comment ", id),
         StoreReply::Bought(id) => block.push_id(b"buynow ", id.worker, id.serial),
         StoreReply::Refused(refusal) => block.push(text_of_refusal(refusal)),
     }

@@ -1,11 +1,13 @@
 //! The items of a shard: room for one, what is known of it, why it refuses a request, its bids and
 //! purchases.
 ghost use Rattle.std.specs.Prelude.{◌≡◌, ◌+◌, ◌<◌, ◌^◌, IfSome, IfNone, OnOk, OnErr};
+ghost use Rattle.indexmap.specs.IndexMap.{IsUnchanged};
 ghost use Rattle.item_shards.specs.Answering.{bid_request, refusal_with, stock_needed, HasItemOf};
 
 use crate::shard::Shard;
 use crate::shard::records::ItemRecord;
 use auction_rows::{BidEntry, Facts, ItemId, Quantity, Refusal, Request, item_of, item_refusal};
+use indexmap::IndexMap;
 use std::alloc::AllocError;
 
 /// The first reason for which an item refuses a request, by its facts and how many are left, if it
@@ -17,6 +19,19 @@ pub fn refusal_with(stock: &Option<(Facts, u32)>, request: &Request) -> Option<R
     match *stock {
         Some((facts, left)) => item_refusal(*request, Some(facts), left),
         None => item_refusal(*request, None, 0),
+    }
+}
+
+// For how many items a shard asks for room with its first one: so much memory grows without being
+// copied.
+const FIRST_ITEMS: usize = 256;
+
+// Room for the first items, if there is none yet. If it is refused, room is asked for item by item.
+fn expect_items(items: &mut IndexMap<ItemId, ItemRecord>)
+    ensures { IsUnchanged items.old items.new }
+{
+    if items.is_empty() {
+        let _ = items.reserve(FIRST_ITEMS);
     }
 }
 
@@ -43,6 +58,7 @@ impl Shard {
         }
         let parts = &mut *self.parts;
         let place = parts.items.len();
+        expect_items(&mut parts.items);
         match parts.items.insert(item, ItemRecord::blank()) {
             Ok(_) => {
                 parts.hints.note(item, parts.shards, place);

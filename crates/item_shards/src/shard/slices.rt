@@ -2,7 +2,9 @@
 //! and what a shard keeps of each object. A slice merges into a record at a cost that does not grow
 //! with the operations applied to it (Doppel: Narula et al., OSDI 2014).
 ghost use Rattle.std.specs.Prelude.{◌+◌, ◌<◌, ◌^◌, ◌+ℤ◌, FitsSigned, ◌≡◌};
+ghost use Rattle.std.specs.Bool.{OnTrue};
 ghost use Rattle.std.specs.Int.{w64};
+ghost use Rattle.item_shards.specs.Slices.{IsOnlyCounted, IsOutbid};
 
 use crate::shard::Shard;
 use auction_rows::{BidEntry, ItemEntry, ItemId, MOST_SHOWN, Stars};
@@ -17,6 +19,31 @@ pub struct ItemSlice {
     pub bidder: OPutRec<BidEntry>,
     pub bids: AddRec<u64>,
     pub top: TopRec<BidEntry, MOST_SHOWN>,
+}
+
+impl ItemSlice {
+    // Whether the amount of a bid tells that it is neither the greatest nor one of the ten
+    // greatest, as of most bids on a busy item: then entries are not compared, and none is copied.
+    #[inline(always)]
+    fn only_counts(&self, bid: &BidEntry) -> bool
+        ensures { OnTrue result (IsOnlyCounted self.now bid.now) }
+    {
+        if is_outbid(bid, self.top.least()) {
+            return is_outbid(bid, self.bidder.value());
+        }
+        false
+    }
+}
+
+// Whether a bid is of a lesser amount than another, if there is one.
+#[inline(always)]
+fn is_outbid(bid: &BidEntry, by: Option<BidEntry>) -> bool
+    ensures { OnTrue result (IsOutbid bid.now by) }
+{
+    match by {
+        Some(other) => bid.amount < other.amount,
+        None => false,
+    }
 }
 
 /// What comments about a user come to: the sum of their stars, and how many they are.
@@ -78,8 +105,11 @@ impl Splittable for ItemSlice {
     #[inline(always)]
     fn apply(&mut self, bid: BidEntry) {
         self.highest.apply(bid.amount);
-        self.bidder.apply(bid);
         self.bids.apply(1);
+        if self.only_counts(&bid) {
+            return;
+        }
+        self.bidder.apply(bid);
         self.top.apply(bid);
     }
 

@@ -39,6 +39,12 @@ returns-in-ViewItem-clause-answers c counters worker = rw c.in-ViewItem.is (item
 pub returns-in-ViewBids-clause-answers : goal.returns-in-ViewBids-clause-answers
 returns-in-ViewBids-clause-answers c counters worker = rw c.in-ViewBids.is (bids_suit (contents c.args.shard.now (Item c.in-ViewBids.item)) _ c.view_bids.ensures.contents)
 
+pub returns-in-ViewItem-clause-shown : goal.returns-in-ViewItem-clause-shown
+returns-in-ViewItem-clause-shown c = rw c.in-ViewItem.is c.view_item.ensures.contents
+
+pub returns-in-ViewBids-clause-shown : goal.returns-in-ViewBids-clause-shown
+returns-in-ViewBids-clause-shown c = rw c.in-ViewBids.is c.view_bids.ensures.contents
+
 pub returns-in-ViewCategory-clause-answers : goal.returns-in-ViewCategory-clause-answers
 returns-in-ViewCategory-clause-answers c = search rules
 

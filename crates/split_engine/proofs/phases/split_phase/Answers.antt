@@ -17,7 +17,7 @@ close-requires-clause-done g c =
       given.4,
       zip_map c.in_ok-tasks.tasks.items c.in_ok-answers.answers.items _
           (λ task. assignment task.phase.table.now task.phase.plan.hot.now task.worker task.script.now task.phase.plan.quota task.start.cursor)
-          (λ a answer. IfOk answer (λ own. HasDone s.rules s.is_small a own.cursor own.journal.items own.slices.items))
+          (λ a answer. IfOk answer (λ own. HasDone s.rules s.is_small a own.cursor own.journal.items own.slices))
           (c.in_ok-tasks.ensures.tasks ∙ ap (λ t. assignments t c.args.plan.hot.now c.args.plan.quota 0 scripts c.args.state.cursors.items) c.deref.ensures.value)
           c.in_ok-answers.ensures.answers,
     )
@@ -28,7 +28,7 @@ returns-clause-state g c n opened few all f =
     c.in_ok-close.ensures n opened c.args.state.cursors.items all f
     (zip_map c.in_ok-tasks.tasks.items c.in_ok-answers.answers.items _
     (λ task. assignment task.phase.table.now task.phase.plan.hot.now task.worker task.script.now task.phase.plan.quota task.start.cursor)
-    (λ a answer. IfOk answer (λ own. HasDone s.rules s.is_small a own.cursor own.journal.items own.slices.items))
+    (λ a answer. IfOk answer (λ own. HasDone s.rules s.is_small a own.cursor own.journal.items own.slices))
     (c.in_ok-tasks.ensures.tasks ∙ ap (λ t. assignments t c.args.plan.hot.now c.args.plan.quota 0 scripts c.args.state.cursors.items) c.deref.ensures.value)
     c.in_ok-answers.ensures.answers)
 

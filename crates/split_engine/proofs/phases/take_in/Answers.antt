@@ -5,14 +5,14 @@ use Rattle.split_engine.specs.Splitting.{merged_all}
 use Rattle.split_engine.proofs.Splits.{slices_fit, length-slices, merged_fit}
 use Rattle.split_engine.proofs.phases.take_in.Goals as goal
 
-pub merge_all-requires-clause-len : goal.merge_all-requires-clause-len
-merge_all-requires-clause-len g c =
+pub merge_into-requires-clause-len : goal.merge_into-requires-clause-len
+merge_into-requires-clause-len g c =
     let s = g.A.Application in let d = c.requires.done in
     ap length d.2.done.slices_are
     ∙ length-slices s.rules s.fits s.slice_fits s.is_small g.met.A.Application.laws d.0.table c.args.own.journal.items ∙ d.1
 
-pub merge_all-requires-clause-fits : goal.merge_all-requires-clause-fits
-merge_all-requires-clause-fits g c =
+pub merge_into-requires-clause-fits : goal.merge_into-requires-clause-fits
+merge_into-requires-clause-fits g c =
     let s = g.A.Application in let d = c.requires.done in let fits = c.requires.fits in
     let m = length c.args.own.journal.items in (
       fits.0 + 2 * length c.args.state.so_far.history.items,
@@ -32,6 +32,6 @@ returns-clause-fits g c n h =
     let long : length c.append.new.self.items ≡ length c.args.state.so_far.history.items + m =
     ap length c.in_ok-append.ensures.items ∙ length-append c.args.state.so_far.history.items c.args.own.journal.items in
     let same : n2 + (m + m) ≡ n + 2 * length c.append.new.self.items = omega (arith, long) in
-    subst (λ t. AllByRecursion (s.fits (n + 2 * length c.append.new.self.items)) t) (sym c.in_ok-table.ensures)
-    (subst (λ k. AllByRecursion (s.fits k) (merged_all s.rules c.args.state.so_far.table.items c.args.own.slices.items)) same
-    (merged_fit s.rules s.fits s.slice_fits s.is_small g.met.A.Application.laws n2 (m + m) c.args.state.so_far.table.items c.args.own.slices.items h slices))
+    subst (λ t. AllByRecursion (s.fits (n + 2 * length c.append.new.self.items)) t) (sym c.merge_into.ensures)
+    (subst (λ k. AllByRecursion (s.fits k) (merged_all s.rules c.args.state.so_far.table.items c.args.own.slices)) same
+    (merged_fit s.rules s.fits s.slice_fits s.is_small g.met.A.Application.laws n2 (m + m) c.args.state.so_far.table.items c.args.own.slices h slices))

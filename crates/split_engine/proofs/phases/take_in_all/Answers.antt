@@ -35,7 +35,7 @@ take_in-requires-clause-room g c =
     let first = zip_first _ was.1 c.in-Some.answer (into_iter_items c.next.new.self) (subst (AllZip _ was.1) c.in-Some.ensures.steps.0 was.3) in
     let next_in = (subst (AllByRecursion _) first.2 (all-right _ was.0 was.1 (subst (AllByRecursion _) (sym was.2) given.2))).0 in
     let done = c.in_ok-answer.field-0 in
-    let few = done_few s.rules s.is_small first.0 done.cursor done.journal.items done.slices.items next_in (if_ok _ c.in-Some.answer c.in_ok-answer.field-0 c.in_ok-answer.was first.3) in
+    let few = done_few s.rules s.is_small first.0 done.cursor done.journal.items done.slices next_in (if_ok _ c.in-Some.answer c.in_ok-answer.field-0 c.in_ok-answer.was first.3) in
     let whole : all_left given.0 ≡ all_left was.0 + (left_of first.0 + all_left first.1) =
     ap all_left (sym was.2) ∙ left-append was.0 was.1 ∙ ap (λ more. all_left was.0 + all_left more) first.2 in
     omega (arith, given.1, was.4.few, few, whole)
@@ -62,9 +62,9 @@ loop-answer-preserved g c = let s = g.A.Application in record {
         append_assoc was.0 (first.0 ∷ []) first.1 ∙ ap (λ xs. was.0 ++ xs) (sym first.2) ∙ was.2,
         first.4,
         closed_more s.rules s.is_small s.fits was.0 c.args.so_far.table.items mid.so_far.table.items new.so_far.table.items c.args.so_far.history.items mid.so_far.history.items new.so_far.history.items
-            mid.cursors.items new.cursors.items first.0 done.cursor done.journal.items done.slices.items was.4 own has
-            (done_few s.rules s.is_small first.0 done.cursor done.journal.items done.slices.items next_in has)
-            e.table (ap length e.table ∙ length-merged s.rules s.fits s.slice_fits s.is_small g.met.A.Application.laws mid.so_far.table.items done.slices.items)
+            mid.cursors.items new.cursors.items first.0 done.cursor done.journal.items done.slices was.4 own has
+            (done_few s.rules s.is_small first.0 done.cursor done.journal.items done.slices next_in has)
+            e.table (ap length e.table ∙ length-merged s.rules s.fits s.slice_fits s.is_small g.met.A.Application.laws mid.so_far.table.items done.slices)
             e.history e.cursors e.fits,
       );
 }

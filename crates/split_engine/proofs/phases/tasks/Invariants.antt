@@ -12,7 +12,7 @@ invariant-loop-worker g l = let made = l.made.items in let left = drop l.worker 
   made_len : length made ≡ l.worker;
   can : AllByRecursion (λ task. CanDo g.A.Application.rules
       (assignment task.phase.table.now task.phase.plan.hot.now task.worker task.script.now task.phase.plan.quota task.start.cursor)
-      task.start.journal.items task.start.slices.items) made;
+      task.start.journal.items task.start.slices) made;
   tasks : map (λ task. assignment task.phase.table.now task.phase.plan.hot.now task.worker task.script.now task.phase.plan.quota task.start.cursor) made
       ++ assignments l.phase.table.now l.phase.plan.hot.now l.phase.plan.quota l.worker left (into_iter_items l.cursors)
       ≡ assignments l.phase.table.now l.phase.plan.hot.now l.phase.plan.quota 0 (lists l.scripts) l.fn.cursors.items;

@@ -1,12 +1,13 @@
-use Rattle.std.proofs.Common.{◌≡◌, ◌+◌, ◌*◌, ℕ, length, take}
+use Rattle.std.proofs.Common.{◌≡◌, ◌+◌, ◌*◌, [], ℕ, length, take}
 use Rattle.std.specs.List.{AllByRecursion}
 use Rattle.split_engine.specs.Serving.{lists}
-use Rattle.split_engine.specs.Checking.{lines_replay, after_lines}
+use Rattle.split_engine.specs.Checking.{AreMarks, lines_replay, after_lines}
 use Rattle.split_engine.proofs.referee.check_history.Given as goal
 
 abbrev pub invariant-loop-place : goal.invariant-loop-place
 invariant-loop-place g l = record {
-  replays : lines_replay g.A.Application.rules (lists l.scripts) l.fn.table.items (take l.place l.lines);
+  replays : lines_replay g.A.Application.rules (lists l.scripts) [] l.fn.table.items (take l.place l.lines);
+  marks : AreMarks (lists l.scripts) (take l.place l.lines) (lists l.marks.items);
   table : l.table.items ≡ after_lines g.A.Application.rules (lists l.scripts) l.fn.table.items (take l.place l.lines);
   size : length l.table.items ≡ length l.fn.table.items;
   fits : (n : ℕ) → AllByRecursion (g.A.Application.fits n) l.fn.table.items → AllByRecursion (g.A.Application.fits (n + 2 * l.place)) l.table.items;

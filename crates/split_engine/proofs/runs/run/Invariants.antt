@@ -1,4 +1,4 @@
-use Rattle.std.proofs.Common.{◌<◌, ℕ}
+use Rattle.std.proofs.Common.{◌≡◌, ◌<◌, ℕ, length}
 use Rattle.std.specs.List.{AllByRecursion}
 use Rattle.split_engine.specs.Rules.{most_before}
 use Rattle.split_engine.specs.Serving.{lists}
@@ -9,4 +9,5 @@ abbrev pub invariant-loop-round : goal.invariant-loop-round
 invariant-loop-round g l = record {
   state : (n : ℕ) → n < most_before → AllByRecursion (g.A.Application.fits n) l.fn.table.items →
       IsRunState g.A.Application.rules g.A.Application.fits n l.fn.table.items (lists l.scripts) l.state.so_far.table.items l.state.so_far.history.items l.state.cursors.items;
+  hot : length l.phasing.hot.items ≡ length l.fn.table.items;
 }

@@ -7,7 +7,7 @@ pub returns-clause-done : goal.returns-clause-done
 returns-clause-done g c = λ before all done.
     let s = g.A.Application in let phase = c.args.phase.now in let own = c.args.own.now in
     let call : ℕ × g.row.A-Request.Denot = (c.args.index, c.args.request.now) in
-    subst (HasPerformedOnSlices s.rules s.is_small phase.plan.hot.now phase.table.now c.args.worker (all ++ call ∷ []) own.journal.items own.slices.items before)
+    subst (HasPerformedOnSlices s.rules s.is_small phase.plan.hot.now phase.table.now c.args.worker (all ++ call ∷ []) own.journal.items own.slices before)
     (sym c.in_ok-push-2.ensures.items)
-    (stashed_more s.rules s.is_small phase.plan.hot.now phase.table.now c.args.worker before all own.journal.items own.slices.items own.cursor.stash.items call done
+    (stashed_more s.rules s.is_small phase.plan.hot.now phase.table.now c.args.worker before all own.journal.items own.slices own.cursor.stash.items call done
     (sym c.is_taken.ensures ∙ c.if-is_taken.false))

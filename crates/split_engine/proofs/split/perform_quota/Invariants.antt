@@ -10,5 +10,5 @@ invariant-loop-index g l = record {
   all : List (ℕ × g.row.A-Request.Denot);
   follows : calls_before l.script l.index ≡ calls_before l.script l.from ++ all;
   done : HasPerformedOnSlices g.A.Application.rules g.A.Application.is_small l.phase.plan.hot.now l.phase.table.now l.worker all
-      l.own.journal.items l.own.slices.items l.fn.start.cursor.stash.items l.own.cursor.stash.items;
+      l.own.journal.items l.own.slices l.fn.start.cursor.stash.items l.own.cursor.stash.items;
 }

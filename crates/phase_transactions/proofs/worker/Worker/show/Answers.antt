@@ -32,19 +32,16 @@ returns-in-ViewItem g c =
     subst (λ (s : WorkerState). HasCommittedSome g.N.PhaseName.initial s c.put_view.new.self c.args.request.now c.args.index) (λ i. record (c.begin.ensures.worker i) { key = old.key })
     (c.put_view.ensures c.homes-homes.result old.key c.in_ok-begun.ensures.begun)
 
-pub view_on-look-requires : goal.view_on-look-requires
-view_on-look-requires g c =
+pub show_whole-requires-clause-one : goal.show_whole-requires-clause-one
+show_whole-requires-clause-one g c =
     let openings = subst (HaveOpening g.N.PhaseName.initial) (sym (ap (λ (s : WorkerState). s.opening) c.begin.ensures.worker)) c.requires.can.opened in
-    record {
-      view = c.requires.view;
-      one = on_one (step_of g.N.PhaseName.initial g.N.PhaseName.workers c.args.boxes.now c.args.self.now.key c.homes-homes.result) c.begin.new.self c.args.request.now c.in_ok-begun.begun c.in_ok-begun.ensures.begun c.requires.view openings;
-    }
+    on_one (step_of g.N.PhaseName.initial g.N.PhaseName.workers c.args.boxes.now c.args.self.now.key c.homes-homes.result) c.begin.new.self c.args.request.now c.in_ok-begun.begun c.in_ok-begun.ensures.begun c.requires.view openings
 
-pub put_view-requires-2-clause-begun : goal.put_view-requires-2-clause-begun
-put_view-requires-2-clause-begun g c = (c.homes-homes.result, c.args.self.now.key, c.in_ok-begun.ensures.begun)
+pub show_whole-requires-clause-begun : goal.show_whole-requires-clause-begun
+show_whole-requires-clause-begun g c = (c.homes-homes.result, c.args.self.now.key, c.in_ok-begun.ensures.begun)
 
 pub returns : goal.returns
 returns g c =
     let old = c.args.self.now in
-    subst (λ (s : WorkerState). HasCommittedSome g.N.PhaseName.initial s c.put_view-2.new.self c.args.request.now c.args.index) (λ i. record (c.begin.ensures.worker i) { key = old.key })
-    (c.put_view-2.ensures c.homes-homes.result old.key c.in_ok-begun.ensures.begun)
+    subst (λ (s : WorkerState). HasCommittedSome g.N.PhaseName.initial s c.show_whole.new.self c.args.request.now c.args.index) (λ i. record (c.begin.ensures.worker i) { key = old.key })
+    (c.show_whole.ensures c.homes-homes.result old.key c.in_ok-begun.ensures.begun)

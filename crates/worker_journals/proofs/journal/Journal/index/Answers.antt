@@ -5,5 +5,4 @@ use Rattle.worker_journals.proofs.journal.Journal.index.Goals as goal
 pub returns : goal.returns
 returns c =
     let j = c.self.inside in
-    let within = rw (← c.self.view_is) at c.requires in
-    rw (← c.self.view_is) (read_part entry_index j.phase j.worker j.sides j.heads.items _ _ c.index.ensures within)
+    rw (← c.self.view_is) (read_part entry_index j.phase j.worker j.sides j.heads.heads _ _ c.get.ensures)

@@ -7,5 +7,4 @@ use Rattle.worker_journals.proofs.journal.Journal.is_refused.Goals as goal
 pub returns : goal.returns
 returns c =
     let j = c.self.inside in
-    let within = rw (← c.self.view_is) at c.requires in
-    rw (← c.self.view_is) (read_part is_refused j.phase j.worker j.sides j.heads.items _ _ c.index.ensures within ∙ ap (λ x. Some x) (sym (c.is_refusal.ensures j.sides.items j.sides.users j.sides.bids j.sides.latest)))
+    rw (← c.self.view_is) (read_part is_refused j.phase j.worker j.sides j.heads.heads _ _ c.get.ensures ∙ ap (λ x. Some x) (sym (c.is_refusal.ensures j.sides.items j.sides.users j.sides.bids j.sides.latest)))

@@ -7,5 +7,4 @@ use Rattle.worker_journals.proofs.journal.Journal.request.Goals as goal
 pub returns : goal.returns
 returns c =
     let j = c.self.inside in
-    let within = rw (← c.self.view_is) at c.requires in
-    rw (← c.self.view_is) (read_part entry_request j.phase j.worker j.sides j.heads.items _ _ c.index.ensures within ∙ ap (λ x. Some x) (sym c.request.ensures))
+    rw (← c.self.view_is) (read_part entry_request j.phase j.worker j.sides j.heads.heads _ _ c.get.ensures ∙ ap (λ x. Some x) (sym c.request.ensures))

@@ -1,7 +1,9 @@
 use Rattle.std.proofs.Common.{refl, sym, subst}
 use Rattle.indexmap.specs.Layout.{set_value_at}
 use Rattle.shard_boxes.specs.declared.limits.TheConstants.{MOST_COMMITS}
+use Rattle.worker_slices.specs.Guessing.{AreGuessed}
 use Rattle.worker_slices.specs.Slicing.{IsAt, HaveAtMost}
+use Rattle.worker_slices.proofs.GuessLemmas.{same_names}
 use Rattle.worker_slices.proofs.Places.{write_seen, none_there, few_there, still_stocked}
 use Rattle.worker_slices.proofs.SlicedLemmas.{unsliced}
 use Rattle.worker_slices.proofs.slices.Slices.apply_at.Goals as goal
@@ -20,8 +22,10 @@ pub invariant_of-self-2 : goal.invariant_of-self-2
 invariant_of-self-2 g c =
     let hots = c.self.inside.hot.entries in
     let old = c.in-Some.hot.now in
-    let new = record old { slice = c.apply_to.new.slice } in
-    still_stocked hots (set_value_at hots c.in-Slice.place new) c.in-Slice.place old new refl c.in-Some.ensures.value refl c.self.invariant
+    let new = record old { slice = c.apply_to.new.slice } in (
+      still_stocked hots (set_value_at hots c.in-Slice.place new) c.in-Slice.place old new refl c.in-Some.ensures.value refl c.self.invariant.0,
+      subst (AreGuessed c.self.inside.guesses.places) (sym (same_names hots c.in-Slice.place new)) c.self.invariant.1,
+    )
 
 pub returns : goal.returns
 returns g c object shards is =
