@@ -1,9 +1,10 @@
-use Rattle.std.proofs.Common.{rules, ◌≡◌, Option, None, Some, sym, ap, subst}
+use Rattle.std.proofs.Common.{rules, ◌≡◌, Option, None, Some, sym, ap, subst, ◌∙◌}
 use Rattle.auction_rows.specs.declared.{requests.Facts.Facts, replies.Reply.Reply}
 use Rattle.auction_rows.specs.declared.requests.Object.TheVariants.{Item, User, Category}
+use Rattle.auction_rows.specs.Replies.{answer_unless}
 use Rattle.item_shards.specs.ShardContents.{contents}
 use Rattle.item_shards.specs.Values.{Value}
-use Rattle.item_shards.specs.Views.{item_view, bids_view}
+use Rattle.item_shards.specs.Views.{item_view, bids_view, category_view}
 use Rattle.phase_transactions.specs.inner.Begun.{viewed}
 use Rattle.phase_transactions.specs.Txns.{SuitsBids, SuitsItem}
 use Rattle.phase_transactions.proofs.answers.view.Goals as goal
@@ -49,4 +50,7 @@ pub returns-in-ViewCategory-clause-answers : goal.returns-in-ViewCategory-clause
 returns-in-ViewCategory-clause-answers c = search rules
 
 pub returns-in-ViewCategory-clause-shown : goal.returns-in-ViewCategory-clause-shown
-returns-in-ViewCategory-clause-shown c = search rules
+returns-in-ViewCategory-clause-shown c =
+    let view = category_view (contents c.args.shard.now (Category c.in-ViewCategory.category)) in
+    let allowed = rw c.in-ViewCategory.is at c.requires.can.allowed in
+    rw c.in-ViewCategory.is (c.view_category.ensures.contents ∙ ap (λ refusal. answer_unless refusal view) allowed)
