@@ -94,9 +94,10 @@ class Audit:
         self.keep((), ())
 
     def keep(self, lines, requests):
+        """A front that is killed keeps no reply without its request, since the requests are written first."""
         self.input.write(b"".join(b"%d,%s\n" % (request.client.worker, request.record) for request in requests))
-        self.history.write(b"\n".join((*lines, b"")))
         self.input.flush()
+        self.history.write(b"\n".join((*lines, b"")))
         self.history.flush()
 
 

@@ -25,6 +25,7 @@ from pathlib import Path
 from types import SimpleNamespace
 
 from checks import Tester, tell_of
+from front import Audit
 from front_bounds import bounds
 from front_clients import loads, other_clients, shown
 from fronts import ENDS, FRONT, MEGABYTES, SEEN, UNKNOWN, UNKNOWN_COMMAND, Client, Front, packed
@@ -291,6 +292,15 @@ def terminated(tester: Tester) -> None:
     judged_by_itself(tester, front)
 
 
+def kept_in_order(tester: Tester) -> None:
+    """a history that cannot be written: the requests of its lines are kept already, so a front that is killed in between keeps no reply without its request"""
+    audit, client = Audit(tester.folder / "in_order", 1, None), SimpleNamespace(worker=0)
+    with open("/dev/full", "wb", buffering=0) as audit.history, suppress(OSError):
+        audit.keep([b"0 0 0 0 user rating=0 comments=0"] * 100, [SimpleNamespace(client=client, record=b"viewuser,0")] * 100)
+    kept = whole_lines(tester.folder / "in_order" / "1.csv")
+    tester.tally.check(kept == ["0,viewuser,0"] * 100, f"{len(kept)} requests kept before their history")
+
+
 UNIT = EXAMPLES / "front.service"
 
 
@@ -398,7 +408,7 @@ def front_kills(tester: Tester) -> None:
     tester.tally.check(len(starts) > tester.kills and outcome.lost > 0, f"{len(starts)} starts, {outcome.lost} replies lost")
 
 
-CHECKS = (commands, pipelines, other_clients, loads, shown, bounds, misbehaving, group_commit, outcomes, cut_parts, full_workers, waits_for_the_log, terminated, service, without_a_way_on, engine_kills, front_kills)
+CHECKS = (commands, pipelines, other_clients, loads, shown, bounds, misbehaving, group_commit, outcomes, cut_parts, full_workers, waits_for_the_log, terminated, kept_in_order, service, without_a_way_on, engine_kills, front_kills)
 
 
 def main() -> None:
