@@ -340,7 +340,7 @@ def failures(tester: Tester) -> None:
     check(log == [row for row in rows.split("\n") if row], "the log of the last leader has the rows of etcd")
     served = SimpleNamespace(audit=cluster.audit, log=last.log, folder=last.folder, said=last.said)
     starts = judge(tester, served, outcome)
-    judged_by_itself(tester, served)
+    judged_by_itself(tester, served, str(starts[-1].number))
     check(len(starts) >= 5 + bool(cluster.network.spaces), f"{len(starts)} starts")
     check("against time" in against_time(starts[::-1], outcome), "leaders in another order are against time")
 

@@ -199,8 +199,8 @@ def judge(tester: Tester, front: Front, outcome: Outcome) -> list[Start]:
     return starts
 
 
-def judged_by_itself(tester: Tester, front: Front) -> None:
-    """The referee takes the files as they are."""
-    for path in front.audit.glob("*.csv"):
+def judged_by_itself(tester: Tester, front: Front, starts: str = "*") -> None:
+    """The referee takes the files as they are, if the front was not killed."""
+    for path in front.audit.glob(f"{starts}.csv"):
         got = run([tester.referee, "--workers", str(WORKERS), "--order", "--history", path.with_suffix(".history")], path.read_bytes())
         tester.tally.check(got.status == 0, f"{path.name} of {front.folder.name}: {got.stdout!r} {got.stderr!r}")
