@@ -1,5 +1,5 @@
 -- A parcel of an input, read as if nothing were before it, and then added to what was read.
-use Rattle.std.proofs.Common.{arith, ◌≡◌, ◌||◌, ◌<◌, ◌≤◌, ◌+◌, ◌∷◌, ◌++◌, ◌∙◌, [], ℕ, zero, suc, List, Bool, true, false, not, length, take, drop, set, get_or, take_all, refl, sym, ap, subst, append_assoc, inl, inr}
+use Rattle.std.proofs.Common.{arith, ◌≡◌, ◌||◌, ◌<◌, ◌≤◌, ◌+◌, ◌∷◌, ◌++◌, ◌∙◌, [], ℕ, zero, suc, List, Bool, true, false, not, length, take, drop, take_all, refl, sym, ap, subst, append_assoc, inl, inr}
 use Rattle.std.specs.Prelude.{replicate, slice_index_or, slice_set, vec_len}
 use Rattle.std.proofs.lemmas.Bool.{cases_Bool}
 use Rattle.std.proofs.lemmas.List.{append-nil, length-set, nil_from_length, take-append-le}
@@ -140,22 +140,6 @@ same_workers old parcel can = old.input.scripts.ok.0 ∙ can.workers ∙ sym par
 -- and no rows after a request
 pub no_late_rows : (old parcel : Progress) → CanJoin (read_by old) (read_by parcel) → old.begun ≡ true → vec_len parcel.input.rows ≡ 0
 no_late_rows old parcel can begun = parcel.input.rows.ok.0 ∙ ap length (can.rows begun)
-
--- one more worker's script is joined
-pub one_joined : (xs ys : List (List Request)) (i : ℕ) (a b : List Request) → length xs ≡ length ys → i < length xs
-    → set (take i (scripts_joined xs ys) ++ drop i xs) i (get_or (take i (scripts_joined xs ys) ++ drop i xs) i a ++ get_or ys i b) ≡ take (suc i) (scripts_joined xs ys) ++ drop (suc i) xs
-one_joined [] ys i a b same less = absurd (omega (arith, less))
-one_joined (x ∷ xs) [] i a b same less = absurd (omega (arith, same))
-one_joined (x ∷ xs) (y ∷ ys) zero a b same less = refl
-one_joined (x ∷ xs) (y ∷ ys) (suc i) a b same less = ap (λ l. (x ++ y) ∷ l) (one_joined xs ys i a b (omega (arith, same)) (omega (arith, less)))
-
--- until all are
-pub all_joined : (xs ys : List (List Request)) (n : ℕ) → length xs ≡ length ys → length xs ≤ n → take n (scripts_joined xs ys) ++ drop n xs ≡ scripts_joined xs ys
-all_joined [] ys zero same past = refl
-all_joined [] ys (suc n) same past = refl
-all_joined (x ∷ xs) ys zero same past = absurd (omega (arith, past))
-all_joined (x ∷ xs) [] (suc n) same past = absurd (omega (arith, same))
-all_joined (x ∷ xs) (y ∷ ys) (suc n) same past = ap (λ l. (x ++ y) ∷ l) (all_joined xs ys n (omega (arith, same)) (omega (arith, past)))
 
 -- a list that was lent as a slice, and came back with as many elements
 pub lent_back : {X : Type 0} (len : ℕ) (xs ys : List X) → len ≡ length xs → length ys ≡ length xs → take len (ys ++ drop (length ys) xs) ≡ ys

@@ -1,4 +1,5 @@
 pub mod JoinLemmas
+pub mod ParcelLemmas
 pub mod PieceLemmas
 pub mod ProgressLemmas
 pub mod RowsFirst

@@ -7,7 +7,8 @@ ghost use Rattle.record_reading.specs.declared.inputs.TheConstants.{MOST_RECORDS
 ghost use Rattle.auction_reading.specs.inner.Progress.{IsReadUpTo, ReadsOn};
 ghost use Rattle.auction_reading.specs.Scripts.{input_of};
 
-use crate::parcels::{Parcel, join_parcels, read_parcels};
+use crate::parcel_joins::join_parcels;
+use crate::parcels::{Parcel, read_parcels};
 use crate::plain_text::Progress;
 use crate::scripts::{hand_over, read_compact_scripts};
 use record_reading::{CompactInput, ReadFault, lines_end, read_more};
@@ -15,18 +16,20 @@ use std::alloc::Global;
 use std::io::Read;
 use std::thread::Threads;
 
-// So many bytes are read at a time for each worker.
-const ROOM_OF_A_PARCEL: usize = 131_072;
+// So many bytes are read at a time, for all workers.
+const ROOM: usize = 524_288;
 
 // A parcel for each worker.
 fn parcels_of(alloc: Global, workers: u32) -> Result<Vec<Parcel>, ReadFault>
+    requires some { 0 < workers }
     ensures { IfErr result (λ fault. IsInputFault fault → ⊥) }
 {
     let Ok(mut parcels) = Vec::with_capacity(alloc, workers as usize) else {
         return Err(ReadFault::Memory);
     };
+    let bytes = ROOM / workers as usize;
     for _ in 0..workers {
-        if parcels.push(Parcel::new(alloc, workers)?).is_err() {
+        if parcels.push(Parcel::new(alloc, workers, bytes)?).is_err() {
             return Err(ReadFault::Memory);
         }
     }
@@ -77,7 +80,7 @@ fn take_lines<R: Threads + Sync>(
 {
     let end = lines_end(&buffer[..filled]);
     read_parcels(rt, parcels, &buffer[..end]);
-    let at = join_parcels(progress, parcels)?;
+    let at = join_parcels(rt, progress, parcels)?;
     buffer.copy_within(at..filled, 0);
     Ok(at)
 }
@@ -139,7 +142,7 @@ fn read_input<R: Threads + Sync, I: Read + Drop>(
 {
     let mut reader = reader;
     let mut parcels = parcels_of(alloc, workers)?;
-    let Ok(mut buffer) = vec![in alloc; 0u8; ROOM_OF_A_PARCEL * workers as usize] else {
+    let Ok(mut buffer) = vec![in alloc; 0u8; ROOM] else {
         return Err(ReadFault::Memory);
     };
     let held = read_lines(rt, progress, &mut parcels, &mut buffer, &mut reader)?;

@@ -1,14 +1,12 @@
 //! What was read of a parcel, joined to what was read before it.
 ghost use Rattle.std.specs.Prelude.{◌≡◌, ◌≤◌, ◌↔◌, [], length, replicate, IfErr, IsTrue, OnOk};
-ghost use Rattle.record_reading.specs.Asking.{asked_of};
 ghost use Rattle.record_reading.specs.Reading.{IsInputFault};
 ghost use Rattle.record_reading.specs.declared.inputs.TheConstants.{MOST_RECORDS};
-ghost use Rattle.auction_reading.specs.inner.Parcels.{CanJoin, joined, nothing_read, read_with, scripts_joined};
+ghost use Rattle.auction_reading.specs.inner.Parcels.{CanJoin, but_requests, nothing_read, read_with};
 ghost use Rattle.auction_reading.specs.inner.Said.{read_by};
 
 use crate::plain_text::Progress;
-use record_reading::{CompactInput, MOST_RECORDS, ReadFault};
-use std::alloc::AllocError;
+use record_reading::{MOST_RECORDS, ReadFault};
 use worker_journals::Script;
 
 // Lets the requests of all scripts go.
@@ -44,36 +42,15 @@ pub fn can_join(progress: &Progress, parcel: &Progress) -> bool
     !progress.begun || parcel.input.rows.is_empty()
 }
 
-// Puts the requests of each worker's other script at the end of its script.
-fn join_scripts(scripts: &mut [Script], others: &[Script]) -> Result<(), AllocError>
-    requires { length scripts.old ≡ length others.now }
-    ensures { OnOk result (scripts.new ≡ scripts_joined scripts.old others.now) }
-{
-    for worker in 0..scripts.len() {
-        scripts[worker].append(&others[worker])?;
-    }
-    Ok(())
-}
-
-// Puts what another input asks for at the end.
-fn join_inputs(input: &mut CompactInput, other: &CompactInput) -> Result<(), AllocError>
-    requires { length input.old.scripts.items ≡ length other.now.scripts.items }
-    ensures { OnOk result (asked_of input.new ≡ joined (asked_of input.old) (asked_of other.now)) }
-{
-    input.rows.extend_from_slice(&other.rows)?;
-    join_scripts(&mut input.scripts, &other.scripts)?;
-    Ok(())
-}
-
-/// Adds what was read of a parcel to what was read before it. After a fault what was read is not
-/// known.
-pub fn join(progress: &mut Progress, parcel: &Progress) -> Result<(), ReadFault>
+/// Adds what was read of a parcel to what was read before it, but for its requests. After a fault
+/// what was read is not known.
+pub fn join_rows(progress: &mut Progress, parcel: &Progress) -> Result<(), ReadFault>
     requires { CanJoin (read_by progress.old) (read_by parcel.now) }
-    ensures joins { OnOk result
-        (read_by progress.new ≡ read_with (read_by progress.old) (read_by parcel.now)) }
+    ensures joins { OnOk result (read_by progress.new ≡ but_requests (read_by progress.old)
+        (read_with (read_by progress.old) (read_by parcel.now))) }
     ensures fails { IfErr result (λ fault. IsInputFault fault → ⊥) }
 {
-    let Ok(()) = join_inputs(&mut progress.input, &parcel.input) else {
+    let Ok(()) = progress.input.rows.extend_from_slice(&parcel.input.rows) else {
         return Err(ReadFault::Memory);
     };
     progress.count += parcel.count;

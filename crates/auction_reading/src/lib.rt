@@ -3,12 +3,13 @@
 //! `scripts` reads plain lines where they lie, and by `csv` from the first line on that is not
 //! plain or has a fault. `by_threads` does the same with several threads: what is read at a time is
 //! cut at ends of lines into parcels, each is read as if nothing stood before it, and they are
-//! joined in their order.
+//! joined in their order, the requests of each worker by one thread.
 #![tactic(auto)]
 
 mod by_threads;
 mod joins;
 mod laws;
+mod parcel_joins;
 mod parcels;
 mod plain_text;
 mod scripts;

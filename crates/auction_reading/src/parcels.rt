@@ -1,19 +1,23 @@
-//! Parcels of a text, each read as if nothing stood before it, and joined in their order.
-ghost use Rattle.std.specs.Prelude.{ℕ, ◌≡◌, ◌<◌, ◌≤◌, drop, length, take, vec_len, List, IfErr, IfOk, IfSome, OnOk};
+//! Parcels of a text, each read as if nothing stood before it.
+ghost use Rattle.std.specs.Prelude.{◌≡◌, ◌<◌, ◌≤◌, drop, length, take, vec_len, IfErr, IfOk, IfSome};
+ghost use Rattle.std.specs.Thread.{IsSync};
 ghost use Rattle.record_reading.specs.Lines.{EndsLine};
 ghost use Rattle.record_reading.specs.Reading.{IsInputFault};
 ghost use Rattle.record_reading.specs.declared.inputs.TheConstants.{MOST_RECORDS};
 ghost use Rattle.auction_reading.specs.inner.Said.{HasRead, read_by};
-ghost use Rattle.auction_reading.specs.inner.Parcels.{AreParcels, IsParcel};
+ghost use Rattle.auction_reading.specs.inner.Parcels.{AreParcels, Follows, IsParcel};
 
-use crate::joins::{can_join, clear, join};
+use crate::joins::{can_join, clear};
 use crate::plain_text::{Progress, read_plain};
 use record_reading::{CompactInput, ReadFault, lines_end};
 use std::alloc::Global;
-use std::thread::{Threads, for_each_mut};
+use std::thread::{Threads, join_mut};
 
-// A thread is started for no less than so many bytes.
-const LEAST_OF_A_THREAD: usize = 32_768;
+/// A thread is started for no less than so many bytes.
+pub const LEAST_OF_A_THREAD: usize = 32_768;
+
+// Few lines have fewer bytes.
+const BYTES_OF_A_LINE: usize = 16;
 
 /// Whole lines of a text, and what the plain ones at their front ask for.
 #[derive(Drop)]
@@ -27,12 +31,14 @@ pub struct Parcel {
 }
 
 impl Parcel {
-    /// A parcel of no lines, for so many workers.
-    pub fn new(alloc: Global, workers: u32) -> Result<Parcel, ReadFault>
+    /// A parcel of no lines, for so many workers, with room for what so many bytes mostly ask for.
+    pub fn new(alloc: Global, workers: u32, bytes: usize) -> Result<Parcel, ReadFault>
+        requires some { 0 < workers }
         ensures workers { IfOk result (λ parcel. vec_len parcel.progress.input.scripts ≡ workers) }
         ensures fails { IfErr result (λ fault. IsInputFault fault → ⊥) }
     {
-        let input = CompactInput::new(alloc, workers)?;
+        let requests = bytes / BYTES_OF_A_LINE / workers as usize;
+        let input = CompactInput::with_room(alloc, workers, requests)?;
         let progress = Progress {
             input,
             count: 0,
@@ -45,12 +51,11 @@ impl Parcel {
         })
     }
 
-    // Reads the plain lines of the parcel with this number of a text, of which each is about so
+    // Reads the plain lines of the parcel of a text that begins about at a place, and is about so
     // long.
-    fn read(&mut self, text: &[u8], number: usize, size: usize)
+    fn read(&mut self, text: &[u8], begins: usize, size: usize)
         ensures { IsParcel text.now self.new }
     {
-        let begins = size.saturating_mul(number);
         let from = cut(text, begins);
         let end = cut(text, begins.saturating_add(size));
         clear(&mut self.progress);
@@ -58,28 +63,24 @@ impl Parcel {
         self.to = read_piece(&mut self.progress, text, from, end);
     }
 
-    // Adds what was read to what was read up to a place in the text, and returns the place up to
-    // which all was read then: the same place if the lines begin elsewhere, or cannot follow.
-    fn join_at(&self, progress: &mut Progress, at: usize) -> Result<usize, ReadFault>
-        requires { progress.old.count ≤ MOST_RECORDS }
-        ensures within { IfOk result (λ to. (text : List ℕ) → IsParcel text self.now →
-            at ≤ length text → to ≤ length text) }
-        ensures reads { IfOk result (λ to. (text : List ℕ) → IsParcel text self.now →
-            HasRead (read_by progress.old) (drop at text) (read_by progress.new) (drop to text)) }
-        ensures room { OnOk result (progress.new.count ≤ MOST_RECORDS) }
+    /// Up to which place in the text all is read once the parcel follows what was read up to
+    /// another one: none if its lines begin elsewhere, or cannot follow.
+    pub fn end_after(&self, progress: &Progress, at: usize) -> Result<Option<usize>, ReadFault>
+        requires { progress.now.count ≤ MOST_RECORDS }
+        ensures follows { IfOk result (λ end. IfSome end (λ to.
+            Follows (read_by progress.now) at self.now to)) }
         ensures fails { IfErr result (λ fault. IsInputFault fault → ⊥) }
     {
         if self.from != at {
-            return Ok(at);
+            return Ok(None);
         }
         let Some(to) = self.to else {
             return Err(ReadFault::Memory);
         };
         if !can_join(progress, &self.progress) {
-            return Ok(at);
+            return Ok(None);
         }
-        join(progress, &self.progress)?;
-        Ok(to)
+        Ok(Some(to))
     }
 }
 
@@ -113,33 +114,56 @@ fn cut(text: &[u8], about: usize) -> usize
     lines_end(&text[..part])
 }
 
+// Reads parcels of a text one after the other: the first begins about at a place, and each is about
+// so long.
+fn read_in_turn(text: &[u8], begins: usize, size: usize, parcels: &mut [Parcel])
+    ensures { AreParcels text.now parcels.new }
+{
+    let mut next = begins;
+    for parcel in parcels.iter_mut() {
+        parcel.read(text, next, size);
+        next = next.saturating_add(size);
+    }
+}
+
+// Reads parcels in the same way, each but the last in a thread of its own. The thread that calls
+// starts the others one after the other: in halves of halves the last would begin later.
+#[cycle(reading)]
+fn read_from<R: Threads + Sync>(
+    rt: &R,
+    text: &[u8],
+    begins: usize,
+    size: usize,
+    parcels: &mut [Parcel],
+)
+    ensures { AreParcels text.now parcels.new }
+{
+    if parcels.len() < 2 {
+        read_in_turn(text, begins, size, parcels);
+        return;
+    }
+    let next = begins.saturating_add(size);
+    let (first, rest) = parcels.split_at_mut(1);
+    let mut one = ||
+        ensures { AreParcels text.entry.now first.exit.now }
+    { read_in_turn(text, begins, size, first) };
+    let mut others = ||
+        requires { IsSync R.row }
+        ensures { AreParcels text.entry.now rest.exit.now }
+    { read_from(rt, text, next, size, rest) };
+    join_mut(rt, &mut one, &mut others);
+}
+
 /// Cuts a text of whole lines into parcels of about one length, and reads the plain lines at the
-/// front of each, by threads. How far that is, no clause says: what is left is read by `csv`.
+/// front of each, by threads if the text is long. How far that is, no clause says: what is left is
+/// read by `csv`.
 pub fn read_parcels<R: Threads + Sync>(rt: &R, parcels: &mut [Parcel], text: &[u8])
     ensures { AreParcels text.now parcels.new }
 {
     let size = (text.len() / parcels.len().max(1)).saturating_add(1);
-    let read = move |number: usize, parcel: &mut Parcel|
-        ensures { IsParcel text.entry.now parcel.exit.now }
-    { parcel.read(text, number, size) };
-    for_each_mut(rt, parcels, text.len() / LEAST_OF_A_THREAD + 1, &read);
-}
-
-/// Adds what was read of the parcels of a text, as far as each begins where the one before it was
-/// read to, and returns the place in the text up to which that is. How far that is, no clause says:
-/// what is left is read by `csv`.
-pub fn join_parcels(progress: &mut Progress, parcels: &[Parcel]) -> Result<usize, ReadFault>
-    requires { progress.old.count ≤ MOST_RECORDS }
-    ensures within { IfOk result (λ at. (text : List ℕ) → AreParcels text parcels.now →
-        at ≤ length text) }
-    ensures reads { IfOk result (λ at. (text : List ℕ) → AreParcels text parcels.now →
-        HasRead (read_by progress.old) text (read_by progress.new) (drop at text)) }
-    ensures fails { IfErr result (λ fault. IsInputFault fault → ⊥) }
-{
-    let mut at = 0;
-    for parcel in parcels {
-        let to = parcel.join_at(progress, at)?;
-        at = to;
+    if text.len() / LEAST_OF_A_THREAD < parcels.len() {
+        read_in_turn(text, 0, size, parcels);
+    } else {
+        read_from(rt, text, 0, size, parcels);
     }
-    Ok(at)
 }

@@ -145,4 +145,5 @@ const CATEGORIES_HELP: &str = "Categories of the auction, 0 to 1000000";
 
 const ORDER_HELP: &str = "Refuse a request before an earlier item, bid or comment of its script";
 
-const STRICT_HELP: &str = "Refuse any request before an earlier one of its script";
+const STRICT_HELP: &str =
+    "Refuse any request before an earlier one of its script; real time is not judged";

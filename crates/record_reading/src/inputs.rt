@@ -32,11 +32,27 @@ impl CompactInput {
         ensures count { IfOk result (λ input. vec_len input.scripts ≡ workers) }
         ensures fails { IfErr result (λ fault. IsInputFault fault → ⊥) }
     {
+        CompactInput::with_room(alloc, workers, 0)
+    }
+
+    /// No rows, and for each worker an empty script with room for so many requests.
+    pub fn with_room(
+        alloc: Global,
+        workers: u32,
+        requests: usize,
+    ) -> Result<CompactInput, ReadFault>
+        ensures empty { IfOk result (λ input. asked_of input ≡ nothing_asked workers) }
+        ensures count { IfOk result (λ input. vec_len input.scripts ≡ workers) }
+        ensures fails { IfErr result (λ fault. IsInputFault fault → ⊥) }
+    {
         let Ok(mut scripts) = Vec::with_capacity(alloc, workers as usize) else {
             return Err(ReadFault::Memory);
         };
         for _ in 0..workers {
-            if scripts.push(Script::new(alloc)).is_err() {
+            let Ok(script) = Script::with_room(alloc, requests) else {
+                return Err(ReadFault::Memory);
+            };
+            if scripts.push(script).is_err() {
                 return Err(ReadFault::Memory);
             }
         }

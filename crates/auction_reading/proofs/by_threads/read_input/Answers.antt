@@ -1,5 +1,5 @@
-use Rattle.std.proofs.Common.{arith, ◌≡◌, ◌∙◌, [], ap, length}
-use Rattle.std.proofs.lemmas.Result.{IfErr-weaker, on_ok_weaker}
+use Rattle.std.proofs.Common.{arith, ◌≡◌, ◌∙◌, [], ap, length, Err}
+use Rattle.std.proofs.lemmas.Result.{IfErr-weaker, err_from_is_err_and, on_ok_weaker}
 use Rattle.auction_reading.proofs.ProgressLemmas.{read_on_alone, read_to_end}
 use Rattle.record_reading.proofs.BufferLemmas.{known_all}
 use Rattle.auction_reading.proofs.JoinLemmas.{lent_back}
@@ -30,3 +30,9 @@ returns-clause-fault g c =
     let many : length c.read_lines.new.buffer ≡ length buffer.items = omega (arith, c.read_lines.auto.buffer, ap length c.deref_mut-2.ensures.value) in
     let back : c.deref.result.now ≡ c.read_lines.new.buffer = c.deref.ensures.value ∙ lent_back buffer.len buffer.items c.read_lines.new.buffer buffer.ok.0 many in
     (rw (rest.1, back) at (read input)) bytes (read_on_alone c.args.workers bytes c.args.progress.now c.read_lines.new.progress bytes _ rest.2 up_to))) c.hand_over.ensures.fault
+
+pub returns-in_err-held-clause-fault : goal.returns-in_err-held-clause-fault
+returns-in_err-held-clause-fault g c =
+    let failed = err_from_is_err_and c.from_residual-in_err-held.result c.from_residual-in_err-held.ensures.1 in
+    let fault : c.from_residual-in_err-held.result ≡ Err c.in_err-held.field-0.0 = failed.1 ∙ ap Err failed.2 in
+    rw fault (λ input. absurd (c.in_err-held.ensures.fails input))

@@ -3,7 +3,7 @@ use Rattle.std.proofs.lemmas.List.{replicate_more}
 use Rattle.std.specs.Result.{is_ok}
 use Rattle.auction_rows.specs.declared.requests.{Request.Request, Opened.Opened}
 use Rattle.record_reading.specs.Asking.{Asked}
-use Rattle.record_reading.proofs.inputs.CompactInput.new.Goals as goal
+use Rattle.record_reading.proofs.inputs.CompactInput.with_room.Goals as goal
 
 -- one more empty list
 empty_more : {X : Type 0} (made pushed : List (List X)) (new : List X) (n : ℕ) → pushed ≡ made ++ new ∷ [] → made ≡ replicate n [] → new ≡ [] → pushed ≡ replicate (n + 1) []
@@ -16,7 +16,7 @@ pub loop-preserved : goal.loop-preserved
 loop-preserved c =
     let good : is_ok c.push.result ≡ true = c.is_err.ensures.negation ∙ ap not c.if-is_err.false in
     record {
-      empty = empty_more c.loop.scripts.items c.push.new.self.items c.new.result c.loop.counter (rw good at c.push.ensures.items) c.loop.invariant.empty c.new.ensures;
+      empty = empty_more c.loop.scripts.items c.push.new.self.items c.in-Ok-with_room.script c.loop.counter (rw good at c.push.ensures.items) c.loop.invariant.empty c.in-Ok-with_room.ensures;
       count = (rw good at c.push.ensures.len) ∙ ap (λ n. n + 1) c.loop.invariant.count;
     }
 

@@ -1,5 +1,5 @@
 use Rattle.std.proofs.Common.{◌≡◌, [], replicate, vec_len}
-use Rattle.record_reading.proofs.inputs.CompactInput.new.Given as goal
+use Rattle.record_reading.proofs.inputs.CompactInput.with_room.Given as goal
 
 abbrev pub invariant-loop : goal.invariant-loop
 invariant-loop l = record {
