@@ -1,5 +1,5 @@
--- One more of a table's first object.
-use Rattle.std.proofs.Common.{◌≡◌, ℕ, ◌+◌, Bool, true, List, [], ◌∷◌, Some, None, sym, ap, subst, ◌∙◌}
+-- More of a table's first object.
+use Rattle.std.proofs.Common.{◌≡◌, ℕ, suc, ◌+◌, Bool, true, List, [], ◌∷◌, Some, None, sym, ap, subst, ◌∙◌}
 use Rattle.std.specs.Prelude.{unwrap_or, slice_get}
 use Rattle.std.specs.Cmp.{IsEquivalence}
 use Rattle.std.specs.List.{IsDistinct}
@@ -35,17 +35,17 @@ pub nothing_first : {A : Type 0} (es : List (Object × ℕ)) (object : Object) �
 nothing_first [] object key none = absurd (cc)
 nothing_first (e ∷ es) object key none = absurd (cc)
 
-module _ {S : Type 0} (old new : IndexMap Object ℕ S) (object : Object) (v w : ℕ) (unique : IsUnique object_eq.it old) (key : slice_get (keys old) 0 ≡ Some object)
-    (value : Some v ≡ slice_get (values old) 0) (next : w ≡ v + 1) (is : new ≡ with_value_at old 0 w) where
+module _ {S : Type 0} (old new : IndexMap Object ℕ S) (object : Object) (v w more : ℕ) (unique : IsUnique object_eq.it old) (key : slice_get (keys old) 0 ≡ Some object)
+    (value : Some v ≡ slice_get (values old) 0) (next : w ≡ v + suc more) (is : new ≡ with_value_at old 0 w) where
   at : slice_get old.entries 0 ≡ Some (object, v)
   at = pair_at old.entries object v key value
 
-  worth : w ≡ unwrap_or (get object_eq.it old object) 0 + 1
-  worth = next ∙ ap (λ o. unwrap_or o 0 + 1) (sym (hash_map_get_place object_laws old 0 object v unique at))
+  worth : w ≡ unwrap_or (get object_eq.it old object) 0 + suc more
+  worth = next ∙ ap (λ o. unwrap_or o 0 + suc more) (sym (hash_map_get_place object_laws old 0 object v unique at))
 
-  pub first_counted : Updates object_eq.it old new object (Some (unwrap_or (get object_eq.it old object) 0 + 1))
+  pub first_counted : Updates object_eq.it old new object (Some (unwrap_or (get object_eq.it old object) 0 + suc more))
   first_counted =
-      subst (λ (m : IndexMap Object ℕ S). Updates object_eq.it old m object (Some (unwrap_or (get object_eq.it old object) 0 + 1))) (sym is)
+      subst (λ (m : IndexMap Object ℕ S). Updates object_eq.it old m object (Some (unwrap_or (get object_eq.it old object) 0 + suc more))) (sym is)
       (subst (λ n. Updates object_eq.it old (with_value_at old 0 w) object (Some n)) worth (updates-with_value_at old 0 w object_laws unique object v at))
 
   pub first_once : IsUnique object_eq.it new

@@ -1,15 +1,15 @@
 -- Heats of objects in a list, and in a table of those whose buckets have enough.
-use Rattle.std.proofs.Common.{◌≡◌, ℕ, zero, suc, ◌+◌, ◌<◌, ◌≤◌, ◌==◌, Bool, true, false, cond, if◌then◌else◌, List, [], ◌∷◌, ◌++◌, Some, None, count_by, get_or, inl, inr, length, refl, set, sym, take, ap, subst, ◌∙◌, arith, eq-eqb}
+use Rattle.std.proofs.Common.{◌≡◌, ℕ, zero, suc, ◌+◌, ◌<◌, ◌≤◌, ◌==◌, Bool, true, false, cond, if◌then◌else◌, List, [], ◌∷◌, ◌++◌, Option, Some, None, count_by, get_or, inl, inr, length, refl, replicate, set, sym, take, ap, subst, ◌∙◌, append_assoc, arith, eq-eqb}
 use Rattle.std.specs.Prelude.{nat_le, unwrap_or, option_to_list, slice_index}
 use Rattle.std.specs.List.{IsDistinct, sum_by}
 use Rattle.std.specs.Map.{keys_of, lookup}
 use Rattle.std.proofs.lemmas.Bool.{cases_eq, false≢true, leb-false, lt-leb, ne_eqb}
 use Rattle.std.proofs.lemmas.Grind.{flat_map-append}
-use Rattle.std.proofs.lemmas.List.{append-nil, get_or-set_other, get_or-set_same}
+use Rattle.std.proofs.lemmas.List.{append-nil, get_or-set_other, get_or-set_same, replicate_more, take_more}
 use Rattle.std.proofs.lemmas.List.Concat.{flat_map-cons}
 use Rattle.std.proofs.lemmas.List.Elements.{filter_map-append}
 use Rattle.std.proofs.lemmas.List.Sorted.{sum_by-IsPermutation}
-use Rattle.std.proofs.lemmas.List.Sums.{count_by_more_no, count_by_more_yes, sum_by-cons, sum_by_push}
+use Rattle.std.proofs.lemmas.List.Sums.{sum_by-cons}
 use Rattle.std.proofs.lemmas.Nat.{mod_below}
 use Rattle.auction_rows.specs.contracts.requests.ObjectPartialEq.TheImpl.{eq-value as object_eq}
 use Rattle.auction_rows.specs.declared.{requests.Object.Object, rows.Entry.Entry}
@@ -21,7 +21,8 @@ use Rattle.run_laws.proofs.CountLemmas.{how_many, how_many-is, count-append}
 use Rattle.worker_journals.specs.Journals.{JournalView}
 use Rattle.worker_journals.specs.Merged.{merged}
 use Rattle.worker_journals.proofs.MergedLemmas.{all_entries, merged_permutes}
-use Rattle.hot_choice.specs.inner.Ranking.{AreWritten, HasHeats, bucket_of, heat_shown, how_often, if_enough}
+use Rattle.hot_choice.specs.declared.choice.Run.{Run}
+use Rattle.hot_choice.specs.inner.Ranking.{AreWritten, HasHeats, bucket_of, heat_shown, how_often, if_enough, in_bucket, objects_of, open_objects, run_objects}
 
 -- ---- the objects that entries write
 
@@ -55,6 +56,77 @@ written_in_any_order journals object =
     ∙ sym (sum_by-IsPermutation (adds object) (all_entries journals) (merged journals) (merged_permutes journals))
     ∙ sym (heat-summed (merged journals) object)
 
+-- ---- runs
+
+-- a run with one object more
+pub run_grown : (run : Run) (more : ℕ) (object : Object) → more ≡ run.more + 1 → run.object ≡ object → run.object ∷ replicate more run.object ≡ run_objects run ++ object ∷ []
+run_grown run more object next same =
+    ap (λ n. run.object ∷ replicate n run.object) next
+    ∙ ap (λ os. run.object ∷ os) (sym (replicate_more run.more run.object) ∙ ap (λ o. replicate run.more run.object ++ o ∷ []) same)
+
+pub runs_more : (runs : List Run) (run : Run) → objects_of (runs ++ run ∷ []) ≡ objects_of runs ++ run_objects run
+runs_more runs run =
+    flat_map-append run_objects runs (run ∷ [])
+    ∙ ap (λ os. objects_of runs ++ os) (flat_map-cons run_objects run [] ∙ append-nil (run_objects run))
+
+-- what the runs before, one that may go on and an entry have
+abbrev written_so_far : List Run → Option Run → Option Object → List Object
+written_so_far runs run written = (objects_of runs ++ open_objects run) ++ option_to_list written
+
+-- nothing is written
+pub run_waits : (runs : List Run) (run : Option Run) (written : Option Object) → written ≡ None → objects_of runs ++ open_objects run ≡ written_so_far runs run written
+run_waits runs run written none = sym (append-nil (objects_of runs ++ open_objects run)) ∙ ap (written_so_far runs run) (sym none)
+
+-- an object is written where no run goes on
+pub run_begins : (runs : List Run) (run : Option Run) (written : Option Object) (object : Object) → run ≡ None → written ≡ Some object →
+    objects_of runs ++ run_objects (record { object = object; more = 0 }) ≡ written_so_far runs run written
+run_begins runs run written object none is = ap (λ os. os ++ object ∷ []) (sym (append-nil (objects_of runs))) ∙ (λ i. written_so_far runs (sym none i) (sym is i))
+
+-- a run goes on with the object that is written
+pub run_goes_on : (runs : List Run) (run : Option Run) (written : Option Object) (last grown : Run) (object : Object) → run ≡ Some last → written ≡ Some object →
+    run_objects grown ≡ run_objects last ++ object ∷ [] → objects_of runs ++ run_objects grown ≡ written_so_far runs run written
+run_goes_on runs run written last grown object here is grows =
+    ap (λ os. objects_of runs ++ os) grows
+    ∙ sym (append_assoc (objects_of runs) (run_objects last) (object ∷ []))
+    ∙ (λ i. written_so_far runs (sym here i) (sym is i))
+
+-- a run ends where another object is written
+pub run_ends : (runs after : List Run) (run : Option Run) (written : Option Object) (last : Run) (object : Object) → run ≡ Some last → written ≡ Some object →
+    after ≡ runs ++ last ∷ [] → objects_of after ++ run_objects (record { object = object; more = 0 }) ≡ written_so_far runs run written
+run_ends runs after run written last object here is has =
+    ap (λ os. os ++ object ∷ []) (ap objects_of has ∙ runs_more runs last) ∙ (λ i. written_so_far runs (sym here i) (sym is i))
+
+-- the last run is put behind the others
+pub run_put : (runs after : List Run) (run : Option Run) (last : Run) → run ≡ Some last → after ≡ runs ++ last ∷ [] → objects_of after ≡ objects_of runs ++ open_objects run
+run_put runs after run last here has = ap objects_of has ∙ runs_more runs last ∙ ap (λ r. objects_of runs ++ open_objects r) (sym here)
+
+pub none_put : (runs : List Run) (run : Option Run) → run ≡ None → objects_of runs ≡ objects_of runs ++ open_objects run
+none_put runs run none = sym (append-nil (objects_of runs)) ∙ ap (λ r. objects_of runs ++ open_objects r) (sym none)
+
+pub runs_taken : (runs : List Run) (n : ℕ) (d : Run) → n < length runs → objects_of (take (n + 1) runs) ≡ objects_of (take n runs) ++ run_objects (get_or runs n d)
+runs_taken runs n d less = ap objects_of (take_more runs n d less) ∙ runs_more (take n runs) (get_or runs n d)
+
+one_copy : (b : Bool) (n m : ℕ) → m ≡ cond b n 0 → cond b 1 0 + m ≡ cond b (suc n) 0
+one_copy true n m is = omega (arith, is)
+one_copy false n m is = omega (arith, is)
+
+none_of : (b : Bool) → zero ≡ cond b zero zero
+none_of true = refl
+none_of false = refl
+
+-- of copies of one object all pass a test, or none
+copies : (p : Object → Bool) (object : Object) (n : ℕ) → how_many p (replicate n object) ≡ cond (p object) n 0
+copies p object zero = none_of (p object)
+copies p object (suc n) = one_copy (p object) n (how_many p (replicate n object)) (copies p object n)
+
+in_run : (p : Object → Bool) (run : Run) → how_many p (run_objects run) ≡ cond (p run.object) (suc run.more) 0
+in_run p run = one_copy (p run.object) run.more (how_many p (replicate run.more run.object)) (copies p run.object run.more)
+
+counted_with : (p : Object → Bool) (objects : List Object) (run : Run) → count_by p (objects ++ run_objects run) ≡ count_by p objects + cond (p run.object) (suc run.more) 0
+counted_with p objects run =
+    sym (how_many-is p (objects ++ run_objects run)) ∙ count-append p objects (run_objects run)
+    ∙ (λ i. how_many-is p objects i + in_run p run i)
+
 -- ---- heats in a table of the objects that pass a test
 
 -- a table has each object that passes and that is in a list, once, with its heat, and no other
@@ -62,8 +134,8 @@ pub record HasHeatsOf (passes : Object → Bool) (objects : List Object) (table 
   pub once : IsDistinct same_object (keys_of table)
   pub heats : (object : Object) → lookup (same_object object) table ≡ (if passes object then heat_shown (how_often objects object) else None)
 
-often_more : (objects : List Object) (one object : Object) → how_often (objects ++ one ∷ []) object ≡ how_often objects object + cond (same_object one object) 1 0
-often_more objects one object = sum_by_push (λ (other : Object). cond (same_object other object) 1 0) objects one
+often_more : (objects : List Object) (run : Run) (object : Object) → how_often (objects ++ run_objects run) object ≡ how_often objects object + cond (same_object run.object object) (suc run.more) 0
+often_more objects run object = counted_with (λ other. same_object other object) objects run
 
 heat_read : (n : ℕ) → unwrap_or (heat_shown n) 0 ≡ n
 heat_read zero = refl
@@ -78,75 +150,85 @@ module _ (passes : Object → Bool) where
       none true = refl
       none false = refl
 
-  pub one_passed_over : (objects : List Object) (one : Object) (table : List (Object × ℕ)) → passes one ≡ false → HasHeatsOf passes objects table → HasHeatsOf passes (objects ++ one ∷ []) table
-  one_passed_over objects one table fails has = record { once = has.once; heats = λ object. has.heats object ∙ by object (passes object) refl }
+  pub run_passed_over : (objects : List Object) (run : Run) (table : List (Object × ℕ)) → passes run.object ≡ false → HasHeatsOf passes objects table → HasHeatsOf passes (objects ++ run_objects run) table
+  run_passed_over objects run table fails has = record { once = has.once; heats = λ object. has.heats object ∙ by object (passes object) refl }
     where
-      other : (object : Object) → passes object ≡ true → (b : Bool) → same_object one object ≡ b → how_often objects object ≡ how_often objects object + cond b 1 0
+      other : (object : Object) → passes object ≡ true → (b : Bool) → same_object run.object object ≡ b → how_often objects object ≡ how_often objects object + cond b (suc run.more) 0
       other object pass false apart = omega arith
-      other object pass true same = absurd (false≢true (sym fails ∙ ap passes (same_object-true one object same) ∙ pass))
+      other object pass true same = absurd (false≢true (sym fails ∙ ap passes (same_object-true run.object object same) ∙ pass))
 
-      by : (object : Object) (b : Bool) → passes object ≡ b → (if b then heat_shown (how_often objects object) else None) ≡ (if b then heat_shown (how_often (objects ++ one ∷ []) object) else None)
-      by object true pass = ap heat_shown (other object pass (same_object one object) refl ∙ sym (often_more objects one object))
+      by : (object : Object) (b : Bool) → passes object ≡ b → (if b then heat_shown (how_often objects object) else None) ≡ (if b then heat_shown (how_often (objects ++ run_objects run) object) else None)
+      by object true pass = ap heat_shown (other object pass (same_object run.object object) refl ∙ sym (often_more objects run object))
       by object false pass = refl
 
-  module _ (objects : List Object) (one : Object) (old new : List (Object × ℕ)) (pass : passes one ≡ true) (has : HasHeatsOf passes objects old) where
+  module _ (objects : List Object) (run : Run) (old new : List (Object × ℕ)) (pass : passes run.object ≡ true) (has : HasHeatsOf passes objects old) where
     so_far : (object : Object) → lookup (object_eq.it object) old ≡ (if passes object then heat_shown (how_often objects object) else None)
     so_far object =
         subst (λ (test : Object → Bool). lookup test old ≡ (if passes object then heat_shown (how_often objects object) else None)) (λ i other. sym (eq_is_same object other) i) (has.heats object)
 
-    counted : (object : Object) (b : Bool) → same_object one object ≡ b →
-        cond b (Some (unwrap_or (lookup (object_eq.it one) old) 0 + 1)) (lookup (object_eq.it object) old)
-        ≡ (if passes object then heat_shown (how_often objects object + cond b 1 0) else None)
+    counted : (object : Object) (b : Bool) → same_object run.object object ≡ b →
+        cond b (Some (unwrap_or (lookup (object_eq.it run.object) old) 0 + suc run.more)) (lookup (object_eq.it object) old)
+        ≡ (if passes object then heat_shown (how_often objects object + cond b (suc run.more) 0) else None)
     counted object false apart =
         let so : how_often objects object ≡ how_often objects object + 0 = omega arith in
         so_far object ∙ ap (λ n. if passes object then heat_shown n else None) so
     counted object true same =
-        let is : one ≡ object = same_object-true one object same in
-        let had : unwrap_or (lookup (object_eq.it one) old) 0 ≡ how_often objects one =
-        ap (λ o. unwrap_or o 0) (so_far one ∙ ap (λ b. if b then heat_shown (how_often objects one) else None) pass) ∙ heat_read (how_often objects one) in
-        let alike : how_often objects one ≡ how_often objects object = ap (how_often objects) is in
-        let next : unwrap_or (lookup (object_eq.it one) old) 0 + 1 ≡ suc (how_often objects object) = omega arith in
-        let so : suc (how_often objects object) ≡ how_often objects object + 1 = omega arith in
+        let is : run.object ≡ object = same_object-true run.object object same in
+        let had : unwrap_or (lookup (object_eq.it run.object) old) 0 ≡ how_often objects run.object =
+        ap (λ o. unwrap_or o 0) (so_far run.object ∙ ap (λ b. if b then heat_shown (how_often objects run.object) else None) pass) ∙ heat_read (how_often objects run.object) in
+        let alike : how_often objects run.object ≡ how_often objects object = ap (how_often objects) is in
+        let next : unwrap_or (lookup (object_eq.it run.object) old) 0 + suc run.more ≡ suc (how_often objects object + run.more) = omega arith in
+        let so : suc (how_often objects object + run.more) ≡ how_often objects object + suc run.more = omega arith in
         ap Some next
-        ∙ ap (λ b. if b then Some (suc (how_often objects object)) else None) (sym (ap passes (sym is) ∙ pass))
+        ∙ ap (λ b. if b then Some (suc (how_often objects object + run.more)) else None) (sym (ap passes (sym is) ∙ pass))
         ∙ ap (λ n. if passes object then heat_shown n else None) so
 
-    pub one_counted : IsDistinct object_eq.it (keys_of new) →
+    pub run_counted : IsDistinct object_eq.it (keys_of new) →
         ((object : Object) → lookup (object_eq.it object) new
-        ≡ cond (object_eq.it one object) (Some (unwrap_or (lookup (object_eq.it one) old) 0 + 1)) (lookup (object_eq.it object) old)) →
-        HasHeatsOf passes (objects ++ one ∷ []) new
-    one_counted once put = record {
+        ≡ cond (object_eq.it run.object object) (Some (unwrap_or (lookup (object_eq.it run.object) old) 0 + suc run.more)) (lookup (object_eq.it object) old)) →
+        HasHeatsOf passes (objects ++ run_objects run) new
+    run_counted once put = record {
       once = distinct_objects (keys_of new) once;
       heats = λ object.
-          subst (λ (test : Object → Bool). lookup test new ≡ (if passes object then heat_shown (how_often (objects ++ one ∷ []) object) else None)) (λ i other. eq_is_same object other i)
+          subst (λ (test : Object → Bool). lookup test new ≡ (if passes object then heat_shown (how_often (objects ++ run_objects run) object) else None)) (λ i other. eq_is_same object other i)
           (put object
-          ∙ ap (λ b. cond b (Some (unwrap_or (lookup (object_eq.it one) old) 0 + 1)) (lookup (object_eq.it object) old)) (eq_is_same one object)
-          ∙ counted object (same_object one object) refl
-          ∙ ap (λ n. if passes object then heat_shown n else None) (sym (often_more objects one object)));
+          ∙ ap (λ b. cond b (Some (unwrap_or (lookup (object_eq.it run.object) old) 0 + suc run.more)) (lookup (object_eq.it object) old)) (eq_is_same run.object object)
+          ∙ counted object (same_object run.object object) refl
+          ∙ ap (λ n. if passes object then heat_shown n else None) (sym (often_more objects run object)));
     }
 
 -- ---- no object is hotter than its bucket
 
--- how many objects of a list are in a bucket
-abbrev pub in_bucket : List Object → ℕ → ℕ
-in_bucket objects bucket = count_by (λ object. bucket_of object == bucket) objects
-
--- one object more is counted in its bucket
-pub one_more_in_bucket : (objects : List Object) (n : ℕ) (d : Object) (counts : List ℕ) (place : ℕ) →
-    n < length objects → place ≡ bucket_of (get_or objects n d) → place < length counts →
-    ((bucket : ℕ) → bucket < 256 → get_or counts bucket 0 ≡ in_bucket (take n objects) bucket) →
-    (bucket : ℕ) → bucket < 256 → get_or (set counts place (get_or counts place 0 + 1)) bucket 0 ≡ in_bucket (take (n + 1) objects) bucket
-one_more_in_bucket objects n d counts place less own within so_far bucket below =
-    let count : ℕ = get_or counts place 0 + 1 in
+-- a run more is counted in its bucket
+pub run_in_bucket : (runs : List Run) (n : ℕ) (d : Run) (counts : List ℕ) (place sum : ℕ) →
+    n < length runs → place ≡ bucket_of (get_or runs n d).object → place < length counts → sum ≡ get_or counts place 0 + suc (get_or runs n d).more →
+    ((bucket : ℕ) → bucket < 256 → get_or counts bucket 0 ≡ in_bucket (objects_of (take n runs)) bucket) →
+    (bucket : ℕ) → bucket < 256 → get_or (set counts place sum) bucket 0 ≡ in_bucket (objects_of (take (n + 1) runs)) bucket
+run_in_bucket runs n d counts place sum less own within is so_far bucket below =
     elim (cases_eq bucket place) [
       | inl same ↦
-          ap (λ (at : ℕ). get_or (set counts place count) at 0) same ∙ get_or-set_same counts place count 0 within
-          ∙ ap (λ (at : ℕ). get_or counts at 0 + 1) (sym same) ∙ ap (λ (m : ℕ). m + 1) (so_far bucket below)
-          ∙ sym (count_by_more_yes (λ one. bucket_of one == bucket) objects n d less (eq-eqb (bucket_of (get_or objects n d)) bucket (sym own ∙ sym same)))
+          ap (λ (at : ℕ). get_or (set counts place sum) at 0) same ∙ get_or-set_same counts place sum 0 within ∙ is
+          ∙ ap (λ (at : ℕ). get_or counts at 0 + suc run.more) (sym same)
+          ∙ ap (λ (m : ℕ). m + suc run.more) (so_far bucket below)
+          ∙ ap (λ b. in_bucket before bucket + cond b (suc run.more) 0) (sym (eq-eqb (bucket_of run.object) bucket (sym own ∙ sym same)))
+          ∙ with_run
       | inr other ↦
-          get_or-set_other counts place bucket count 0 other ∙ so_far bucket below
-          ∙ sym (count_by_more_no (λ one. bucket_of one == bucket) objects n d less (ne_eqb (bucket_of (get_or objects n d)) bucket (λ at. other (sym at ∙ sym own))))
+          get_or-set_other counts place bucket sum 0 other ∙ so_far bucket below ∙ nothing_added
+          ∙ ap (λ b. in_bucket before bucket + cond b (suc run.more) 0) (sym (ne_eqb (bucket_of run.object) bucket (λ at. other (sym at ∙ sym own))))
+          ∙ with_run
     ]
+  where
+    run : Run
+    run = get_or runs n d
+
+    before : List Object
+    before = objects_of (take n runs)
+
+    nothing_added : in_bucket before bucket ≡ in_bucket before bucket + 0
+    nothing_added = omega arith
+
+    with_run : in_bucket before bucket + cond (bucket_of run.object == bucket) (suc run.more) 0 ≡ in_bucket (objects_of (take (n + 1) runs)) bucket
+    with_run = sym (ap (λ os. in_bucket os bucket) (runs_taken runs n d less) ∙ counted_with (λ object. bucket_of object == bucket) before run)
 
 bucket_bounds : (objects : List Object) (object : Object) → how_often objects object ≤ in_bucket objects (bucket_of object)
 bucket_bounds objects object =

@@ -52,7 +52,7 @@ contents shard = in_shard shard.parts.value.number shard.parts.value.shards (kep
 
 -- the number of the last commit that took the shard
 abbrev pub clock : Shard → ℕ
-clock shard = shard.parts.value.clock
+clock shard = shard.clock
 
 -- the users and categories of the auction
 abbrev pub opening : Shard → Opening

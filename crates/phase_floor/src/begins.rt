@@ -10,7 +10,6 @@ use indexmap::IndexSet;
 use phase_permits::{JoinedPermit, SplitPermit, Stash};
 use shard_boxes::PhaseName;
 use std::alloc::{AllocError, Global};
-use std::sync::Wait;
 
 impl Joined {
     ghost use Rattle.std.specs.List.{AllByRecursion};
@@ -22,9 +21,8 @@ impl Joined {
     /// quota. The phase is of this state's shards and workers, and its number is below 2^64 - 1. If
     /// it does not begin, the state and the stashes come back unchanged: `TooLong` if some worker's
     /// commits, stash and quota are more than the state's limit together, `Memory` if none is left.
-    pub fn begin_joined<N: PhaseName, R: Wait>(
+    pub fn begin_joined<N: PhaseName>(
         self,
-        rt: &R,
         alloc: Global,
         quotas: &[u32],
         stashes: Vec<Stash>,
@@ -39,7 +37,7 @@ impl Joined {
         if is_too_long(self.limit, &self.counters, &stashes, quotas) {
             return Err((self, stashes, BeginFault::TooLong));
         }
-        match self.begin(rt, alloc, Vec::new(alloc), quotas, stashes) {
+        match self.begin(alloc, Vec::new(alloc), quotas, stashes) {
             Ok(begun) => Ok(begun),
             Err((state, stashes)) => Err((state, stashes, BeginFault::Memory)),
         }
@@ -50,12 +48,28 @@ impl Joined {
     /// 1. If it does not begin, the state comes back unchanged: `UnknownHot` if a hot object does
     /// not exist, then `TooLong` if some worker's commits and quota are more than the state's limit
     /// together, then `Memory` if none is left.
-    pub fn begin_split<N: PhaseName, R: Wait>(
+    pub fn begin_split<N: PhaseName>(
         self,
-        rt: &R,
         alloc: Global,
         quotas: &[u32],
         hot: &IndexSet<Object>,
+    ) -> Result<(SplitFloor<N>, Vec<SplitPermit<N>>), (Joined, BeginFault)>
+        requires can { CanBegin N.initial N.workers self quotas.now }
+        ensures begun { IfOk result (λ begun.
+            OpensSplit self quotas.now hot.now.keys begun.0 begun.1.items) }
+        ensures refused { IfErr result (λ refused.
+            HasRefusedSplit self quotas.now hot.now.keys refused.0 refused.1) }
+    {
+        self.begin_split_in(alloc, quotas, hot, Vec::new(alloc))
+    }
+
+    /// As `begin_split`, in the memory of stashes that are needed no more.
+    pub fn begin_split_in<N: PhaseName>(
+        self,
+        alloc: Global,
+        quotas: &[u32],
+        hot: &IndexSet<Object>,
+        spent: Vec<Stash>,
     ) -> Result<(SplitFloor<N>, Vec<SplitPermit<N>>), (Joined, BeginFault)>
         requires can { CanBegin N.initial N.workers self quotas.now }
         ensures begun { IfOk result (λ begun.
@@ -73,10 +87,10 @@ impl Joined {
         let Ok(stocks) = self.stocks_of(alloc, objects) else {
             return Err((self, BeginFault::Memory));
         };
-        let Ok(stashes) = new_stashes(alloc, quotas) else {
+        let Ok(stashes) = new_stashes(alloc, quotas, spent) else {
             return Err((self, BeginFault::Memory));
         };
-        match self.begin(rt, alloc, stocks, quotas, stashes) {
+        match self.begin(alloc, stocks, quotas, stashes) {
             Ok(begun) => Ok(begun),
             Err((state, _)) => Err((state, BeginFault::Memory)),
         }

@@ -12,12 +12,12 @@ ghost use Rattle.phase_floor.specs.States.{states_of};
 
 use crate::floor::{Floor, FloorFault};
 use crate::joined::Joined;
+use crate::memory::Memory;
 use auction_shards::Shards;
 use item_shards::Shard;
 use phase_permits::{Counters, Kind, Receipt, Slices, Stash};
 use shard_boxes::{Key, PhaseName};
 use std::alloc::{AllocError, Global};
-use std::sync::Wait;
 use worker_journals::{History, Journal};
 
 /// The journals, stashes, keys, counters and slices of a phase's workers, each in the order of the
@@ -92,8 +92,8 @@ fn keep_slices<K: Kind>(kept: &mut Vec<Slices>, own: Slices)
     }
 }
 
-// Merges the slices of a worker, from the last on.
-fn merge_own(shards: &mut Shards, mut slices: Slices)
+// Merges the slices of a worker, from the last on, and gives back their memory.
+fn merge_own(shards: &mut Shards, mut slices: Slices) -> Slices
     requires known { AreKnown (map state_of shards.old) (from_the_last slices) }
     requires can { SawInTurn CanMerge after_merge (map state_of shards.old)
         (from_the_last slices) }
@@ -103,10 +103,11 @@ fn merge_own(shards: &mut Shards, mut slices: Slices)
     while let Some((object, slice)) = slices.pop() {
         shards.merge(object, slice);
     }
+    slices
 }
 
-// Merges the slices of all workers, one worker's after the other.
-fn merge_all(shards: &mut Shards, slices: Vec<Slices>)
+// Merges the slices of all workers, one worker's after the other, and keeps their memory.
+fn merge_all(shards: &mut Shards, slices: Vec<Slices>, memory: &mut Memory)
     requires known { AreKnown (map state_of shards.old) (flat_map from_the_last slices.items) }
     requires can { SawInTurn CanMerge after_merge (map state_of shards.old)
         (flat_map from_the_last slices.items) }
@@ -114,13 +115,13 @@ fn merge_all(shards: &mut Shards, slices: Vec<Slices>)
         ≡ fold after_merge (map state_of shards.old) (flat_map from_the_last slices.items) }
 {
     for own in slices {
-        merge_own(shards, own);
+        memory.keep(merge_own(shards, own));
     }
 }
 
 // The shards that the boxes gave back, with the slices of all workers merged and their clocks at 0:
 // numbers are those of one phase.
-fn reconciled(given: Vec<Shard>, slices: Vec<Slices>) -> Shards
+fn reconciled(given: Vec<Shard>, slices: Vec<Slices>, memory: &mut Memory) -> Shards
     requires shards { AreOfOne (map state_of given.items) }
     requires known { AreKnown (map state_of given.items) (flat_map from_the_last slices.items) }
     requires can { SawInTurn CanMerge after_merge (map state_of given.items)
@@ -130,7 +131,7 @@ fn reconciled(given: Vec<Shard>, slices: Vec<Slices>) -> Shards
         (flat_map from_the_last slices.items)) }
 {
     let mut shards = Shards::from_vec(given);
-    merge_all(&mut shards, slices);
+    merge_all(&mut shards, slices, memory);
     shards.reset_clocks();
     shards
 }
@@ -140,9 +141,8 @@ impl<N: PhaseName, K: Kind> Floor<N, K> {
     /// all slices are merged, and of each stash what was not performed. The phase's journals go to
     /// the history: their entries, by number and then worker, are at its end. All memory is asked
     /// for first; if it is refused, the history is as it was, and the run is over.
-    pub fn close<R: Wait>(
+    pub fn close(
         self,
-        rt: &R,
         alloc: Global,
         history: &mut History,
         receipts: Vec<Receipt<N, K>>,
@@ -169,6 +169,7 @@ impl<N: PhaseName, K: Kind> Floor<N, K> {
             phase,
             counters,
             boxes,
+            mut memory,
             ..
         } = self;
         let Parts {
@@ -178,15 +179,17 @@ impl<N: PhaseName, K: Kind> Floor<N, K> {
             counters,
             slices,
         } = Parts::of(alloc, receipts, counters)?;
-        history.add_phase(journals)?;
-        let (given, spare) = boxes.close_kept(rt, keys);
-        let shards = reconciled(given, slices);
+        memory.spent.reserve(slices.len())?;
+        history.add_phase_kept(journals, &mut memory.lists)?;
+        let (given, spare) = boxes.close_kept(keys);
+        let shards = reconciled(given, slices, &mut memory);
         let state = Joined {
             opening,
             limit,
             phase: phase + 1,
             shards,
             spare,
+            memory,
             counters,
         };
         Ok((state, stashes))

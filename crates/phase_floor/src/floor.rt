@@ -2,6 +2,7 @@
 ghost use Rattle.std.specs.Prelude.{◌≡◌};
 ghost use Rattle.phase_transactions.specs.Performing.{HaveOpening};
 
+use crate::memory::Memory;
 use crate::start::Stocks;
 use auction_rows::Opening;
 use phase_permits::{Counters, JoinedPhase, Kind, SplitPhase};
@@ -52,6 +53,7 @@ pub struct Floor<N: PhaseName, K: Kind> {
     pub(crate) counters: Vec<Counters>,
     pub(crate) stocks: Stocks,
     pub(crate) boxes: Boxes<N>,
+    pub(crate) memory: Memory,
     pub(crate) kind: PhantomData<K>,
 }
 

@@ -4,6 +4,7 @@ ghost use Rattle.std.specs.List.{AllByRecursion};
 ghost use Rattle.closing_laws.specs.Standing.{counters_at, stores};
 ghost use Rattle.phase_floor.specs.NextRun.{stores_as_commits};
 
+use crate::memory::Memory;
 use auction_rows::{MOST_WORKERS, Object, Opening, Reply, Request};
 use auction_shards::Shards;
 use item_shards::Shard;
@@ -20,6 +21,7 @@ pub struct Joined {
     pub(crate) phase: u64,
     pub(crate) shards: Shards,
     pub(crate) spare: Spare,
+    pub(crate) memory: Memory,
     pub(crate) counters: Vec<Counters>,
 }
 
@@ -130,6 +132,7 @@ impl Joined {
             phase: _,
             shards,
             spare,
+            memory,
             mut counters,
         } = self;
         set_commits(&mut counters);
@@ -139,6 +142,7 @@ impl Joined {
             phase: 0,
             shards,
             spare,
+            memory,
             counters,
         }
     }

@@ -7,6 +7,7 @@ mod begins;
 mod close;
 mod floor;
 mod joined;
+mod memory;
 mod resumption;
 mod start;
 

@@ -8,6 +8,7 @@ ghost use Rattle.phase_floor.specs.States.{StandsFor, IsBookOf};
 ghost use Rattle.phase_floor.specs.Resuming.{counters_in, with_row, HaveRoom};
 
 use crate::joined::Joined;
+use crate::memory::Memory;
 use auction_rows::{MOST_OF_A_WORKER, MOST_SHARDS, MOST_WORKERS, Opening, Row};
 use auction_shards::Shards;
 use item_shards::OpeningBook;
@@ -41,6 +42,7 @@ impl Joined {
             phase: 0,
             shards,
             spare: Spare::none(alloc),
+            memory: Memory::new(alloc),
             counters,
         })
     }

@@ -1,6 +1,6 @@
 //! How a phase of either kind begins: how many requests it may perform, what its workers start it
 //! with, and the permits that are made of that.
-ghost use Rattle.std.specs.Prelude.{◌≡◌, ◌+◌, ◌<◌, length, IsTrue, ◌↔◌, ◌≤◌, ℕ, map, vec_len, IfOk, slice_index, vec_capacity, IfErr};
+ghost use Rattle.std.specs.Prelude.{◌≡◌, ◌+◌, ◌<◌, [], length, IsTrue, ◌↔◌, ◌≤◌, ℕ, map, vec_len, IfOk, slice_index, vec_capacity, IfErr};
 ghost use Rattle.std.specs.List.{AllByRecursion, IsDistinct};
 ghost use Rattle.auction_rows.specs.Requests.{same_object};
 ghost use Rattle.shard_boxes.specs.Keys.{AreNewKeys};
@@ -11,13 +11,13 @@ ghost use Rattle.phase_floor.specs.Floors.{stash_at, AreBegun};
 
 use crate::floor::Floor;
 use crate::joined::Joined;
+use crate::memory::Memory;
 use auction_rows::{Facts, MOST_WORKERS, Object};
 use auction_shards::Shards;
 use phase_permits::{Counters, Kind, Permit, Slices, Stash, WorkerStart};
 use shard_boxes::{Boxes, Key, MOST_COMMITS, PhaseName, Spare};
 use std::alloc::{AllocError, Global};
 use std::marker::PhantomData;
-use std::sync::Wait;
 use worker_journals::Journal;
 
 // Whether these are more than a limit together.
@@ -59,7 +59,7 @@ pub(crate) struct Kit {
 
 // A kit for each worker, with room for what waits and for the quota.
 pub(crate) fn new_kits(
-    alloc: Global,
+    memory: &mut Memory,
     phase: u64,
     stocks: &Stocks,
     stashes: &[Stash],
@@ -75,34 +75,49 @@ pub(crate) fn new_kits(
     ensures each { IfOk result (λ kits. AreKits phase stocks.now.items stashes.now quotas.now
         (length quotas.now) kits.items) }
 {
-    let mut kits = Vec::with_capacity(alloc, quotas.len())?;
+    let mut kits = Vec::with_capacity(memory.alloc, quotas.len())?;
     for w in 0..quotas.len() {
         let room = stashes[w].len() + quotas[w] as usize;
-        let journal = Journal::with_room(alloc, phase, w as u32, room)?;
-        let slices = Slices::new(alloc, stocks)?;
+        let journal = memory.journal(phase, w as u32, room)?;
+        let slices = memory.slices(stocks)?;
         kits.push_reserved(Kit { journal, slices });
     }
     Ok(kits)
 }
 
-// An empty stash for each worker, with room for its quota.
-pub(crate) fn new_stashes(alloc: Global, quotas: &[u32]) -> Result<Vec<Stash>, AllocError>
+// An empty stash for each worker, with room for its quota, in the memory of these.
+pub(crate) fn new_stashes(
+    alloc: Global,
+    quotas: &[u32],
+    mut spent: Vec<Stash>,
+) -> Result<Vec<Stash>, AllocError>
     requires few { length quotas.now ≤ MOST_WORKERS }
     ensures { IfOk result (λ stashes. stashes.items ≡ map empty_stash quotas.now) }
 {
     let mut stashes = Vec::with_capacity(alloc, quotas.len())?;
     for quota in quotas {
-        stashes.push(Stash::with_room(alloc, *quota as usize)?)?;
+        stashes.push(new_stash(alloc, *quota as usize, spent.pop())?)?;
     }
     Ok(stashes)
+}
+
+// An empty stash with room for so many requests, in the memory of another if there is one.
+fn new_stash(alloc: Global, room: usize, spent: Option<Stash>) -> Result<Stash, AllocError>
+    ensures empty { IfOk result (λ stash. stash.requests ≡ []) }
+    ensures fresh { IfOk result (λ stash. stash.done ≡ []) }
+    ensures room { IfOk result (λ stash. stash.room ≡ room) }
+{
+    match spent {
+        Some(spent) => spent.emptied(room),
+        None => Stash::with_room(alloc, room),
+    }
 }
 
 impl Joined {
     // Begins a phase of either kind. All memory is asked for before anything is moved; if it is
     // refused, the state and the stashes come back unchanged.
-    pub(crate) fn begin<N: PhaseName, K: Kind, R: Wait>(
+    pub(crate) fn begin<N: PhaseName, K: Kind>(
         self,
-        rt: &R,
         alloc: Global,
         stocks: Stocks,
         quotas: &[u32],
@@ -117,19 +132,17 @@ impl Joined {
         ensures stocks { IfOk result (λ begun. begun.0.stocks ≡ stocks.items) }
         ensures refused { IfErr result (λ refused. (refused.0 ≡ self) × (refused.1 ≡ stashes)) }
     {
-        let Ok(kits) = new_kits(alloc, self.phase, &stocks, &stashes, quotas) else {
-            return Err((self, stashes));
-        };
         let Ok(permits) = Vec::with_capacity(alloc, quotas.len()) else {
             return Err((self, stashes));
         };
-        match Boxes::open(
-            rt,
-            alloc,
-            self.shards.into_vec(),
-            quotas.len() as u32,
-            self.spare,
-        ) {
+        let mut memory = self.memory;
+        let Ok(kits) = new_kits(&mut memory, self.phase, &stocks, &stashes, quotas) else {
+            permits.destroy_empty();
+            let state = Joined { memory, ..self };
+            return Err((state, stashes));
+        };
+        let shards = self.shards.into_vec();
+        match Boxes::open(alloc, shards, quotas.len() as u32, self.spare) {
             Ok((boxes, keys)) => {
                 let floor = Floor {
                     opening: self.opening,
@@ -138,6 +151,7 @@ impl Joined {
                     counters: self.counters,
                     stocks,
                     boxes,
+                    memory,
                     kind: PhantomData,
                 };
                 let permits = floor.give(permits, keys, kits, stashes, quotas);
@@ -148,6 +162,7 @@ impl Joined {
                 let state = Joined {
                     shards: Shards::from_vec(shards),
                     spare: Spare::none(alloc),
+                    memory,
                     ..self
                 };
                 Err((state, stashes))

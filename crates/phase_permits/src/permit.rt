@@ -8,7 +8,7 @@ use phase_transactions::{PermitFault, Worker, WorkerStart};
 use shard_boxes::{Boxes, Key, MOST_COMMITS, PhaseName};
 use std::marker::{Model, PhantomData};
 use std::sync::Wait;
-use worker_journals::Journal;
+use worker_journals::{BidRequest, Journal};
 use worker_slices::{Counters, Slices, Stash};
 
 /// A worker's right to perform in a phase. It must be spent by `finish`.
@@ -70,6 +70,7 @@ impl<N: PhaseName, K: Kind> Model for Receipt<N, K> {
 impl<N: PhaseName, K: Kind> Permit<N, K> {
     ghost use Rattle.auction_rows.specs.Footprint.{is_hot};
     ghost use Rattle.phase_transactions.specs.Performing.{HasDealt, HasFailed, HasFailedFirst, HasPerformedFirstSome, HaveOpening, IsUntouched};
+    ghost use Rattle.request_scripts.specs.Scripts.{request_of};
     ghost use Rattle.worker_slices.specs.Slicing.{hot_objects};
     ghost use Rattle.phase_transactions.specs.Txns.{is_put_off};
 
@@ -115,6 +116,32 @@ impl<N: PhaseName, K: Kind> Permit<N, K> {
             return Ok(false);
         }
         self.worker.transact(rt, boxes, request, index)?;
+        Ok(true)
+    }
+
+    /// Performs a bid of the quota, as `commit` does.
+    #[inline(always)]
+    pub fn commit_bid<R: Wait>(
+        &mut self,
+        rt: &R,
+        boxes: &Boxes<N>,
+        bid: &BidRequest,
+        index: u32,
+    ) -> Result<bool, PermitFault>
+        requires of { self.old.key.boxes ≡ boxes.now }
+        requires opening { HaveOpening N.initial self.old.opening }
+        requires left { 0 < self.old.left }
+        requires tries { self.old.tries < MOST_TRIES }
+        ensures dealt { IfOk result
+            (HasDealt N.initial (with_try self.old) self.new (request_of bid.now) index) }
+        ensures committed { IfOk result (λ committed. committed ≡ true) }
+        ensures failed { IfErr result
+            (HasFailed N.initial (with_try self.old) self.new (request_of bid.now)) }
+        ensures untouched { IsUntouched (length N.initial) self.old self.new
+            (request_of bid.now) }
+    {
+        self.worker.count_try();
+        self.worker.transact_bid(rt, boxes, bid, index)?;
         Ok(true)
     }
 

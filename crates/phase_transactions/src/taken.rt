@@ -123,29 +123,23 @@ pub(crate) fn make_room<N: PhaseName>(taken: &mut Taken<N>, item: ItemId) -> Res
 }
 
 /// Puts the shards back as they were taken.
-pub(crate) fn put_back<N: PhaseName, R: Wait>(
-    rt: &R,
-    boxes: &Boxes<N>,
-    key: &mut Key<N>,
-    taken: Taken<N>,
-)
+pub(crate) fn put_back<N: PhaseName>(boxes: &Boxes<N>, key: &mut Key<N>, taken: Taken<N>)
     requires { AreHeldAll N.initial N.workers boxes.now key.old (held_in taken) }
     ensures { AreBack key.old key.new }
 {
     match taken {
         Taken::Nothing => {}
-        Taken::One(one) => boxes.put(rt, key, one, None),
+        Taken::One(one) => boxes.put(key, one, None),
         Taken::Two(item, other) => {
-            boxes.put(rt, key, item, None);
-            boxes.put(rt, key, other, None);
+            boxes.put(key, item, None);
+            boxes.put(key, other, None);
         }
     }
 }
 
 /// Does two acts on the one shard, or one on each of two, and puts them back with their lines.
 #[inline(always)]
-pub(crate) fn put_all<N: PhaseName, R: Wait>(
-    rt: &R,
+pub(crate) fn put_all<N: PhaseName>(
     boxes: &Boxes<N>,
     key: &mut Key<N>,
     taken: Taken<N>,
@@ -161,7 +155,7 @@ pub(crate) fn put_all<N: PhaseName, R: Wait>(
 {
     match taken {
         Taken::Nothing => {}
-        Taken::One(one) => put_with_line(rt, boxes, key, one, written),
+        Taken::One(one) => put_with_line(boxes, key, one, written),
         Taken::Two(item, other) => {
             let on_item = Written {
                 number: written.number,
@@ -169,22 +163,21 @@ pub(crate) fn put_all<N: PhaseName, R: Wait>(
                 first: written.first,
                 second: Act::Look(Look::Nothing),
             };
-            put_with_line(rt, boxes, key, item, on_item);
+            put_with_line(boxes, key, item, on_item);
             let on_other = Written {
                 number: written.number,
                 index: written.index,
                 first: written.second,
                 second: Act::Look(Look::Nothing),
             };
-            put_with_line(rt, boxes, key, other, on_other);
+            put_with_line(boxes, key, other, on_other);
         }
     }
 }
 
 /// Does two acts on a shard that is as it was taken, and puts it back with their line.
 #[inline(always)]
-pub(crate) fn put_with_line<N: PhaseName, R: Wait>(
-    rt: &R,
+pub(crate) fn put_with_line<N: PhaseName>(
     boxes: &Boxes<N>,
     key: &mut Key<N>,
     mut held: Held<N>,
@@ -198,5 +191,5 @@ pub(crate) fn put_with_line<N: PhaseName, R: Wait>(
 {
     let acts = [written.first, written.second];
     let trace = held.act(written.number, written.index, &acts);
-    boxes.put_acted(rt, key, held, trace);
+    boxes.put_acted(key, held, trace);
 }

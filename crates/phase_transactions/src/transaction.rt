@@ -20,7 +20,7 @@ use item_shards::{Act, Look, next_number, refusal_with};
 use shard_boxes::{Boxes, PhaseName};
 use std::alloc::AllocError;
 use std::sync::Wait;
-use worker_journals::{Answer, ReplyForm};
+use worker_journals::{Answer, BidRequest, ReplyForm};
 use worker_slices::Homes;
 
 impl<N: PhaseName> Worker<N> {
@@ -32,6 +32,7 @@ impl<N: PhaseName> Worker<N> {
     ghost use Rattle.worker_slices.specs.Slicing.{hot_objects};
     ghost use Rattle.phase_transactions.specs.inner.Takens.{footprint_of, is_one_of, IsReady};
     ghost use Rattle.phase_transactions.specs.Txns.{is_put_off};
+    ghost use Rattle.request_scripts.specs.Scripts.{request_of};
     ghost use Rattle.phase_transactions.specs.inner.Viewing.{IsShownBy};
     ghost use Rattle.phase_transactions.specs.Workers.{next_bid};
 
@@ -54,19 +55,45 @@ impl<N: PhaseName> Worker<N> {
                 amount,
                 time,
             } => {
-                let entry = BidEntry {
+                let bid = BidRequest {
+                    bidder,
+                    item,
                     amount,
                     time,
-                    id: self.next_bid(),
-                    bidder,
                 };
-                self.bid(rt, boxes, &BidCall { item, entry, index })
+                self.transact_bid(rt, boxes, &bid, index)
             }
             Request::StoreItem { .. } | Request::StoreComment { .. } | Request::BuyNow { .. } => {
                 self.store(rt, boxes, request, index)
             }
             _ => self.show(rt, boxes, request, index),
         }
+    }
+
+    /// Performs a bid of the quota, as `transact` does.
+    pub fn transact_bid<R: Wait>(
+        &mut self,
+        rt: &R,
+        boxes: &Boxes<N>,
+        bid: &BidRequest,
+        index: u32,
+    ) -> Result<(), PermitFault>
+        requires { CanTransact N.initial boxes.now self.old (request_of bid.now) }
+        ensures { HasPerformed N.initial self.old self.new (request_of bid.now) index result }
+    {
+        let BidRequest {
+            bidder,
+            item,
+            amount,
+            time,
+        } = *bid;
+        let entry = BidEntry {
+            amount,
+            time,
+            id: self.next_bid(),
+            bidder,
+        };
+        self.bid(rt, boxes, &BidCall { item, entry, index })
     }
 
     // Performs a bid. If its item lies in a shard, it is found there once.
@@ -98,7 +125,7 @@ impl<N: PhaseName> Worker<N> {
         let Begun { taken, number } = begun;
         let mut held = taken.one();
         let (trace, refused) = held.bid(number, index, item, entry);
-        boxes.put_acted(rt, &mut self.key, held, trace);
+        boxes.put_acted(&mut self.key, held, trace);
         let store = Store {
             call,
             homes: &homes,
@@ -136,7 +163,7 @@ impl<N: PhaseName> Worker<N> {
         let mut begun = self.begin(rt, boxes, request, &homes)?;
         if self.prepare(&mut begun, request).is_err() {
             let Begun { taken, number: _ } = begun;
-            put_back(rt, boxes, &mut self.key, taken);
+            put_back(boxes, &mut self.key, taken);
             return Err(PermitFault::Memory);
         }
 
@@ -147,7 +174,7 @@ impl<N: PhaseName> Worker<N> {
             homes: &homes,
             reply,
         };
-        self.put_store(rt, boxes, begun, &store);
+        self.put_store(boxes, begun, &store);
         Ok(())
     }
 
@@ -176,7 +203,7 @@ impl<N: PhaseName> Worker<N> {
         match number_on(&taken, self.clock) {
             Some(number) => Ok(Begun { taken, number }),
             None => {
-                put_back(rt, boxes, &mut self.key, taken);
+                put_back(boxes, &mut self.key, taken);
                 Err(PermitFault::NumberFull)
             }
         }
@@ -199,7 +226,7 @@ impl<N: PhaseName> Worker<N> {
 
     // Does a store's acts on the shards that were taken, puts these back, and commits it.
     #[inline]
-    fn put_store<R: Wait>(&mut self, rt: &R, boxes: &Boxes<N>, begun: Begun<N>, store: &Store<'_>)
+    fn put_store(&mut self, boxes: &Boxes<N>, begun: Begun<N>, store: &Store<'_>)
         requires store { is_view store.now.call.request.now ≡ false }
         requires no_bid { ¬ IsBid store.now.call.request.now }
         requires opened { HaveOpening N.initial self.old.opening }
@@ -219,7 +246,7 @@ impl<N: PhaseName> Worker<N> {
         let Begun { taken, number } = begun;
         let deeds = Deeds::of(store.call.request, store.reply, store.homes);
         let written = deeds.written(number, store.call.index);
-        put_all(rt, boxes, &mut self.key, taken, written);
+        put_all(boxes, &mut self.key, taken, written);
         self.add_store(number, store);
     }
 
@@ -306,17 +333,17 @@ impl<N: PhaseName> Worker<N> {
                 look: Look::Item(item),
                 answer: Answer::of_item(&seen),
             };
-            self.put_view(rt, boxes, begun, &view);
+            self.put_view(boxes, begun, &view);
             return Ok(());
         }
-        self.show_whole(rt, boxes, begun, call);
+        self.show_whole(boxes, begun, call);
         Ok(())
     }
 
     // Shows what a view asks for on the shard that it took, by a whole reply. Not inlined: the view
     // of an item needs no room for one on the stack.
     #[inline(never)]
-    fn show_whole<R: Wait>(&mut self, rt: &R, boxes: &Boxes<N>, begun: Begun<N>, call: Call<'_>)
+    fn show_whole(&mut self, boxes: &Boxes<N>, begun: Begun<N>, call: Call<'_>)
         requires view { is_view call.request.now ≡ true }
         requires one { IsOnOne call.request.now begun.taken }
         requires opened { HaveOpening N.initial self.old.opening }
@@ -336,12 +363,12 @@ impl<N: PhaseName> Worker<N> {
             look: look_of(call.request),
             answer: Answer::of(&reply),
         };
-        self.put_view(rt, boxes, begun, &view);
+        self.put_view(boxes, begun, &view);
     }
 
     // Puts the shard of a view back with its line, and commits it.
     #[inline(always)]
-    fn put_view<R: Wait>(&mut self, rt: &R, boxes: &Boxes<N>, begun: Begun<N>, view: &View<'_>)
+    fn put_view(&mut self, boxes: &Boxes<N>, begun: Begun<N>, view: &View<'_>)
         requires view { is_view view.now.call.request.now ≡ true }
         requires opened { HaveOpening N.initial self.old.opening }
         requires begun { (homes : HomesValue) × (key : KeyState) × HasBegun
@@ -363,7 +390,7 @@ impl<N: PhaseName> Worker<N> {
             first: Act::Look(view.look),
             second: Act::Look(Look::Nothing),
         };
-        put_all(rt, boxes, &mut self.key, taken, written);
+        put_all(boxes, &mut self.key, taken, written);
         self.add_entry(number, view.call, &view.answer);
     }
 }

@@ -189,9 +189,8 @@ fn perform_next<N: PhaseName, K: Kind, R: Wait, G: Gate>(
 {
     let index = place as u32;
     post.arrive(index);
-    // A bid is made from its fields; another request is first made whole.
     let done = match script.bid(place) {
-        Some(bid) => permit.commit(rt, post.boxes, &bid, index),
+        Some(bid) => permit.commit_bid(rt, post.boxes, &bid, index),
         None => permit.commit(rt, post.boxes, &script.request(place), index),
     };
     post.leave(index);

@@ -91,7 +91,7 @@ impl<N: PhaseName> Boxes<N> {
     /// Puts a shard back: as it was taken, or after a line that the caller made. It takes no
     /// memory.
     #[inline(always)]
-    pub fn put<R: Wait>(&self, rt: &R, key: &mut Key<N>, held: Held<N>, line: Option<Line>)
+    pub fn put(&self, key: &mut Key<N>, held: Held<N>, line: Option<Line>)
         requires of { key.old.boxes ≡ self.now }
         requires holder { holds_at key.old held.number ≡ true }
         requires may { MayGoBack (taken_at N.initial key.old held.number) (state_of held.shard)
@@ -101,12 +101,12 @@ impl<N: PhaseName> Boxes<N> {
     {
         let (number, shard) = held.open();
         let s = number as usize;
-        key.put::<Option<Line>, Brand, R>(rt, &self.boxes[s], s, shard, &line);
+        key.put::<Option<Line>, Brand>(&self.boxes[s], s, shard, &line);
     }
 
     /// Puts a shard back after the line of what `Held::act` did on it. It takes no memory.
     #[inline(always)]
-    pub fn put_acted<R: Wait>(&self, rt: &R, key: &mut Key<N>, held: Held<N>, trace: Trace)
+    pub fn put_acted(&self, key: &mut Key<N>, held: Held<N>, trace: Trace)
         requires of { key.old.boxes ≡ self.now }
         requires holder { holds_at key.old held.number ≡ true }
         requires may { MayPut (taken_at N.initial key.old held.number) (state_of held.shard)
@@ -115,6 +115,6 @@ impl<N: PhaseName> Boxes<N> {
     {
         let (number, shard) = held.open();
         let s = number as usize;
-        key.put::<Trace, Brand, R>(rt, &self.boxes[s], s, shard, &trace);
+        key.put::<Trace, Brand>(&self.boxes[s], s, shard, &trace);
     }
 }

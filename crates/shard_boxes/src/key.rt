@@ -107,9 +107,8 @@ impl<N: PhaseName> Key<N> {
 
     // Puts the shard back, after the line that `L` names by what is lent, if there is one.
     #[inline(always)]
-    pub(crate) fn put<T, L: LineName, R: Wait>(
+    pub(crate) fn put<T, L: LineName>(
         &mut self,
-        rt: &R,
         shard_box: &ShardBox,
         s: usize,
         shard: Shard,
@@ -122,7 +121,7 @@ impl<N: PhaseName> Key<N> {
         ensures { self.new ≡ putting self.old s L.line }
     {
         let grant = &mut self.grants[s];
-        shard_box.put::<L, R>(rt, grant, shard);
+        shard_box.put::<L>(grant, shard);
     }
 
     // The grants, one for each box.

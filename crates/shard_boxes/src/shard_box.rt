@@ -158,7 +158,7 @@ impl ShardBox {
     }
 
     /// A phase opens: its shard goes into the box.
-    pub fn open<N: PhaseName, R: Wait>(&self, rt: &R, grant: &mut Grant, shard: Shard)
+    pub fn open<N: PhaseName>(&self, grant: &mut Grant, shard: Shard)
         requires place { grant.old.box_id ≡ self.now }
         requires spare { IsSpare grant.old.knows }
         requires within { IsWithin (state_of shard) }
@@ -183,7 +183,7 @@ impl ShardBox {
 
     /// The holder puts the shard back, after the line that `L` names, if there is one.
     #[inline(always)]
-    pub fn put<L: LineName, R: Wait>(&self, rt: &R, grant: &mut Grant, shard: Shard)
+    pub fn put<L: LineName>(&self, grant: &mut Grant, shard: Shard)
         requires place { grant.old.box_id ≡ self.now }
         requires holds { grant.old.knows.holds ≡ true }
         requires may { MayPut (after_lines (start_of grant.old.knows) grant.old.knows.seen)
@@ -216,7 +216,7 @@ impl ShardBox {
     }
 
     /// Takes the shard by a grant that speaks for all workers.
-    pub fn take_last<R: Wait>(&self, rt: &R, grant: &mut Grant) -> Shard
+    pub fn take_last(&self, grant: &mut Grant) -> Shard
         requires place { grant.old.box_id ≡ self.now }
         requires all { SpeaksForAll grant.old.knows }
         requires free { grant.old.knows.holds ≡ false }

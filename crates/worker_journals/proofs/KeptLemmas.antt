@@ -1,5 +1,5 @@
 -- Loops that put the values of a list at the end of another one.
-use Rattle.std.proofs.Common.{◌≡◌, ℕ, zero, suc, ◌+◌, ◌-◌, ◌<◌, ◌≤◌, List, [], ◌∷◌, ◌++◌, Some, length, take, take_all, drop, get_or, slice_get, arith, refl, ap, subst, sym, ◌∙◌, append_assoc, length-append}
+use Rattle.std.proofs.Common.{◌≡◌, ℕ, zero, suc, ◌+◌, ◌-◌, ◌*◌, ◌^◌, ◌<◌, ◌≤◌, min, List, [], ◌∷◌, ◌++◌, Some, length, take, take_all, drop, get_or, slice_get, arith, refl, ap, subst, sym, ◌∙◌, append_assoc, length-append}
 use Rattle.std.specs.Prelude.{IsSome}
 use Rattle.std.proofs.lemmas.List.{length-take, take_more}
 use Rattle.std.proofs.lemmas.Option.{get_or_from_slice_get}
@@ -7,7 +7,7 @@ use Rattle.auction_rows.specs.declared.{requests.Request.Request, replies.Reply.
 use Rattle.auction_rows.specs.declared.requests.Request.TheVariants.{StoreItem, StoreBid, StoreComment, BuyNow, ViewItem, ViewBids, ViewCategory, ViewUser}
 use Rattle.worker_journals.specs.declared.heads.ShortReply.{ShortReply}
 use Rattle.worker_journals.specs.declared.heads.UserSeen.{UserSeen as SeenUser}
-use Rattle.request_scripts.specs.ShortRequests.{facts_in}
+use Rattle.request_scripts.specs.ShortRequests.{HasListRoom, facts_in}
 use Rattle.worker_journals.specs.Sides.{SaysReply}
 
 module _ {X : Type 0} (start shown : List X) (place : ℕ) where
@@ -76,3 +76,12 @@ one_fact_at_most (ViewItem item) = omega arith
 one_fact_at_most (ViewBids item) = omega arith
 one_fact_at_most (ViewCategory category) = omega arith
 one_fact_at_most (ViewUser user) = omega arith
+
+-- ---- the room of new lists
+
+pub one_each : (len capacity room : ℕ) → len ≡ 0 → room ≤ capacity → HasListRoom room len capacity
+one_each len capacity room empty has = omega (arith, empty, has)
+
+-- more than any capacity was not asked for
+pub ten_each : (len capacity room shown : ℕ) → len ≡ 0 → shown ≤ capacity → shown ≡ min (room * 10) (2 ^ 64 - 1) → capacity < 2 ^ 63 → HasListRoom (10 * room) len capacity
+ten_each len capacity room shown empty has is small = omega (arith, empty, has, is, small)

@@ -35,6 +35,7 @@ impl<'a> Model for EntryRef<'a> {
 
 impl<'a> EntryRef<'a> {
     /// The reference to a journal's entry at a place. The place after it is a `usize` too.
+    #[inline(always)]
     pub(crate) fn of(journal: &'a Journal, place: usize) -> EntryRef<'a>
         requires { place < length journal.now.entries }
         ensures entry { slice_get journal.now.entries place ≡ Some result }
@@ -114,6 +115,7 @@ impl<'a> EntryRef<'a> {
     }
 
     /// The object that the entry writes, if it is an accepted splittable store.
+    #[inline(always)]
     pub fn object_written(&self) -> Option<Object>
         ensures { result ≡ written_by self.now }
     {

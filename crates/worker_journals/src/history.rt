@@ -10,7 +10,7 @@ ghost use Rattle.worker_journals.specs.Places.{first_entries};
 ghost use Rattle.worker_journals.specs.Rising.{EntriesRiseTo, HasPassed};
 
 use crate::entries::EntryRef;
-use crate::journal::Journal;
+use crate::journal::{Journal, SpareLists};
 use crate::merge::{Merging, count_of};
 use auction_rows::{Entry, MOST_WORKERS};
 use std::alloc::{AllocError, Global};
@@ -58,10 +58,26 @@ impl History {
         ensures lawful { OnOk result (AllByRecursion IsLawfulJournal journals.items) }
         ensures refused { OnErr result (self.new ≡ self.old) }
     {
+        let mut lists = Vec::new(*self.phases.allocator());
+        self.add_phase_kept(journals, &mut lists)
+    }
+
+    /// As `add_phase`, and adds the memory of no entry to what is kept for other journals.
+    pub fn add_phase_kept(
+        &mut self,
+        journals: Vec<Journal>,
+        kept: &mut Vec<SpareLists>,
+    ) -> Result<(), AllocError>
+        requires few { vec_len journals ≤ MOST_WORKERS }
+        requires by_worker { AreByWorker journals.items }
+        ensures added { OnOk result (self.new ≡ with_phase self.old journals.items) }
+        ensures lawful { OnOk result (AllByRecursion IsLawfulJournal journals.items) }
+        ensures refused { OnErr result (self.new ≡ self.old) }
+    {
         let count = count_of(&journals).ok_or(AllocError)?;
         let len = self.len.checked_add(count).ok_or(AllocError)?;
         let mut journals = journals;
-        close_all(&mut journals);
+        close_all(&mut journals, kept)?;
         self.phases.push(journals)?;
         self.len = len;
         Ok(())
@@ -335,11 +351,12 @@ fn later(worker: u32, other: u32) -> u32
     if worker < other { other } else { worker }
 }
 
-// Closes all journals.
-fn close_all(journals: &mut [Journal])
-    ensures { journals.new ≡ map closed_journal journals.old }
+// Closes all journals, and adds their memory of no entry to what is kept.
+fn close_all(journals: &mut [Journal], kept: &mut Vec<SpareLists>) -> Result<(), AllocError>
+    ensures { OnOk result (journals.new ≡ map closed_journal journals.old) }
 {
     for journal in journals.iter_mut() {
-        journal.close();
+        kept.push(journal.close_kept())?;
     }
+    Ok(())
 }

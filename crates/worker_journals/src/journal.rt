@@ -4,6 +4,7 @@ ghost use Rattle.std.specs.Iterator.{YieldsFirst, item_count};
 ghost use Rattle.auction_rows.specs.Choosing.{written_by};
 ghost use Rattle.worker_journals.specs.Journals.{IsLawfulJournal, ComesAfter, closed_journal, empty_journal, entry_index, entry_number, with_commit};
 ghost use Rattle.worker_journals.specs.Rising.{EntriesRiseTo};
+ghost use Rattle.worker_journals.specs.Sides.{no_sides};
 ghost use Rattle.worker_journals.specs.Places.{entry_items, entry_reply, entry_request, entry_store_reply, is_refused};
 
 use crate::entries::{Answer, EntryRef};
@@ -47,6 +48,37 @@ impl Drop for Journal {
     }
 }
 
+/// Memory that a journal left, for what another one keeps beside the heads of its entries.
+pub struct SpareLists {
+    sides: Sides,
+}
+
+// Not derived: a derived drop is made and proved anew in each crate that lets one go.
+impl Drop for SpareLists {
+    fn drop(self) {
+        let Self { sides } = self;
+        drop(sides);
+    }
+}
+
+impl Model for SpareLists {
+    ghost use Rattle.worker_journals.specs.Sides.{SideLists};
+
+    ghost Value = { SideLists };
+
+    ghost view = { λ l. l.sides };
+}
+
+impl SpareLists {
+    // What a journal of so many entries may have beside their heads: none yet.
+    fn emptied(self, room: usize) -> Result<Sides, AllocError>
+        ensures { IfOk result (λ sides. sides ≡ no_sides room) }
+    {
+        let Self { sides } = self;
+        sides.emptied(room)
+    }
+}
+
 impl Model for Journal {
     ghost use Rattle.worker_journals.specs.Journals.{JournalView};
     ghost use Rattle.worker_journals.specs.Entries.{shown, IsKept};
@@ -72,11 +104,24 @@ impl Journal {
     ) -> Result<Journal, AllocError>
         ensures { IfOk result (λ journal. journal ≡ empty_journal phase worker room) }
     {
+        Journal::in_lists(alloc, phase, worker, room, None)
+    }
+
+    /// As `with_room`, in memory that another journal left, if there is any.
+    pub fn in_lists(
+        alloc: Global,
+        phase: u64,
+        worker: u32,
+        room: usize,
+        lists: Option<SpareLists>,
+    ) -> Result<Journal, AllocError>
+        ensures { IfOk result (λ journal. journal ≡ empty_journal phase worker room) }
+    {
         Ok(Journal {
             phase,
             worker,
             heads: Heads::with_room(alloc, room)?,
-            sides: Sides::with_room(alloc, room)?,
+            sides: sides_in(alloc, room, lists)?,
             is_rising: true,
             next: 0,
         })
@@ -126,11 +171,21 @@ impl Journal {
     pub fn close(&mut self)
         ensures { self.new ≡ closed_journal self.old }
     {
+        let _lists = self.close_kept();
+    }
+
+    /// As `close`, and gives memory that no entry fills for another journal.
+    pub fn close_kept(&mut self) -> SpareLists
+        ensures { self.new ≡ closed_journal self.old }
+    {
         self.heads.shrink_to_fit();
-        self.sides.close();
+        SpareLists {
+            sides: self.sides.close(),
+        }
     }
 
     /// How many entries there are.
+    #[inline(always)]
     pub fn len(&self) -> usize
         ensures len { result ≡ length self.now.entries }
         ensures lawful { IsLawfulJournal self.now }
@@ -248,6 +303,7 @@ impl Journal {
     }
 
     /// The object that the entry at a place from 0 writes, if it is an accepted splittable store.
+    #[inline(always)]
     pub(crate) fn object_written(&self, place: usize) -> Option<Object>
         requires { place < length self.now.entries }
         ensures { slice_get (map written_by self.now.entries) place ≡ Some result }
@@ -278,6 +334,17 @@ impl Journal {
         ensures { result ≡ self.now.worker }
     {
         self.worker
+    }
+}
+
+// What a journal of so many entries may have beside their heads: none yet, in lists that another
+// journal left, if there are any.
+fn sides_in(alloc: Global, room: usize, lists: Option<SpareLists>) -> Result<Sides, AllocError>
+    ensures { IfOk result (λ sides. sides ≡ no_sides room) }
+{
+    match lists {
+        Some(lists) => lists.emptied(room),
+        None => Sides::with_room(alloc, room),
     }
 }
 
@@ -313,6 +380,7 @@ impl<'a> Iterator for JournalEntries<'a> {
 
     ghost remaining = { item_count (λ left. left) };
 
+    #[inline(always)]
     fn next(&mut self) -> Option<EntryRef<'a>> {
         if self.place >= self.journal.len() {
             return None;

@@ -13,6 +13,6 @@ mod sides;
 pub use auction_rows::Entry;
 pub use entries::{Answer, EntryRef, ReplyForm};
 pub use history::{Entries, History, WorkerEntries};
-pub use journal::{Journal, JournalEntries};
+pub use journal::{Journal, JournalEntries, SpareLists};
 pub use merge::{entries_by_worker, journals_merge, merge_journals, numbers_come_after};
-pub use request_scripts::Script;
+pub use request_scripts::{BidRequest, Script};

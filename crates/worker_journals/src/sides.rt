@@ -1,5 +1,5 @@
 //! What a journal keeps beside its heads.
-ghost use Rattle.std.specs.Prelude.{◌≡◌, ◌+◌, ◌<◌, ◌≤◌, ◌++◌, length, take, drop, option_map, option_to_list, vec_len, vec_capacity, IfOk};
+ghost use Rattle.std.specs.Prelude.{◌≡◌, ◌+◌, ◌<◌, ◌≤◌, ◌++◌, [], length, take, drop, option_map, option_to_list, vec_len, vec_capacity, IfOk};
 ghost use Rattle.request_scripts.specs.ShortRequests.{HasListRoom, SaysRequest};
 ghost use Rattle.worker_journals.specs.Sides.{SaysReply, shown_in};
 
@@ -9,6 +9,7 @@ use auction_rows::{BidShown, Facts, ItemShown, ItemView, MOST_SHOWN, Object, Rep
 use request_scripts::{ShortRequest, SideIndex, keep_one, keep_request};
 use std::alloc::{AllocError, Global};
 use std::marker::Model;
+use std::mem::replace;
 
 /// The facts that the requests of a journal store, and what its views show, with room for those of
 /// `left` commits more.
@@ -68,6 +69,30 @@ impl Sides {
         })
     }
 
+    /// These lists, emptied, with room for those of so many commits.
+    pub(crate) fn emptied(self, room: usize) -> Result<Sides, AllocError>
+        ensures { IfOk result (λ sides. sides ≡ no_sides room) }
+    {
+        let Sides {
+            facts,
+            items,
+            users,
+            bids,
+            latest,
+            left: _,
+        } = self;
+        // Past 64 bits there is no such room.
+        let shown = room.saturating_mul(MOST_SHOWN);
+        Ok(Sides {
+            facts: emptied(facts, room)?,
+            items: emptied(items, room)?,
+            users: emptied(users, room)?,
+            bids: emptied(bids, shown)?,
+            latest: emptied(latest, shown)?,
+            left: room,
+        })
+    }
+
     /// For how many commits more there is room.
     pub(crate) fn left(&self) -> usize
         ensures { result ≡ self.now.left }
@@ -75,16 +100,20 @@ impl Sides {
         self.left
     }
 
-    /// Gives back the memory that is not filled: there is no more room then.
-    pub(crate) fn close(&mut self)
+    /// Gives back the memory that is not filled: there is no more room then. Of a list that is
+    /// empty the memory is given to the caller.
+    pub(crate) fn close(&mut self) -> Sides
         ensures { self.new ≡ record self.old { left = 0 } }
     {
-        self.facts.shrink_to_fit();
-        self.items.shrink_to_fit();
-        self.users.shrink_to_fit();
-        self.bids.shrink_to_fit();
-        self.latest.shrink_to_fit();
         self.left = 0;
+        Sides {
+            facts: close_list(&mut self.facts),
+            items: close_list(&mut self.items),
+            users: close_list(&mut self.users),
+            bids: close_list(&mut self.bids),
+            latest: close_list(&mut self.latest),
+            left: 0,
+        }
     }
 
     /// Keeps what is large of a commit, and gives what is small with the places of the rest. It
@@ -172,6 +201,7 @@ impl Sides {
 
     /// The object that a head of this journal writes, if it is an accepted splittable store of the
     /// worker.
+    #[inline(always)]
     pub(crate) fn object_written(
         &self,
         worker: u32,
@@ -200,6 +230,33 @@ impl Sides {
             _ => None,
         }
     }
+}
+
+// This list, emptied, if it has so much room, else a new one: to enlarge it would move its memory.
+fn emptied<T: Copy>(mut list: Vec<T>, room: usize) -> Result<Vec<T>, AllocError>
+    ensures items { IfOk result (λ list. list.items ≡ []) }
+    ensures len { IfOk result (λ list. vec_len list ≡ 0) }
+    ensures capacity { IfOk result (λ list. room ≤ vec_capacity list) }
+{
+    if room <= list.capacity() {
+        list.clear();
+        return Ok(list);
+    }
+    let alloc = *list.allocator();
+    drop(list);
+    Vec::with_capacity(alloc, room)
+}
+
+// Gives back the memory that a list does not fill, and if it is empty all to the caller.
+fn close_list<T: Copy>(list: &mut Vec<T>) -> Vec<T>
+    ensures { list.new.items ≡ list.old.items }
+{
+    let none = Vec::new(*list.allocator());
+    if list.is_empty() {
+        return replace(list, none);
+    }
+    list.shrink_to_fit();
+    none
 }
 
 // Puts the values that a view shows at the end of a list, and gives the place of the first. It

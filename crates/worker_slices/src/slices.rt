@@ -4,6 +4,7 @@ ghost use Rattle.std.specs.Bool.{OnTrue};
 ghost use Rattle.std.specs.List.{IsDistinct, AllByRecursion};
 ghost use Rattle.auction_rows.specs.declared.requests.Object.{Object as ObjectValue};
 ghost use Rattle.item_shards.specs.declared.shard.slices.Slice.{Slice as SliceValue};
+ghost use Rattle.auction_rows.specs.Requests.{same_object};
 ghost use Rattle.worker_slices.specs.declared.slices.Hot.{Hot as HotValue};
 ghost use Rattle.worker_slices.specs.Guessing.{AreGuessed};
 ghost use Rattle.worker_slices.specs.Slicing.{hot_objects, slices_of, stocks_of, stock_of, slices_in, with_slice_changed, slices_after_acts, IsAt, IsStocked, HasAtMost, HaveAtMost, slice_with_bid, slice_with_comment, slice_with_item, slice_of};
@@ -135,19 +136,27 @@ impl Slices {
         requires stocked { AllByRecursion IsStocked hot.now }
         ensures { IfOk result (λ slices. slices ≡ slices_of hot.now []) }
     {
-        let mut slices = IndexMap::with_capacity(alloc, hot.len())?;
-        let mut guesses = Guesses::none();
-        for (object, stock) in hot {
-            guesses.note(*object, slices.len());
-            match slices.insert(*object, Hot::new(*object, *stock)) {
-                Ok(_) => {}
-                Err(_) => return Err(AllocError),
-            }
+        filled(IndexMap::with_capacity(alloc, hot.len())?, hot)
+    }
+
+    /// As `new`, in the memory of slices that were taken out.
+    pub fn renewed(
+        self,
+        alloc: Global,
+        hot: &[(Object, Option<(Facts, u32)>)],
+    ) -> Result<Slices, AllocError>
+        requires distinct { IsDistinct same_object (hot_objects hot.now) }
+        requires stocked { AllByRecursion IsStocked hot.now }
+        ensures { IfOk result (λ slices. slices ≡ slices_of hot.now []) }
+    {
+        let Slices {
+            hot: table,
+            guesses: _,
+        } = self;
+        if table.is_empty() {
+            return filled(table, hot);
         }
-        Ok(Slices {
-            hot: slices,
-            guesses,
-        })
+        Slices::new(alloc, hot)
     }
 
     /// Takes out the last object with its slice: None exactly where none is left.
@@ -261,4 +270,29 @@ impl Slices {
             _ => {}
         }
     }
+}
+
+// An identity slice of each of these objects, in an empty table.
+fn filled(
+    table: IndexMap<Object, Hot>,
+    hot: &[(Object, Option<(Facts, u32)>)],
+) -> Result<Slices, AllocError>
+    requires empty { table.entries ≡ [] }
+    requires distinct { IsDistinct same_object (hot_objects hot.now) }
+    requires stocked { AllByRecursion IsStocked hot.now }
+    ensures { IfOk result (λ slices. slices ≡ slices_of hot.now []) }
+{
+    let mut slices = table;
+    let mut guesses = Guesses::none();
+    for (object, stock) in hot {
+        guesses.note(*object, slices.len());
+        match slices.insert(*object, Hot::new(*object, *stock)) {
+            Ok(_) => {}
+            Err(_) => return Err(AllocError),
+        }
+    }
+    Ok(Slices {
+        hot: slices,
+        guesses,
+    })
 }

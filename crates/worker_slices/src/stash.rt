@@ -1,5 +1,5 @@
 //! Requests that wait for the next joined phase.
-ghost use Rattle.std.specs.Prelude.{◌≡◌, ◌-◌, ◌<◌, ◌≤◌, ◌++◌, ◌∷◌, ◌↔◌, [], length, slice_get, take, drop, vec_len, vec_capacity, IfOk, IsTrue};
+ghost use Rattle.std.specs.Prelude.{◌≡◌, ◌+◌, ◌-◌, ◌<◌, ◌≤◌, ◌++◌, ◌∷◌, ◌↔◌, [], length, slice_get, take, drop, vec_len, vec_capacity, IfOk, IsTrue};
 ghost use Rattle.worker_slices.specs.Stashes.{StashState, without_first};
 
 use auction_rows::Request;
@@ -13,6 +13,8 @@ pub struct Stash {
     stored: Vec<(u32, Request)>,
     // The first of these are performed.
     performed: usize,
+    // For how many more there is to be room.
+    room: usize,
 }
 
 // Not derived: a derived drop is made and proved anew in each crate that lets one go.
@@ -21,6 +23,7 @@ impl Drop for Stash {
         let Self {
             stored,
             performed: _,
+            room: _,
         } = self;
         drop(stored);
     }
@@ -32,10 +35,11 @@ impl Model for Stash {
     ghost view = { λ s. record {
       requests = drop s.performed s.stored.items;
       done = take s.performed s.stored.items;
-      room = vec_capacity s.stored - vec_len s.stored;
+      room = s.room;
     } };
 
-    ghost invariant = { λ s. s.performed ≤ vec_len s.stored };
+    ghost invariant = { λ s. (s.performed ≤ vec_len s.stored)
+        × (vec_len s.stored + s.room ≤ vec_capacity s.stored) };
 }
 
 impl Stash {
@@ -48,6 +52,29 @@ impl Stash {
         Ok(Stash {
             stored: Vec::with_capacity(alloc, room)?,
             performed: 0,
+            room,
+        })
+    }
+
+    /// As `with_room`, in the memory of this stash if that is enough.
+    pub fn emptied(self, room: usize) -> Result<Stash, AllocError>
+        ensures empty { IfOk result (λ stash. stash.requests ≡ []) }
+        ensures fresh { IfOk result (λ stash. stash.done ≡ []) }
+        ensures room { IfOk result (λ stash. stash.room ≡ room) }
+    {
+        let Stash {
+            mut stored,
+            performed: _,
+            room: _,
+        } = self;
+        if stored.capacity() < room {
+            return Stash::with_room(*stored.allocator(), room);
+        }
+        stored.clear();
+        Ok(Stash {
+            stored,
+            performed: 0,
+            room,
         })
     }
 
@@ -64,6 +91,7 @@ impl Stash {
         ensures done { self.new.done ≡ self.old.done }
     {
         self.stored.push_reserved((index, request));
+        self.room -= 1;
     }
 
     /// How many requests wait.

@@ -22,16 +22,16 @@ pub fn refusal_with(stock: &Option<(Facts, u32)>, request: &Request) -> Option<R
     }
 }
 
-// For how many items a shard asks for room with its first one: so much memory grows without being
-// copied.
-const FIRST_ITEMS: usize = 256;
+// For how many items a shard asks for room with its first one.
+const FIRST_ITEMS: usize = 1024;
 
-// Room for the first items, if there is none yet. If it is refused, room is asked for item by item.
+// Where no room is left, room for three times as many items more: all are copied then. If it is
+// refused, room is asked for item by item.
 fn expect_items(items: &mut IndexMap<ItemId, ItemRecord>)
     ensures { IsUnchanged items.old items.new }
 {
-    if items.is_empty() {
-        let _ = items.reserve(FIRST_ITEMS);
+    if items.len() == items.capacity() {
+        let _ = items.reserve(FIRST_ITEMS.max(items.len().saturating_mul(3)));
     }
 }
 

@@ -1,9 +1,9 @@
 use Rattle.std.proofs.Common.{ap, ◌∙◌}
 use Rattle.std.proofs.lemmas.Result.{IfOk-weaker}
-use Rattle.hot_choice.specs.inner.Ranking.{how_often}
+use Rattle.hot_choice.specs.inner.Ranking.{how_often, objects_of}
 use Rattle.hot_choice.proofs.choice.choose_hot.Goals as goal
 
 pub returns : goal.returns
 returns c =
     IfOk-weaker c.hottest.result _ _
-    (λ hot are. are c.args.entries.now (λ object. ap (λ objects. how_often objects object) (c.deref.ensures.value ∙ c.in_ok-objects.ensures))) c.hottest.ensures
+    (λ hot are. are c.args.entries.now (λ object. ap (λ objects. how_often objects object) (ap objects_of c.deref.ensures.value ∙ c.in_ok-runs.ensures))) c.hottest.ensures

@@ -2,7 +2,7 @@ use Rattle.std.proofs.Common.{sym, ap, subst, ◌∙◌}
 use Rattle.std.proofs.lemmas.Result.{IfOk-weaker}
 use Rattle.worker_journals.specs.Merged.{merged}
 use Rattle.auction_rows.specs.Choosing.{choose}
-use Rattle.hot_choice.specs.inner.Ranking.{AreWritten}
+use Rattle.hot_choice.specs.inner.Ranking.{AreWritten, objects_of}
 use Rattle.hot_choice.proofs.ChosenLemmas.{none_chosen}
 use Rattle.hot_choice.proofs.choice.choose_hot_after.Goals as goal
 
@@ -13,4 +13,4 @@ returns-then-hot_max-eq0 c =
 pub returns : goal.returns
 returns c =
     let entries = merged c.args.history.now.last in
-    IfOk-weaker c.hottest.result _ _ (λ hot are. are entries (subst (AreWritten entries) (sym c.deref.ensures.value) c.in_ok-objects.ensures)) c.hottest.ensures
+    IfOk-weaker c.hottest.result _ _ (λ hot are. are entries (subst (λ runs. AreWritten entries (objects_of runs)) (sym c.deref.ensures.value) c.in_ok-runs.ensures)) c.hottest.ensures

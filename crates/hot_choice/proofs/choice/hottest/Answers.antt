@@ -3,6 +3,7 @@ use Rattle.std.specs.List.{IsDistinct}
 use Rattle.std.proofs.lemmas.Result.{IfOk-weaker}
 use Rattle.auction_rows.specs.Requests.{same_object}
 use Rattle.hot_choice.specs.declared.choice.Candidate.{Candidate}
+use Rattle.hot_choice.specs.inner.Ranking.{objects_of}
 use Rattle.hot_choice.proofs.ChosenLemmas.{distinct, chosen}
 use Rattle.hot_choice.proofs.choice.hottest.Goals as goal
 
@@ -15,5 +16,5 @@ pub returns : goal.returns
 returns c =
     IfOk-weaker c.first_of.result _ _
     (λ hot are entries written. are ∙ ap (λ (cs : List Candidate). map (λ (c : Candidate). c.object) (take c.args.hot_max cs)) c.deref.ensures.value
-    ∙ chosen entries c.args.objects.now c.in_ok-heats.heats.entries c.args.threshold c.in_ok-candidates.candidates.items written c.in_ok-heats.ensures c.in_ok-candidates.ensures c.args.hot_max)
+    ∙ chosen entries (objects_of c.args.runs.now) c.in_ok-heats.heats.entries c.args.threshold c.in_ok-candidates.candidates.items written c.in_ok-heats.ensures c.in_ok-candidates.ensures c.args.hot_max)
     c.first_of.ensures

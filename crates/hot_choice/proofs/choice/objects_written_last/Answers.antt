@@ -4,9 +4,12 @@ use Rattle.auction_rows.specs.declared.requests.Object.{Object}
 use Rattle.auction_rows.specs.Choosing.{objects_written}
 use Rattle.worker_journals.specs.Merged.{merged}
 use Rattle.worker_journals.proofs.MergedLemmas.{all_entries}
-use Rattle.hot_choice.specs.inner.Ranking.{AreWritten}
+use Rattle.hot_choice.specs.inner.Ranking.{AreWritten, objects_of}
 use Rattle.hot_choice.proofs.HeatLemmas.{written_in_turn, written_in_any_order}
 use Rattle.hot_choice.proofs.choice.objects_written_last.Goals as goal
+
+pub loop-journal-init : goal.loop-journal-init
+loop-journal-init c = ap objects_of c.in_ok-runs.ensures.items
 
 pub loop-journal-preserved : goal.loop-journal-preserved
 loop-journal-preserved c =
@@ -21,7 +24,7 @@ loop-journal-preserved c =
 pub returns : goal.returns
 returns c =
     let journals = c.last_phase-journals.result.now in
-    let all : c.loop-journal.objects.items ≡ objects_written (all_entries journals) =
+    let all : objects_of c.loop-journal.runs.items ≡ objects_written (all_entries journals) =
     c.loop-journal.invariant ∙ ap (λ js. objects_written (all_entries js)) (take_all c.loop-journal.journal-index journals c.loop-journal-test.false) in
-    subst (λ js. AreWritten (merged js) c.loop-journal.objects.items) c.last_phase-journals.ensures.last
+    subst (λ js. AreWritten (merged js) (objects_of c.loop-journal.runs.items)) c.last_phase-journals.ensures.last
     (subst (AreWritten (merged journals)) (sym all) (written_in_any_order journals))

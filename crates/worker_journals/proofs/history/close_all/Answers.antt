@@ -10,6 +10,6 @@ loop-journal-preserved c =
     let within : i < length now = omega (arith, c.loop-journal-test.true, c.loop-journal.auto.journals) in
     let journal = c.journal-item.result in
     record {
-      closed = one_closed c.args.journals.now now i journal c.close.new.self within c.journal-item.is c.close.ensures inv.open_yet inv.closed;
-      open_yet = others_open c.args.journals.now now i journal c.close.new.self within c.journal-item.is c.close.ensures inv.open_yet;
+      closed = one_closed c.args.journals.now now i journal c.close_kept.new.self within c.journal-item.is c.close_kept.ensures inv.open_yet inv.closed;
+      open_yet = others_open c.args.journals.now now i journal c.close_kept.new.self within c.journal-item.is c.close_kept.ensures inv.open_yet;
     }

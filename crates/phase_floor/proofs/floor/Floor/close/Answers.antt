@@ -23,14 +23,14 @@ of-requires g c =
     let own = c.self.inside.counters.ok in
     omega (arith, c.requires.0, ap (λ (f : FloorState). length f.counters) c.self.view_is, own.0, own.1, c.args.receipts.ok.0)
 
-pub add_phase-requires-clause-few : goal.add_phase-requires-clause-few
-add_phase-requires-clause-few g c =
+pub add_phase_kept-requires-clause-few : goal.add_phase_kept-requires-clause-few
+add_phase_kept-requires-clause-few g c =
     let e = c.in_ok-journals.ensures in let receipts = c.args.receipts.items in
     let is_open = subst (IsOpen g.N.PhaseName.initial g.N.PhaseName.workers) c.self.view_is c.self.invariant.1 in
     omega (arith, ap length e.parts.journals_are, length-map receipts journal_of, c.requires.0, is_open.workers_are, is_open.kept.few_workers, c.in_ok-journals.field-0.journals.ok.0)
 
-pub add_phase-requires-clause-by_worker : goal.add_phase-requires-clause-by_worker
-add_phase-requires-clause-by_worker g c =
+pub add_phase_kept-requires-clause-by_worker : goal.add_phase_kept-requires-clause-by_worker
+add_phase_kept-requires-clause-by_worker g c =
     let e = c.in_ok-journals.ensures in let initial = g.N.PhaseName.initial in let workers = g.N.PhaseName.workers in
     subst AreByWorker (sym e.parts.journals_are)
     (in_order initial workers c.args.self (subst (IsOpen initial workers) c.self.view_is c.self.invariant.1) c.args.receipts.items c.requires e.finished)
@@ -45,26 +45,26 @@ close_kept-given-requires g c =
 pub reconciled-shards-requires-clause-shards : goal.reconciled-shards-requires-clause-shards
 reconciled-shards-requires-clause-shards g c =
     let initial = g.N.PhaseName.initial in let workers = g.N.PhaseName.workers in let receipts = c.args.receipts.items in
-    let e = c.in_ok-journals.ensures in let h = c.in_ok-add_phase.ensures in let parts = c.in_ok-journals.field-0 in
+    let e = c.in_ok-journals.ensures in let h = c.in_ok-add_phase_kept.ensures in let parts = c.in_ok-journals.field-0 in
     let is_open = subst (IsOpen initial workers) c.self.view_is c.self.invariant.1 in
     let same = all_kept g.K.Kind.IS_JOINED c.args.self receipts parts.slices.items (subst (IsEmptyIf g.K.Kind.IS_JOINED) (ap (λ (f : FloorState). f.stocks) c.self.view_is) c.self.invariant.0) c.requires e.slices in
-    shards_one initial workers c.args.self is_open receipts c.requires e.finished (map state_of c.close_kept-given.result.0.items) c.args.history.now c.add_phase.new.self parts.journals.items parts.stashes.items parts.keys.items parts.counters.items parts.slices.items e.parts same h.added h.lawful c.close_kept-given.ensures.closed
+    shards_one initial workers c.args.self is_open receipts c.requires e.finished (map state_of c.close_kept-given.result.0.items) c.args.history.now c.add_phase_kept.new.self parts.journals.items parts.stashes.items parts.keys.items parts.counters.items parts.slices.items e.parts same h.added h.lawful c.close_kept-given.ensures.closed
 
 pub reconciled-shards-requires-clause-known : goal.reconciled-shards-requires-clause-known
 reconciled-shards-requires-clause-known g c =
     let initial = g.N.PhaseName.initial in let workers = g.N.PhaseName.workers in let receipts = c.args.receipts.items in
-    let e = c.in_ok-journals.ensures in let h = c.in_ok-add_phase.ensures in let parts = c.in_ok-journals.field-0 in
+    let e = c.in_ok-journals.ensures in let h = c.in_ok-add_phase_kept.ensures in let parts = c.in_ok-journals.field-0 in
     let is_open = subst (IsOpen initial workers) c.self.view_is c.self.invariant.1 in
     let same = all_kept g.K.Kind.IS_JOINED c.args.self receipts parts.slices.items (subst (IsEmptyIf g.K.Kind.IS_JOINED) (ap (λ (f : FloorState). f.stocks) c.self.view_is) c.self.invariant.0) c.requires e.slices in
-    slices_known initial workers c.args.self is_open receipts c.requires e.finished (map state_of c.close_kept-given.result.0.items) c.args.history.now c.add_phase.new.self parts.journals.items parts.stashes.items parts.keys.items parts.counters.items parts.slices.items e.parts same h.added h.lawful c.close_kept-given.ensures.closed
+    slices_known initial workers c.args.self is_open receipts c.requires e.finished (map state_of c.close_kept-given.result.0.items) c.args.history.now c.add_phase_kept.new.self parts.journals.items parts.stashes.items parts.keys.items parts.counters.items parts.slices.items e.parts same h.added h.lawful c.close_kept-given.ensures.closed
 
 pub reconciled-shards-requires-clause-can : goal.reconciled-shards-requires-clause-can
 reconciled-shards-requires-clause-can g c =
     let initial = g.N.PhaseName.initial in let workers = g.N.PhaseName.workers in let receipts = c.args.receipts.items in
-    let e = c.in_ok-journals.ensures in let h = c.in_ok-add_phase.ensures in let parts = c.in_ok-journals.field-0 in
+    let e = c.in_ok-journals.ensures in let h = c.in_ok-add_phase_kept.ensures in let parts = c.in_ok-journals.field-0 in
     let is_open = subst (IsOpen initial workers) c.self.view_is c.self.invariant.1 in
     let same = all_kept g.K.Kind.IS_JOINED c.args.self receipts parts.slices.items (subst (IsEmptyIf g.K.Kind.IS_JOINED) (ap (λ (f : FloorState). f.stocks) c.self.view_is) c.self.invariant.0) c.requires e.slices in
-    slices_can initial workers c.args.self is_open receipts c.requires e.finished (map state_of c.close_kept-given.result.0.items) c.args.history.now c.add_phase.new.self parts.journals.items parts.stashes.items parts.keys.items parts.counters.items parts.slices.items e.parts same h.added h.lawful c.close_kept-given.ensures.closed
+    slices_can initial workers c.args.self is_open receipts c.requires e.finished (map state_of c.close_kept-given.result.0.items) c.args.history.now c.add_phase_kept.new.self parts.journals.items parts.stashes.items parts.keys.items parts.counters.items parts.slices.items e.parts same h.added h.lawful c.close_kept-given.ensures.closed
 
 module _ (g : given.Over) (c : After-reconciled-shards g) where
   is_open : IsOpen g.N.PhaseName.initial g.N.PhaseName.workers c.args.self
@@ -77,14 +77,14 @@ module _ (g : given.Over) (c : After-reconciled-shards g) where
   limit_is = ap (λ (f : FloorState). f.limit) c.self.view_is
 
   abbrev entries : List Entry
-  entries = added c.args.history.now.entries c.add_phase.new.self.entries
+  entries = added c.args.history.now.entries c.add_phase_kept.new.self.entries
 
   -- the phase has reconciled
   did : HasReconciled g.N.PhaseName.initial c.args.self c.args.receipts.items (map state_of c.reconciled-shards.result) entries
   did =
-      let receipts = c.args.receipts.items in let e = c.in_ok-journals.ensures in let h = c.in_ok-add_phase.ensures in let parts = c.in_ok-journals.field-0 in
+      let receipts = c.args.receipts.items in let e = c.in_ok-journals.ensures in let h = c.in_ok-add_phase_kept.ensures in let parts = c.in_ok-journals.field-0 in
       let same = all_kept g.K.Kind.IS_JOINED c.args.self receipts parts.slices.items (subst (IsEmptyIf g.K.Kind.IS_JOINED) (ap (λ (f : FloorState). f.stocks) c.self.view_is) c.self.invariant.0) c.requires e.slices in
-      reconciled g.N.PhaseName.initial g.N.PhaseName.workers c.args.self is_open receipts c.requires e.finished (map state_of c.close_kept-given.result.0.items) c.args.history.now c.add_phase.new.self parts.journals.items parts.stashes.items parts.keys.items
+      reconciled g.N.PhaseName.initial g.N.PhaseName.workers c.args.self is_open receipts c.requires e.finished (map state_of c.close_kept-given.result.0.items) c.args.history.now c.add_phase_kept.new.self parts.journals.items parts.stashes.items parts.keys.items
       parts.counters.items parts.slices.items e.parts same h.added h.lawful c.close_kept-given.ensures.closed (map state_of c.reconciled-shards.result) c.reconciled-shards.ensures
 
 pub invariant_of-state : goal.invariant_of-state
@@ -112,15 +112,18 @@ returns-clause-leaves g c =
     (c.self.inside.phase + 1) parts.stashes.items (ap (λ (f : FloorState). f.phase + 1) c.self.view_is) e.parts.stashes_are
 
 pub returns-clause-history : goal.returns-clause-history
-returns-clause-history g c = added_front c.args.history.now c.add_phase.new.self c.in_ok-journals.field-0.journals.items c.in_ok-add_phase.ensures.added
+returns-clause-history g c = added_front c.args.history.now c.add_phase_kept.new.self c.in_ok-journals.field-0.journals.items c.in_ok-add_phase_kept.ensures.added
 
 pub returns-clause-last : goal.returns-clause-last
-returns-clause-last g c = last_merged c.args.history.now c.add_phase.new.self c.in_ok-journals.field-0.journals.items c.in_ok-add_phase.ensures.added
+returns-clause-last g c = last_merged c.args.history.now c.add_phase_kept.new.self c.in_ok-journals.field-0.journals.items c.in_ok-add_phase_kept.ensures.added
 
 pub returns-in_err-journals-clause-history : goal.returns-in_err-journals-clause-history
 returns-in_err-journals-clause-history g c = nothing_added c.args.history.now.entries
 
-pub returns-in_err-add_phase-clause-history : goal.returns-in_err-add_phase-clause-history
-returns-in_err-add_phase-clause-history g c =
-    let old = c.args.history.now.entries in let same = ap (λ (h : HistoryView). h.entries) c.in_err-add_phase.ensures.refused in
+pub returns-in_err-reserve-clause-history : goal.returns-in_err-reserve-clause-history
+returns-in_err-reserve-clause-history g c = nothing_added c.args.history.now.entries
+
+pub returns-in_err-add_phase_kept-clause-history : goal.returns-in_err-add_phase_kept-clause-history
+returns-in_err-add_phase_kept-clause-history g c =
+    let old = c.args.history.now.entries in let same = ap (λ (h : HistoryView). h.entries) c.in_err-add_phase_kept.ensures.refused in
     same ∙ nothing_added old ∙ ap (λ new. old ++ added old new) (sym same)

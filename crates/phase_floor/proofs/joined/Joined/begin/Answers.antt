@@ -49,7 +49,7 @@ new_kits-requires-clause-few g c =
     subst (λ n. n ≤ 16) (ap (λ (s : JoinedState). length s.counters) c.self.view_is ∙ c.requires.can.workers ∙ sym c.requires.can.quotas) c.self.invariant.few_workers
 
 pub open-requires-clause-opening : goal.open-requires-clause-opening
-open-requires-clause-opening g c = ap (map state_of) c.into_vec.ensures ∙ ap states_of c.self.view_is ∙ c.requires.can.shards
+open-requires-clause-opening g c = ap (map state_of) c.into_vec-shards.ensures ∙ ap states_of c.self.view_is ∙ c.requires.can.shards
 
 pub open-requires-clause-few : goal.open-requires-clause-few
 open-requires-clause-few g c =
@@ -66,24 +66,27 @@ pub give-permits-requires-clause-keys : goal.give-permits-requires-clause-keys
 give-permits-requires-clause-keys g c = c.in-Ok-open.ensures.keys
 
 pub give-permits-requires-clause-lens : goal.give-permits-requires-clause-lens
-give-permits-requires-clause-lens g c = (c.in-Ok.ensures.len ∙ c.requires.can.quotas, c.requires.stashes, c.requires.can.quotas)
+give-permits-requires-clause-lens g c = (c.in-Ok-new_kits.ensures.len ∙ c.requires.can.quotas, c.requires.stashes, c.requires.can.quotas)
 
 pub give-permits-requires-clause-kits : goal.give-permits-requires-clause-kits
 give-permits-requires-clause-kits g c =
-    subst (λ n. AreKits c.self.inside.phase c.args.stocks.items c.args.stashes.items c.args.quotas.now n c.in-Ok.kits.items) c.requires.can.quotas
-    (subst (λ (stashes : List StashState). AreKits c.self.inside.phase c.args.stocks.items stashes c.args.quotas.now (length c.args.quotas.now) c.in-Ok.kits.items) c.deref.ensures.value c.in-Ok.ensures.each)
+    subst (λ n. AreKits c.self.inside.phase c.args.stocks.items c.args.stashes.items c.args.quotas.now n c.in-Ok-new_kits.kits.items) c.requires.can.quotas
+    (subst (λ (stashes : List StashState). AreKits c.self.inside.phase c.args.stocks.items stashes c.args.quotas.now (length c.args.quotas.now) c.in-Ok-new_kits.kits.items) c.deref.ensures.value c.in-Ok-new_kits.ensures.each)
 
 pub from_vec-requires : goal.from_vec-requires
-from_vec-requires g c = subst AreOfOne (ap (map state_of) (sym (ap (λ shards. shards.items) c.in-Err.ensures.err ∙ c.into_vec.ensures))) (one_of_kept c.self.inside.opening c.self.inside.limit _ _ c.self.invariant)
+from_vec-requires g c = subst AreOfOne (ap (map state_of) (sym (ap (λ shards. shards.items) c.in-Err.ensures.err ∙ c.into_vec-shards.ensures))) (one_of_kept c.self.inside.opening c.self.inside.limit _ _ c.self.invariant)
 
 pub invariant_of-state : goal.invariant_of-state
-invariant_of-state g c =
+invariant_of-state g c = c.self.invariant
+
+pub invariant_of-state-in-Err : goal.invariant_of-state-in-Err
+invariant_of-state-in-Err g c =
     subst (λ (states : List ShardState). IsKept c.self.inside.opening c.self.inside.limit states c.self.inside.counters.items)
-    (ap (map state_of) (sym (c.from_vec.ensures ∙ ap (λ shards. shards.items) c.in-Err.ensures.err ∙ c.into_vec.ensures))) c.self.invariant
+    (ap (map state_of) (sym (c.from_vec.ensures ∙ ap (λ shards. shards.items) c.in-Err.ensures.err ∙ c.into_vec-shards.ensures))) c.self.invariant
 
 pub returns-in-Err-clause-refused : goal.returns-in-Err-clause-refused
 returns-in-Err-clause-refused g c = (
-  ap (λ shards. joined_of c.self.inside.opening c.self.inside.limit c.self.inside.phase shards c.self.inside.counters.items) (c.from_vec.ensures ∙ ap (λ shards. shards.items) c.in-Err.ensures.err ∙ c.into_vec.ensures)
+  ap (λ shards. joined_of c.self.inside.opening c.self.inside.limit c.self.inside.phase shards c.self.inside.counters.items) (c.from_vec.ensures ∙ ap (λ shards. shards.items) c.in-Err.ensures.err ∙ c.into_vec-shards.ensures)
       ∙ c.self.view_is,
   refl,
 )
@@ -99,3 +102,6 @@ returns-in-Ok-open-clause-begun g c = record {
 
 pub give-permits-requires-clause-rooms : goal.give-permits-requires-clause-rooms
 give-permits-requires-clause-rooms g c = c.requires.given.rooms
+
+pub returns-in_default-new_kits-clause-refused : goal.returns-in_default-new_kits-clause-refused
+returns-in_default-new_kits-clause-refused g c = (c.self.view_is, refl)

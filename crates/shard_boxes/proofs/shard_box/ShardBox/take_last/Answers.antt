@@ -8,18 +8,18 @@ use Rattle.shard_boxes.proofs.BoxSteps.{takes, learns_full}
 use Rattle.shard_boxes.proofs.shard_box.ShardBox.take_last.Goals as goal
 
 pub take_as-requires-clause-rule : goal.take_as-requires-clause-rule
-take_as-requires-clause-rule g c =
+take_as-requires-clause-rule c =
     let knows = ap (λ (l : GrantState). l.knows) c.grant.view_is in
     let all = subst SpeaksForAll (sym knows) c.requires.all in
     (takes _ _ all.some, learns_full _ _ all (ap (λ (v : Knowledge). v.holds) knows ∙ c.requires.free))
 
 pub take_as-requires-clause-cell : goal.take_as-requires-clause-cell
-take_as-requires-clause-cell g c = ap (λ (l : GrantState). l.box_id) c.grant.view_is ∙ c.requires.place ∙ sym c.self.view_is
+take_as-requires-clause-cell c = ap (λ (l : GrantState). l.box_id) c.grant.view_is ∙ c.requires.place ∙ sym c.self.view_is
 
 pub returns-clause-taken : goal.returns-clause-taken
-returns-clause-taken g c = subst (λ (v : Knowledge). TakenBy v c.in-Some.shard (view c.take_as.new.pass)) (ap (λ (l : GrantState). l.knows) c.grant.view_is) c.in-Some.ensures.rule
+returns-clause-taken c = subst (λ (v : Knowledge). TakenBy v c.in-Some.shard (view c.take_as.new.pass)) (ap (λ (l : GrantState). l.knows) c.grant.view_is) c.in-Some.ensures.rule
 
 pub unreachable-requires : goal.unreachable-requires
-unreachable-requires g c =
+unreachable-requires c =
     let none = c.in-None.ensures.rule.1 in
     none.2 (nil_from_length none.0 none.1)

@@ -1,4 +1,4 @@
-use Rattle.std.proofs.Common.{◌≡◌, ◌<◌, ◌+◌, ◌∷◌, ◌++◌, ◌∙◌, [], ap, arith, length, min, subst, sym}
+use Rattle.std.proofs.Common.{◌<◌, ◌+◌, ◌∷◌, ◌++◌, ◌∙◌, [], ap, arith, length, min, subst, sym}
 use Rattle.worker_journals.specs.HeadLists.{HeadList, heads_of}
 use Rattle.worker_journals.proofs.HeadListLemmas.{as_many, one_more_head}
 use Rattle.worker_journals.proofs.head_list.Heads.push.Goals as goal

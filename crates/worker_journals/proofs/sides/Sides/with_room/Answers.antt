@@ -1,13 +1,5 @@
-use Rattle.std.proofs.Common.{◌≡◌, ℕ, ◌*◌, ◌-◌, ◌^◌, ◌≤◌, ◌<◌, min, arith}
-use Rattle.request_scripts.specs.ShortRequests.{HasListRoom}
+use Rattle.worker_journals.proofs.KeptLemmas.{one_each, ten_each}
 use Rattle.worker_journals.proofs.sides.Sides.with_room.Goals as goal
-
-one_each : (len capacity room : ℕ) → len ≡ 0 → room ≤ capacity → HasListRoom room len capacity
-one_each len capacity room empty has = omega (arith, empty, has)
-
--- more than any capacity was not asked for
-ten_each : (len capacity room shown : ℕ) → len ≡ 0 → shown ≤ capacity → shown ≡ min (room * 10) (2 ^ 64 - 1) → capacity < 2 ^ 63 → HasListRoom (10 * room) len capacity
-ten_each len capacity room shown empty has is small = omega (arith, empty, has, is, small)
 
 pub invariant_of-result : goal.invariant_of-result
 invariant_of-result c =

@@ -1,7 +1,7 @@
 use Rattle.std.proofs.Common.{sym, subst}
 use Rattle.worker_journals.specs.Rising.{IsRising}
 use Rattle.worker_journals.proofs.GrowthLemmas.{closed_kept, closed_shown}
-use Rattle.worker_journals.proofs.journal.Journal.close.Goals as goal
+use Rattle.worker_journals.proofs.journal.Journal.close_kept.Goals as goal
 
 pub invariant_of-self : goal.invariant_of-self
 invariant_of-self c =

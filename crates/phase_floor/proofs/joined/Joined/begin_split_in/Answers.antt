@@ -9,9 +9,9 @@ use Rattle.phase_floor.specs.Begins.{HaveStashRoom, IsTooLong}
 use Rattle.phase_floor.specs.Floors.{AreBegun}
 use Rattle.phase_floor.specs.States.{JoinedState, DoAllExist, states_of}
 use Rattle.phase_floor.proofs.BeginLemmas.{fits, not_too_long, own_stashes, split_memory, split_too_long, split_unknown, too_long}
-use Rattle.phase_floor.proofs.joined.Joined.begin_split.Given as given
-use Rattle.phase_floor.proofs.joined.Joined.begin_split.Goals as goal
-use Rattle.phase_floor.proofs.joined.Joined.begin_split.Goals.{After-stocks_of}
+use Rattle.phase_floor.proofs.joined.Joined.begin_split_in.Given as given
+use Rattle.phase_floor.proofs.joined.Joined.begin_split_in.Goals as goal
+use Rattle.phase_floor.proofs.joined.Joined.begin_split_in.Goals.{After-stocks_of}
 
 module _ (g : given.Over) (c : After-stocks_of g) where
   -- the hot objects exist

@@ -6,7 +6,7 @@ use Rattle.worker_journals.specs.Journals.{IsLawfulJournal, closed_journal}
 use Rattle.worker_journals.specs.Merged.{entry_count}
 use Rattle.worker_journals.specs.Histories.{ArePhase, IsHistory, journals_of}
 use Rattle.worker_journals.proofs.HistoryLemmas.{history_after, kept_after}
-use Rattle.worker_journals.proofs.history.History.add_phase.Goals as goal
+use Rattle.worker_journals.proofs.history.History.add_phase_kept.Goals as goal
 
 pub invariant_of-self : goal.invariant_of-self
 invariant_of-self c =
@@ -19,9 +19,9 @@ invariant_of-self-2 c =
     let lawful = subst (AllByRecursion IsLawfulJournal) c.deref.ensures.value (rw c.in_ok-count.ensures.ok_part at c.count_of.ensures.lawful) in
     let are : ArePhase c.args.journals.items = record { few = omega (arith, c.requires.few, c.args.journals.ok.0); by_worker = c.requires.by_worker; lawful = lawful } in
     let same : length c.close_all.new.journals ≡ c.args.journals.len =
-    omega (arith, ap length c.close_all.ensures, length-map c.deref_mut.result.now closed_journal, c.deref_mut.ensures.len) in
+    omega (arith, ap length c.in_ok-close_all.ensures, length-map c.deref_mut.result.now closed_journal, c.deref_mut.ensures.len) in
     let has = with_items_is c.args.journals c.close_all.new.journals same in
-    let closed = c.close_all.ensures ∙ ap (map closed_journal) c.deref_mut.ensures.value in
+    let closed = c.in_ok-close_all.ensures ∙ ap (map closed_journal) c.deref_mut.ensures.value in
     let counted : c.in_ok-count.count ≡ entry_count c.args.journals.items =
     rw c.in_ok-count.ensures.ok_part at c.count_of.ensures.count ∙ ap entry_count c.deref.ensures.value in
     let sum = rw c.in_ok-len.ensures.ok_part at c.checked_add.ensures in
@@ -35,8 +35,8 @@ returns-clause-added c =
     let lawful = subst (AllByRecursion IsLawfulJournal) c.deref.ensures.value (rw c.in_ok-count.ensures.ok_part at c.count_of.ensures.lawful) in
     let are : ArePhase c.args.journals.items = record { few = omega (arith, c.requires.few, c.args.journals.ok.0); by_worker = c.requires.by_worker; lawful = lawful } in
     let same : length c.close_all.new.journals ≡ c.args.journals.len =
-    omega (arith, ap length c.close_all.ensures, length-map c.deref_mut.result.now closed_journal, c.deref_mut.ensures.len) in
+    omega (arith, ap length c.in_ok-close_all.ensures, length-map c.deref_mut.result.now closed_journal, c.deref_mut.ensures.len) in
     let has = with_items_is c.args.journals c.close_all.new.journals same in
-    let closed = c.close_all.ensures ∙ ap (map closed_journal) c.deref_mut.ensures.value in
+    let closed = c.in_ok-close_all.ensures ∙ ap (map closed_journal) c.deref_mut.ensures.value in
     history_after h.phases.items c.push.new.self.items h.len c.in_ok-count.count c.args.journals.items c.close_all.new.journals (with_items c.args.journals c.close_all.new.journals) c.self.invariant are closed has
     c.in_ok-push.ensures.items c.args.self.now c.self.view_is
