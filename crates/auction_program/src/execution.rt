@@ -13,7 +13,7 @@ ghost use Rattle.auction_program.specs.Report.{AreViews, IsEnd};
 
 use crate::texts::{report_lines, write_texts};
 use auction_rows::{Object, Opening};
-use auction_run::{FreeGate, Outcome, WindowBoard, run_compact, run_compact_shown};
+use auction_run::{FreeGate, Outcome, WindowBoard, run, run_shown};
 use auction_text::{ReportLines, read_scripts_by_threads};
 use auction_window::{PhaseLog, Publisher, Told, Window, WindowName};
 use indexmap::IndexSet;
@@ -104,7 +104,7 @@ pub fn perform<R: Threads + Wait + Sync>(
     if options.report {
         return perform_watched::<Brand, R>(rt, alloc, PhaseLog::new(), book, scripts, options);
     }
-    let outcome = run_compact(rt, alloc, book, scripts, options.policy(), &FreeGate)?;
+    let outcome = run(rt, alloc, book, scripts, options.policy(), &FreeGate)?;
     Ok(told_of(outcome, None))
 }
 
@@ -156,7 +156,7 @@ fn watch<J: WindowName, R: Threads + Wait + Sync>(
     ensures cause { IfErr result (λ fault.
         IsNotPerformed options.now fault (opened.rows_of_book book.now) scripts.items) }
 {
-    let outcome = run_compact_shown(rt, alloc, book, scripts, options.policy(), &FreeGate, board)?;
+    let outcome = run_shown(rt, alloc, book, scripts, options.policy(), &FreeGate, board)?;
     let told = board.told.take();
     let lines = last_lines(alloc, told, window, &outcome.state, options.opening());
     Ok(told_of(outcome, lines))

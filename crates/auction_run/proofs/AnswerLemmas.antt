@@ -33,7 +33,7 @@ on_ok (Err fault) p = tt
 
 module _ (opening : Opening) (rows : Book) (policy : Policy) (scripts : List (List Request)) where
   -- the four hold that are checked
-  abbrev pub all : Type 0
+  abbrev all : Type 0
   all = HaveWorkers rows scripts × (HasShards policy × (HasQuotas policy × AreShort rows scripts))
 
   -- the fault is that of the first of the four that doesn't hold

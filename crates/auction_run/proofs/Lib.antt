@@ -1,4 +1,3 @@
-pub mod CheckLemmas
 pub mod GoingOnLemmas
 pub mod AnswerLemmas
 pub mod PartLemmas

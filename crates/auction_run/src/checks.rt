@@ -1,17 +1,18 @@
 //! What is checked before a run begins, and why a run that goes on stops.
-ghost use Rattle.std.specs.Prelude.{◌≡◌, ◌↔◌, ◌<◌, ◌≤◌, ℕ, length, map, slice_index, IsTrue, OnOk};
+ghost use Rattle.std.specs.Prelude.{◌≡◌, ◌↔◌, ◌<◌, ◌≤◌, ℕ, length, slice_index, IsTrue, OnOk};
 ghost use Rattle.item_shards.specs.OpeningBooks.{rows_of_book};
 ghost use Rattle.item_shards.specs.OpeningRows.{rows_by};
+ghost use Rattle.run_laws.specs.Serving.{script_of};
 ghost use Rattle.run_phases.specs.Beginning.{HaveWorkers, HasShards, HasQuotas, AreShort};
 ghost use Rattle.auction_run.specs.Checks.{IsFirstToFail};
 ghost use Rattle.auction_run.specs.GoingOn.{AreShortOn, HasScripts, IsCheckedOn, IsShortOn};
 
-use auction_rows::{MOST_HOT, MOST_OF_A_WORKER, MOST_SHARDS, MOST_WORKERS, Policy, Request, Row};
+use crate::scripts::Scripts;
+use auction_rows::{MOST_HOT, MOST_OF_A_WORKER, MOST_SHARDS, MOST_WORKERS, Policy, Row};
 use item_shards::OpeningBook;
 use phase_floor::Joined;
 use run_phases::RunFault;
 use std::alloc::AllocError;
-use worker_journals::Script;
 
 /// Why a run that goes on from a state gives no outcome.
 #[derive(Drop)]
@@ -45,44 +46,15 @@ impl From<RunFault> for Stopped {
     }
 }
 
-/// The requests of a script, however they are kept.
-pub(crate) trait Requests {
-    ghost use Rattle.std.specs.Prelude.{List};
-    ghost use Rattle.auction_rows.specs.declared.requests.Request.{Request as Asked};
-
-    /// The requests that it has, in order.
-    ghost asked: { Self → List Asked };
-
-    /// How many there are.
-    fn count(&self) -> usize
-        ensures { result ≡ length (asked self.now) };
-}
-
-impl Requests for Script {
-    ghost asked = { λ script. script };
-
-    fn count(&self) -> usize {
-        self.len()
-    }
-}
-
-impl Requests for Vec<Request> {
-    ghost asked = { λ script. script.items };
-
-    fn count(&self) -> usize {
-        self.len()
-    }
-}
-
 /// Checks what a run is handed: the fault is that of the first that doesn't hold.
-pub(crate) fn check<S: Requests>(
+pub(crate) fn check<S: Scripts>(
     book: &OpeningBook,
-    scripts: &[S],
+    scripts: &S,
     policy: Policy,
 ) -> Result<(), RunFault>
-    ensures { IsFirstToFail result (HaveWorkers (rows_of_book book.now) (map S.asked scripts.now))
+    ensures { IsFirstToFail result (HaveWorkers (rows_of_book book.now) (S.asked scripts.now))
         (HasShards policy) (HasQuotas policy)
-        (AreShort (rows_of_book book.now) (map S.asked scripts.now)) }
+        (AreShort (rows_of_book book.now) (S.asked scripts.now)) }
 {
     if !have_workers(book.rows(), scripts) {
         return Err(RunFault::Workers);
@@ -101,13 +73,13 @@ pub(crate) fn check<S: Requests>(
 
 /// Checks what a run that goes on from a state is handed: the fault is that of the first that
 /// doesn't hold.
-pub(crate) fn check_on<S: Requests>(
+pub(crate) fn check_on<S: Scripts>(
     state: &Joined,
-    scripts: &[S],
+    scripts: &S,
     policy: Policy,
 ) -> Result<(), RunFault>
-    ensures checked { IsCheckedOn result state.now policy (map S.asked scripts.now) }
-    ensures few { OnOk result (length (map S.asked scripts.now) ≤ MOST_WORKERS) }
+    ensures checked { IsCheckedOn result state.now policy (S.asked scripts.now) }
+    ensures few { OnOk result (length (S.asked scripts.now) ≤ MOST_WORKERS) }
 {
     if !has_scripts(state, scripts) {
         return Err(RunFault::Workers);
@@ -125,21 +97,21 @@ pub(crate) fn check_on<S: Requests>(
 }
 
 // Whether there is a script for each worker of a state.
-fn has_scripts<S: Requests>(state: &Joined, scripts: &[S]) -> bool
-    ensures are { IsTrue result ↔ HasScripts state.now (map S.asked scripts.now) }
-    ensures few { IsTrue result → length (map S.asked scripts.now) ≤ MOST_WORKERS }
+fn has_scripts<S: Scripts>(state: &Joined, scripts: &S) -> bool
+    ensures are { IsTrue result ↔ HasScripts state.now (S.asked scripts.now) }
+    ensures few { IsTrue result → length (S.asked scripts.now) ≤ MOST_WORKERS }
 {
-    scripts.len() == state.workers() as usize
+    scripts.workers() == state.workers() as usize
 }
 
 // Whether no script has more than 1,000,000 requests, and none with its worker's rows more than the
 // state's limit.
-fn are_short_on<S: Requests>(state: &Joined, scripts: &[S]) -> bool
-    requires { HasScripts state.now (map S.asked scripts.now) }
-    ensures { IsTrue result ↔ AreShortOn state.now (map S.asked scripts.now) }
+fn are_short_on<S: Scripts>(state: &Joined, scripts: &S) -> bool
+    requires { HasScripts state.now (S.asked scripts.now) }
+    ensures { IsTrue result ↔ AreShortOn state.now (S.asked scripts.now) }
 {
-    for worker in 0..scripts.len() {
-        if !is_short_on(state, worker, &scripts[worker]) {
+    for worker in 0..scripts.workers() {
+        if !is_short_on(state, scripts, worker) {
             return false;
         }
     }
@@ -148,20 +120,20 @@ fn are_short_on<S: Requests>(state: &Joined, scripts: &[S]) -> bool
 
 // Whether a worker's script has no more than 1,000,000 requests, and with its rows no more than the
 // state's limit.
-fn is_short_on<S: Requests>(state: &Joined, worker: usize, script: &S) -> bool
+fn is_short_on<S: Scripts>(state: &Joined, scripts: &S, worker: usize) -> bool
     requires { worker < length state.now.counters }
-    ensures { IsTrue result ↔ IsShortOn state.now worker (S.asked script.now) }
+    ensures { IsTrue result ↔ IsShortOn state.now worker (script_of (S.asked scripts.now) worker) }
 {
     let stored = u64::from(state.stored_by(worker));
-    let asked = script.count() as u64;
+    let asked = scripts.requests_of(worker) as u64;
     asked <= MOST_OF_A_WORKER && stored + asked <= state.limit()
 }
 
 // Whether there are 1 to 16 scripts, and each row is of a worker that has one.
-fn have_workers<S: Requests>(rows: &[Row], scripts: &[S]) -> bool
-    ensures { IsTrue result ↔ HaveWorkers rows.now (map S.asked scripts.now) }
+fn have_workers<S: Scripts>(rows: &[Row], scripts: &S) -> bool
+    ensures { IsTrue result ↔ HaveWorkers rows.now (S.asked scripts.now) }
 {
-    let workers = scripts.len();
+    let workers = scripts.workers();
     if workers == 0 || workers > MOST_WORKERS {
         return false;
     }
@@ -186,13 +158,13 @@ fn has_quotas(policy: Policy) -> bool
 }
 
 // Whether no worker's rows and script have more than 1,000,000 together.
-fn are_short<S: Requests>(book: &OpeningBook, scripts: &[S]) -> bool
-    requires { length scripts.now ≤ MOST_WORKERS }
-    ensures { IsTrue result ↔ AreShort (rows_of_book book.now) (map S.asked scripts.now) }
+fn are_short<S: Scripts>(book: &OpeningBook, scripts: &S) -> bool
+    requires { length (S.asked scripts.now) ≤ MOST_WORKERS }
+    ensures { IsTrue result ↔ AreShort (rows_of_book book.now) (S.asked scripts.now) }
 {
     let counts = rows_by_each(book.rows());
-    for worker in 0..scripts.len() {
-        if scripts[worker].count() > MOST_OF_A_WORKER as usize - counts[worker] {
+    for worker in 0..scripts.workers() {
+        if scripts.requests_of(worker) > MOST_OF_A_WORKER as usize - counts[worker] {
             return false;
         }
     }

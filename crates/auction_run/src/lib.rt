@@ -4,12 +4,14 @@
 mod checks;
 mod parts;
 mod runs;
+mod scripts;
 
 pub use auction_rows::Policy;
 pub use checks::Stopped;
 pub use hot_choice::{choose_hot, choose_hot_after};
-pub use parts::{parts_replay, run_compact_on, run_compact_on_shown, run_on, run_on_shown};
+pub use parts::{parts_replay, run_on, run_on_shown};
 pub use phase_workers::{FreeGate, Gate};
 pub use run_phases::{Board, NoBoard, Outcome, RunFault, WindowBoard};
-pub use runs::{run, run_compact, run_compact_shown, run_shown};
+pub use runs::{run, run_shown};
+pub use scripts::Scripts;
 pub use worker_journals::Script;

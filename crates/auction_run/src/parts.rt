@@ -7,21 +7,19 @@ ghost use Rattle.auction_rows.specs.Book.{Book};
 ghost use Rattle.auction_rows.specs.History.{book_after, ReplaysFrom};
 ghost use Rattle.auction_rows.specs.declared.limits.TheConstants.{MOST_WORKERS};
 ghost use Rattle.phase_floor.specs.States.{IsBookOf, JoinedState};
-ghost use Rattle.run_laws.specs.Serving.{lists};
 ghost use Rattle.run_phases.specs.Boards.{IsUpToDate};
 ghost use Rattle.auction_run.specs.GoingOn.{AnswersNextRun, GivesBack, HasShownFirstNext, HasShownNext, IsReadyFor};
 ghost use Rattle.auction_run.specs.Parts.{ArePartsFrom, HaveLeft, book_after_parts, history_of};
 
 use crate::checks::{Stopped, check_on};
-use crate::runs::compact_scripts;
-use auction_rows::{Policy, Request};
+use crate::scripts::Scripts;
+use auction_rows::Policy;
 use phase_floor::Joined;
 use phase_workers::Gate;
 use run_phases::{Board, NoBoard, Outcome, Workload, run_from};
 use std::alloc::Global;
 use std::sync::Wait;
 use std::thread::Threads;
-use worker_journals::Script;
 
 /// Goes on from a state that a run left, or with which an auction was resumed: performs scripts of
 /// its workers as `run` does. The history is that of these scripts, and replays from each book of
@@ -30,15 +28,15 @@ use worker_journals::Script;
 /// with its worker's rows more than the state's limit: 1,000,000, or `MOST_COMMITS` if it lasts.
 /// The first four faults are found first, in their order, exactly for their causes, and give the
 /// state back as it was; after another it is gone.
-pub fn run_on<R: Threads + Wait + Sync, G: Gate + Sync>(
+pub fn run_on<R: Threads + Wait + Sync, G: Gate + Sync, S: Scripts>(
     rt: &R,
     alloc: Global,
     state: Joined,
-    scripts: Vec<Vec<Request>>,
+    scripts: S,
     policy: Policy,
     gate: &G,
 ) -> Result<Outcome, Stopped>
-    ensures { AnswersNextRun state policy (lists scripts.items) result }
+    ensures { AnswersNextRun state policy (S.asked scripts) result }
 {
     run_on_shown(rt, alloc, state, scripts, policy, gate, &mut NoBoard)
 }
@@ -49,77 +47,33 @@ pub fn run_on<R: Threads + Wait + Sync, G: Gate + Sync>(
 /// `Memory`. After a fault it has the phases that it was given, which are the first ones of such a
 /// run; it may have refused one more. If the state is given back, the board is as it was, so it is
 /// up to date with it and can be shown another run.
-pub fn run_on_shown<R: Threads + Wait + Sync, G: Gate + Sync, B: Board>(
+pub fn run_on_shown<R: Threads + Wait + Sync, G: Gate + Sync, B: Board, S: Scripts>(
     rt: &R,
     alloc: Global,
     state: Joined,
-    scripts: Vec<Vec<Request>>,
+    scripts: S,
     policy: Policy,
     gate: &G,
     board: &mut B,
 ) -> Result<Outcome, Stopped>
     requires { B.can_be_watched → IsUpToDate B.has board.old state }
-    ensures answer { AnswersNextRun state policy (lists scripts.items) result }
+    ensures answer { AnswersNextRun state policy (S.asked scripts) result }
     ensures board { IfOk result (HasShownNext B.has state board.old board.new) }
     ensures up_to_date { IfOk result (λ outcome.
         IsUpToDate B.has board.old state → IsUpToDate B.has board.new outcome.state) }
     ensures board_after_fault { IfErr result (HasShownFirstNext B.has B.has_refused state policy
-        (lists scripts.items) board.old board.new) }
+        (S.asked scripts) board.old board.new) }
     ensures untouched { IfErr result (λ stopped. GivesBack stopped → board.new ≡ board.old) }
 {
-    if let Err(fault) = check_on(&state, scripts.as_slice(), policy) {
+    if let Err(fault) = check_on(&state, &scripts, policy) {
         return Err(Stopped::Refused(state, fault));
     }
-    let compact = compact_scripts(alloc, scripts)?;
+    let compact = scripts.into_compact(alloc)?;
     let work = Workload {
         scripts: compact.as_slice(),
         policy,
         gate,
     };
-    run_on_checked(rt, alloc, state, work, board)
-}
-
-/// The same of compact scripts: `run_on` copies its lists of requests to such.
-pub fn run_compact_on<R: Threads + Wait + Sync, G: Gate + Sync>(
-    rt: &R,
-    alloc: Global,
-    state: Joined,
-    scripts: Vec<Script>,
-    policy: Policy,
-    gate: &G,
-) -> Result<Outcome, Stopped>
-    ensures { AnswersNextRun state policy scripts.items result }
-{
-    run_compact_on_shown(rt, alloc, state, scripts, policy, gate, &mut NoBoard)
-}
-
-/// The same of compact scripts, with a board as `run_on_shown` has it.
-pub fn run_compact_on_shown<R: Threads + Wait + Sync, G: Gate + Sync, B: Board>(
-    rt: &R,
-    alloc: Global,
-    state: Joined,
-    scripts: Vec<Script>,
-    policy: Policy,
-    gate: &G,
-    board: &mut B,
-) -> Result<Outcome, Stopped>
-    requires { B.can_be_watched → IsUpToDate B.has board.old state }
-    ensures answer { AnswersNextRun state policy scripts.items result }
-    ensures board { IfOk result (HasShownNext B.has state board.old board.new) }
-    ensures up_to_date { IfOk result (λ outcome.
-        IsUpToDate B.has board.old state → IsUpToDate B.has board.new outcome.state) }
-    ensures board_after_fault { IfErr result (HasShownFirstNext B.has B.has_refused state policy
-        scripts.items board.old board.new) }
-    ensures untouched { IfErr result (λ stopped. GivesBack stopped → board.new ≡ board.old) }
-{
-    let work = Workload {
-        scripts: scripts.as_slice(),
-        policy,
-        gate,
-    };
-    if let Err(fault) = check_on(&state, work.scripts, policy) {
-        return Err(Stopped::Refused(state, fault));
-    }
     run_on_checked(rt, alloc, state, work, board)
 }
 

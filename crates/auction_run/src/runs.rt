@@ -1,6 +1,5 @@
 //! A run from an opening book on.
 ghost use Rattle.std.specs.Prelude.{◌≡◌, [], IfOk, IfErr};
-ghost use Rattle.run_laws.specs.Serving.{lists};
 ghost use Rattle.item_shards.specs.OpeningBooks.{opening_of, rows_of_book};
 ghost use Rattle.run_phases.specs.Beginning.{AreShort, HasShards, HasQuotas, HaveWorkers};
 ghost use Rattle.run_phases.specs.Boards.{IsUpToDate};
@@ -8,15 +7,15 @@ ghost use Rattle.auction_run.specs.Checks.{IsFoundFirst};
 ghost use Rattle.auction_run.specs.Runs.{AnswersRun, HasShownAll, HasShownFirst};
 
 use crate::checks::check;
-use auction_rows::{Policy, Request};
+use crate::scripts::Scripts;
+use auction_rows::Policy;
 use item_shards::OpeningBook;
 use phase_floor::Joined;
 use phase_workers::Gate;
 use run_phases::{Board, NoBoard, Outcome, RunFault, Workload, run_from};
-use std::alloc::{AllocError, Global};
+use std::alloc::Global;
 use std::sync::Wait;
 use std::thread::Threads;
-use worker_journals::Script;
 
 /// Performs the scripts of 1 to 16 workers in joined and split phases by turns, from an opening
 /// book on, each worker but the first on a thread of its own in each phase.
@@ -30,17 +29,17 @@ use worker_journals::Script;
 /// only if there is a thread to start, `NumberFull` only of a worker that met the end of commit
 /// numbers; a fault gives no part of a history. No clause says when memory is refused, nor which of
 /// several faults of a phase is told: it is `Spawn` before that of the least worker, and this
-/// before that of the close. The state left can be gone on with, by `run_on`. Each script is copied
-/// to a `Script`, of 32 bytes per request, and then let go.
-pub fn run<R: Threads + Wait + Sync, G: Gate + Sync>(
+/// before that of the close. The state left can be gone on with, by `run_on`. A list of requests is
+/// copied to a `Script`, of 32 bytes per request, and then let go.
+pub fn run<R: Threads + Wait + Sync, G: Gate + Sync, S: Scripts>(
     rt: &R,
     alloc: Global,
     book: &OpeningBook,
-    scripts: Vec<Vec<Request>>,
+    scripts: S,
     policy: Policy,
     gate: &G,
 ) -> Result<Outcome, RunFault>
-    ensures { AnswersRun (opening_of book.now) (rows_of_book book.now) policy (lists scripts.items)
+    ensures { AnswersRun (opening_of book.now) (rows_of_book book.now) policy (S.asked scripts)
         result }
 {
     run_shown(rt, alloc, book, scripts, policy, gate, &mut NoBoard)
@@ -50,76 +49,32 @@ pub fn run<R: Threads + Wait + Sync, G: Gate + Sync>(
 /// board that errs ends it with `Memory`, after the faults of the phase itself. After a fault the
 /// board has the phases that it was given, which are the first ones of such a run; it may have
 /// refused one more. After one of the first four it is as it was, and can be shown another run.
-pub fn run_shown<R: Threads + Wait + Sync, G: Gate + Sync, B: Board>(
+pub fn run_shown<R: Threads + Wait + Sync, G: Gate + Sync, B: Board, S: Scripts>(
     rt: &R,
     alloc: Global,
     book: &OpeningBook,
-    scripts: Vec<Vec<Request>>,
+    scripts: S,
     policy: Policy,
     gate: &G,
     board: &mut B,
 ) -> Result<Outcome, RunFault>
     requires { B.has board.old (opening_of book.now) (rows_of_book book.now) [] }
     ensures answer { AnswersRun (opening_of book.now) (rows_of_book book.now) policy
-        (lists scripts.items) result }
+        (S.asked scripts) result }
     ensures board { IfOk result
         (HasShownAll B.has (opening_of book.now) (rows_of_book book.now) board.new) }
     ensures up_to_date { IfOk result (λ outcome. IsUpToDate B.has board.new outcome.state) }
     ensures board_after_fault { IfErr result (HasShownFirst B.has B.has_refused
-        (opening_of book.now) (rows_of_book book.now) policy (lists scripts.items) board.new) }
+        (opening_of book.now) (rows_of_book book.now) policy (S.asked scripts) board.new) }
     ensures untouched { IfErr result (λ fault. IsFoundFirst fault → board.new ≡ board.old) }
 {
-    check(book, scripts.as_slice(), policy)?;
-    let compact = compact_scripts(alloc, scripts)?;
+    check(book, &scripts, policy)?;
+    let compact = scripts.into_compact(alloc)?;
     let work = Workload {
         scripts: compact.as_slice(),
         policy,
         gate,
     };
-    run_checked(rt, alloc, book, work, board)
-}
-
-/// The same run, of compact scripts: `run` copies its lists of requests to such.
-pub fn run_compact<R: Threads + Wait + Sync, G: Gate + Sync>(
-    rt: &R,
-    alloc: Global,
-    book: &OpeningBook,
-    scripts: Vec<Script>,
-    policy: Policy,
-    gate: &G,
-) -> Result<Outcome, RunFault>
-    ensures { AnswersRun (opening_of book.now) (rows_of_book book.now) policy scripts.items
-        result }
-{
-    run_compact_shown(rt, alloc, book, scripts, policy, gate, &mut NoBoard)
-}
-
-/// The same run of compact scripts, with a board as `run_shown` has it.
-pub fn run_compact_shown<R: Threads + Wait + Sync, G: Gate + Sync, B: Board>(
-    rt: &R,
-    alloc: Global,
-    book: &OpeningBook,
-    scripts: Vec<Script>,
-    policy: Policy,
-    gate: &G,
-    board: &mut B,
-) -> Result<Outcome, RunFault>
-    requires { B.has board.old (opening_of book.now) (rows_of_book book.now) [] }
-    ensures answer { AnswersRun (opening_of book.now) (rows_of_book book.now) policy
-        scripts.items result }
-    ensures board { IfOk result
-        (HasShownAll B.has (opening_of book.now) (rows_of_book book.now) board.new) }
-    ensures up_to_date { IfOk result (λ outcome. IsUpToDate B.has board.new outcome.state) }
-    ensures board_after_fault { IfErr result (HasShownFirst B.has B.has_refused
-        (opening_of book.now) (rows_of_book book.now) policy scripts.items board.new) }
-    ensures untouched { IfErr result (λ fault. IsFoundFirst fault → board.new ≡ board.old) }
-{
-    let work = Workload {
-        scripts: scripts.as_slice(),
-        policy,
-        gate,
-    };
-    check(book, work.scripts, policy)?;
     run_checked(rt, alloc, book, work, board)
 }
 
@@ -147,18 +102,4 @@ fn run_checked<R: Threads + Wait + Sync, G: Gate + Sync, B: Board>(
 {
     let state = Joined::resume(alloc, book, work.scripts.len() as u32, work.policy.shards)?;
     run_from(rt, alloc, state, work, board)
-}
-
-/// The same scripts, compact, as a run performs them. Each list is let go once it is copied.
-pub(crate) fn compact_scripts(
-    alloc: Global,
-    scripts: Vec<Vec<Request>>,
-) -> Result<Vec<Script>, AllocError>
-    ensures { IfOk result (λ compact. compact.items ≡ lists scripts.items) }
-{
-    let mut compact = Vec::with_capacity(alloc, scripts.len())?;
-    for script in scripts {
-        compact.push(Script::of(alloc, &script)?)?;
-    }
-    Ok(compact)
 }

@@ -16,7 +16,7 @@ ghost use Rattle.program_serving.specs.Serving.{AreTold, OfPart, part_text};
 
 use crate::limits::take_past;
 use auction_rows::Row;
-use auction_run::{FreeGate, Outcome, RunFault, Stopped, run_compact_on};
+use auction_run::{FreeGate, Outcome, RunFault, Stopped, run_on};
 use auction_text::{
     Before, CompactInput, TextBlock, WriteFault, write_history_on, write_replies_by, write_rows,
 };
@@ -153,7 +153,7 @@ fn run_part<R: Threads + Wait + Sync>(
         BeginsAt options.now auction scripts.items book →
         AreNotRunOn options.now fault book scripts.items) }
 {
-    match run_compact_on(rt, alloc, auction, scripts, options.policy(), &FreeGate) {
+    match run_on(rt, alloc, auction, scripts, options.policy(), &FreeGate) {
         Ok(outcome) => Ok(outcome),
         Err(stopped) => Err(fault_of(stopped)),
     }

@@ -2,6 +2,11 @@
 use Rattle.std.specs.Prelude.{Option, Some, None}
 use Rattle.auction_rows.specs.declared.requests.Request.{Request}
 use Rattle.auction_rows.specs.declared.requests.Request.TheVariants.{StoreBid}
+use Rattle.request_scripts.specs.declared.script.BidRequest.{BidRequest}
+
+-- a bid that a script asks for, as a request
+abbrev pub request_of : BidRequest → Request
+request_of bid = StoreBid bid.bidder bid.item bid.amount bid.time
 
 -- a request, if it is a bid
 abbrev pub only_bid : Request → Option Request

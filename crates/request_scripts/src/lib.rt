@@ -5,6 +5,6 @@ mod script;
 mod short_request;
 mod side_index;
 
-pub use script::Script;
+pub use script::{BidRequest, Script};
 pub use short_request::{ShortRequest, keep_request};
 pub use side_index::{SideIndex, keep_one};

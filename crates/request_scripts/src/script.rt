@@ -1,15 +1,24 @@
 //! A worker's script, compact: in few bytes a request.
-ghost use Rattle.std.specs.Prelude.{◌≡◌, ◌<◌, ◌++◌, ◌∷◌, ◌==◌, [], List, Some, length, map, slice_get, vec_len, vec_capacity, IfOk, IfSome, OnOk, OnErr};
+ghost use Rattle.std.specs.Prelude.{◌≡◌, ◌<◌, ◌++◌, ◌∷◌, ◌==◌, [], List, Some, length, map, option_map, slice_get, vec_len, vec_capacity, IfOk, IfSome, OnOk, OnErr};
 ghost use Rattle.auction_rows.specs.declared.requests.Facts.{Facts as FactsKept};
 ghost use Rattle.request_scripts.specs.ShortRequests.{CanShift, HasListRoom, HaveRequests, shifted};
 
 use crate::short_request::{ShortRequest, facts_stored, keep_request};
-use auction_rows::{Facts, Request};
+use auction_rows::{Facts, ItemId, Request};
 use std::alloc::{AllocError, Global};
 use std::marker::Model;
 
 // For how many requests more a full script asks for room, at least.
 const REQUESTS_MORE: usize = 128;
+
+/// A bid that a script asks for.
+#[derive(Clone, Copy)]
+pub struct BidRequest {
+    pub bidder: u32,
+    pub item: ItemId,
+    pub amount: u64,
+    pub time: u64,
+}
 
 /// A worker's script, compact: its requests in their order, each in 32 bytes; the facts of items
 /// that they store lie in a list of their own. Contracts see the list of requests.
@@ -33,7 +42,7 @@ impl Model for Script {
 
 impl Script {
     ghost use Rattle.auction_rows.specs.declared.requests.Request.{Request as Asked};
-    ghost use Rattle.request_scripts.specs.Scripts.{only_bid};
+    ghost use Rattle.request_scripts.specs.Scripts.{only_bid, request_of};
 
     /// A script with no request.
     pub fn new(alloc: Global) -> Script
@@ -43,6 +52,16 @@ impl Script {
             requests: Vec::new(alloc),
             facts: Vec::new(alloc),
         }
+    }
+
+    /// A script with no request, with room for so many that make no item.
+    pub fn with_room(alloc: Global, requests: usize) -> Result<Script, AllocError>
+        ensures { IfOk result (λ script. script ≡ []) }
+    {
+        Ok(Script {
+            requests: Vec::with_capacity(alloc, requests)?,
+            facts: Vec::new(alloc),
+        })
     }
 
     /// The script of these requests.
@@ -114,16 +133,16 @@ impl Script {
         self.requests[place].whole(&self.facts)
     }
 
-    /// The request at a place from 0, if it is a bid: the compiler knows the kind of what is given.
+    /// The request at a place from 0, if it is a bid.
     #[inline(always)]
-    pub fn bid(&self, place: usize) -> Option<Request>
+    pub fn bid(&self, place: usize) -> Option<BidRequest>
         requires { place < length self.now }
-        ensures bid { IfSome result (λ bid. slice_get self.now place ≡ Some bid) }
+        ensures bid { IfSome result (λ bid. slice_get self.now place ≡ Some (request_of bid)) }
         ensures all { (request : Asked) → slice_get self.now place ≡ Some request →
-            result ≡ only_bid request }
+            option_map request_of result ≡ only_bid request }
     {
         match self.requests[place] {
-            ShortRequest::StoreBid(bidder, item, amount, time) => Some(Request::StoreBid {
+            ShortRequest::StoreBid(bidder, item, amount, time) => Some(BidRequest {
                 bidder,
                 item,
                 amount,

@@ -155,22 +155,6 @@ of_workers phase n (p ∷ ps) each =
           subst (λ m. IsPermitOf phase m (receipt_at ps w)) next (each (suc w) (omega (arith, less)))),
     )
 
--- a split phase has begun with the stashes that a run has: nothing waits in them
-pub begun_split : {policy : Policy} {scripts : List (List Request)} {state : JoinedState} {stashes : List StashState} {hot : List Object} {floor : FloorState} {permits : List WorkerState} →
-    MayPerform policy scripts state stashes hot → is_split state.phase ≡ true → HasBegunPhase policy scripts state [] hot floor permits → HasBegunPhase policy scripts state stashes hot floor permits
-begun_split may split begun = record {
-  opening_is = begun.opening_is;
-  limit_is = begun.limit_is;
-  phase_is = begun.phase_is;
-  counters_are = begun.counters_are;
-  hot_are = begun.hot_are;
-  quotas = begun.quotas;
-  quotas_are = begun.quotas_are;
-  handed = begun.handed;
-  handed_are = λ w. begun.handed_are w ∙ sym (may.split split w);
-  new = begun.new;
-}
-
 -- the workers can do their tasks with the boxes that the floor shows
 pub can_with : {takes : Bool} {initial : List ShardState} {floor : FloorState} {permits : List WorkerState} {scripts : List (List Request)} {phase first : ℕ} →
     CanPerform takes initial floor permits scripts phase first → {boxes : List BoxId} → boxes ≡ floor.boxes → HaveOpening initial floor.opening →

@@ -1,11 +1,10 @@
 //! One phase of a run, joined or split: how the run goes on with its scripts in it, and what it
 //! gives each worker.
-ghost use Rattle.std.specs.Prelude.{◌≡◌, ◌++◌, ◌-◌, ◌<◌, ◌^◌, ℕ, List, length, min, slice_index, IfOk, OnOk, [], false, IfErr, true};
+ghost use Rattle.std.specs.Prelude.{◌≡◌, ◌++◌, ◌-◌, ◌<◌, ◌^◌, ℕ, length, min, slice_index, not, IfOk, OnOk, IfErr};
 ghost use Rattle.run_laws.specs.Run.{first_index};
 ghost use Rattle.run_laws.specs.Serving.{script_of};
 ghost use Rattle.run_laws.specs.Phases.{is_split};
 ghost use Rattle.worker_journals.specs.Merged.{added, merged};
-ghost use Rattle.worker_slices.specs.Stashes.{StashState};
 ghost use Rattle.phase_floor.specs.declared.floor.BeginFault.TheVariants.{Memory};
 ghost use Rattle.phase_floor.specs.States.{states_of};
 ghost use Rattle.phase_workers.specs.Tasks.{tasks};
@@ -18,7 +17,7 @@ use crate::faults::RunFault;
 use auction_rows::{Object, Policy};
 use indexmap::IndexSet;
 use phase_floor::{BeginFault, Floor, Joined, JoinedFloor, SplitFloor};
-use phase_permits::{JoinedPermit, Kind, Permit, SplitPermit, Stash};
+use phase_permits::{JoinedPermit, JoinedPhase, Kind, Permit, SplitPermit, SplitPhase, Stash};
 use phase_workers::{Gate, Round, serve_all};
 use shard_boxes::PhaseName;
 use std::alloc::{AllocError, Global};
@@ -132,9 +131,9 @@ pub(crate) fn perform_phase<R: Threads + Wait + Sync, G: Gate + Sync>(
     ensures fault { IfErr result (IsMet plan.entry.round.scripts.now) }
 {
     if running.state.phase() % 2 == 0 {
-        return perform_joined_phase::<Brand, R, G>(rt, alloc, running, plan);
+        return perform_kind::<Brand, JoinedPhase, R, G>(rt, alloc, running, hot, plan);
     }
-    perform_split_phase::<Brand, R, G>(rt, alloc, running, hot, plan)
+    perform_kind::<Brand, SplitPhase, R, G>(rt, alloc, running, hot, plan)
 }
 
 /// What a run answers where a phase does not begin.
@@ -148,79 +147,80 @@ pub(crate) fn begin_fault(fault: BeginFault) -> RunFault
     }
 }
 
-/// A joined phase, under a name of its shards and workers.
-pub(crate) fn perform_joined_phase<N, R, G>(
-    rt: &R,
-    alloc: Global,
-    running: Running,
-    plan: PhasePlan<'_, G>,
-) -> Result<Running, RunFault>
-where
-    N: PhaseName + Send + Sync,
-    R: Threads + Wait + Sync,
-    G: Gate + Sync,
-    requires shards { states_of running.state ≡ N.initial }
-    requires workers { length running.state.counters ≡ N.workers }
-    requires joined { is_split running.state.phase ≡ false }
-    requires plan { IsPlanOf plan running.state.phase }
-    requires may { MayPerform plan.policy plan.round.scripts.now running.state
-        running.stashes.items [] }
-    ensures performed { IfOk result (HasPerformedPhase plan.entry.policy
-        plan.entry.round.scripts.now [] running) }
-    ensures fault { IfErr result (IsMet plan.entry.round.scripts.now) }
-{
-    let Running {
-        state,
-        mut history,
-        hot,
-        stashes,
-    } = running;
-    let begun = begin_joined_phase::<N, R, G>(rt, alloc, state, stashes, &plan)?;
-    let (state, stashes) = perform_begun(rt, alloc, &mut history, begun, plan.round)?;
-    Ok(Running {
-        state,
-        history,
-        hot,
-        stashes,
-    })
+/// How a phase of a kind begins.
+pub(crate) trait BeginKind: Kind {
+    ghost use Rattle.std.specs.Prelude.{◌≡◌, not, length, IfOk, IfErr};
+    ghost use Rattle.run_laws.specs.Phases.{is_split};
+    ghost use Rattle.run_laws.specs.Run.{first_index};
+    ghost use Rattle.phase_floor.specs.States.{states_of};
+    ghost use Rattle.run_phases.specs.Phases.{MayPerform};
+    ghost use Rattle.run_phases.specs.declared.faults.RunFault.TheVariants.{Memory};
+    ghost use Rattle.run_phases.specs.inner.Serving.{HasBegunPhase};
+
+    /// Begins it: each worker is given its quota, and what waits in its stash.
+    fn begin<N: PhaseName, G>(
+        alloc: Global,
+        before: (Joined, Vec<Stash>),
+        hot: &IndexSet<Object>,
+        plan: &PhasePlan<'_, G>,
+    ) -> Result<(Floor<N, Self>, Vec<Permit<N, Self>>), RunFault>
+        requires shards { states_of before.0 ≡ N.initial }
+        requires workers { length before.0.counters ≡ N.workers }
+        requires kind { is_split before.0.phase ≡ not Self.IS_JOINED }
+        requires first { plan.now.round.first ≡ first_index plan.now.policy before.0.phase }
+        requires may { MayPerform plan.now.policy plan.now.round.scripts.now before.0
+            before.1.items hot.now.keys }
+        ensures begun { IfOk result (λ begun.
+            HasBegunPhase plan.entry.now.policy plan.entry.now.round.scripts.now before.0
+            before.1.items hot.now.keys begun.0 begun.1.items) }
+        ensures fault { IfErr result (λ fault. fault ≡ Memory) };
 }
 
-// Begins a joined phase: each worker is given its quota, and what waits in its stash.
-fn begin_joined_phase<N, R, G>(
-    rt: &R,
-    alloc: Global,
-    state: Joined,
-    stashes: Vec<Stash>,
-    plan: &PhasePlan<'_, G>,
-) -> Result<(JoinedFloor<N>, Vec<JoinedPermit<N>>), RunFault>
-where
-    N: PhaseName,
-    R: Wait,
-    requires shards { states_of state ≡ N.initial }
-    requires workers { length state.counters ≡ N.workers }
-    requires joined { is_split state.phase ≡ false }
-    requires first { plan.now.round.first ≡ first_index plan.now.policy state.phase }
-    requires may { MayPerform plan.now.policy plan.now.round.scripts.now state
-        stashes.items [] }
-    ensures begun { IfOk result (λ begun.
-        HasBegunPhase plan.entry.now.policy plan.entry.now.round.scripts.now state
-        stashes.items [] begun.0 begun.1.items) }
-    ensures fault { IfErr result (λ fault. fault ≡ RunFault.Memory) }
-{
-    let quotas = worker_quotas(
-        alloc,
-        plan.round.scripts,
-        plan.policy.joined_quota,
-        plan.round.first,
-    )?;
-    match state.begin_joined::<N, R>(rt, alloc, &quotas, stashes) {
-        Ok(begun) => Ok(begun),
-        Err((_state, _stashes, fault)) => Err(begin_fault(fault)),
+impl BeginKind for JoinedPhase {
+    fn begin<N: PhaseName, G>(
+        alloc: Global,
+        before: (Joined, Vec<Stash>),
+        _hot: &IndexSet<Object>,
+        plan: &PhasePlan<'_, G>,
+    ) -> Result<(JoinedFloor<N>, Vec<JoinedPermit<N>>), RunFault> {
+        let quotas = worker_quotas(
+            alloc,
+            plan.round.scripts,
+            plan.policy.joined_quota,
+            plan.round.first,
+        )?;
+        let (state, stashes) = before;
+        match state.begin_joined::<N>(alloc, &quotas, stashes) {
+            Ok(begun) => Ok(begun),
+            Err((_state, _stashes, fault)) => Err(begin_fault(fault)),
+        }
     }
 }
 
-/// A split phase, under a name of its shards and workers. Nothing waits in the stashes before it.
-pub(crate) fn perform_split_phase<N, R, G>(
+// Nothing waits before a split phase, so the stashes are memory alone.
+impl BeginKind for SplitPhase {
+    fn begin<N: PhaseName, G>(
+        alloc: Global,
+        before: (Joined, Vec<Stash>),
+        hot: &IndexSet<Object>,
+        plan: &PhasePlan<'_, G>,
+    ) -> Result<(SplitFloor<N>, Vec<SplitPermit<N>>), RunFault> {
+        let quotas = worker_quotas(
+            alloc,
+            plan.round.scripts,
+            plan.policy.split_quota,
+            plan.round.first,
+        )?;
+        let (state, stashes) = before;
+        match state.begin_split_in::<N>(alloc, &quotas, hot, stashes) {
+            Ok(begun) => Ok(begun),
+            Err((_state, fault)) => Err(begin_fault(fault)),
+        }
+    }
+}
+
+/// A phase of a kind, under a name of its shards and workers.
+pub(crate) fn perform_kind<N, K, R, G>(
     rt: &R,
     alloc: Global,
     running: Running,
@@ -229,11 +229,12 @@ pub(crate) fn perform_split_phase<N, R, G>(
 ) -> Result<Running, RunFault>
 where
     N: PhaseName + Send + Sync,
+    K: BeginKind + Send,
     R: Threads + Wait + Sync,
     G: Gate + Sync,
     requires shards { states_of running.state ≡ N.initial }
     requires workers { length running.state.counters ≡ N.workers }
-    requires split { is_split running.state.phase ≡ true }
+    requires kind { is_split running.state.phase ≡ not K.IS_JOINED }
     requires plan { IsPlanOf plan running.state.phase }
     requires may { MayPerform plan.policy plan.round.scripts.now running.state
         running.stashes.items hot.now.keys }
@@ -247,8 +248,7 @@ where
         hot: hot_before,
         stashes,
     } = running;
-    drop(stashes);
-    let begun = begin_split_phase::<N, R, G>(rt, alloc, state, hot, &plan)?;
+    let begun = K::begin::<N, G>(alloc, (state, stashes), hot, &plan)?;
     let (state, stashes) = perform_begun(rt, alloc, &mut history, begun, plan.round)?;
     Ok(Running {
         state,
@@ -256,40 +256,6 @@ where
         hot: hot_before,
         stashes,
     })
-}
-
-// Begins a split phase: each worker is given its quota and an empty stash. Before it nothing waits.
-fn begin_split_phase<N, R, G>(
-    rt: &R,
-    alloc: Global,
-    state: Joined,
-    hot: &IndexSet<Object>,
-    plan: &PhasePlan<'_, G>,
-) -> Result<(SplitFloor<N>, Vec<SplitPermit<N>>), RunFault>
-where
-    N: PhaseName,
-    R: Wait,
-    requires shards { states_of state ≡ N.initial }
-    requires workers { length state.counters ≡ N.workers }
-    requires split { is_split state.phase ≡ true }
-    requires first { plan.now.round.first ≡ first_index plan.now.policy state.phase }
-    requires may { (stashes : List StashState) × MayPerform plan.now.policy
-        plan.now.round.scripts.now state stashes hot.now.keys }
-    ensures begun { IfOk result (λ begun.
-        HasBegunPhase plan.entry.now.policy plan.entry.now.round.scripts.now state
-        [] hot.now.keys begun.0 begun.1.items) }
-    ensures fault { IfErr result (λ fault. fault ≡ RunFault.Memory) }
-{
-    let quotas = worker_quotas(
-        alloc,
-        plan.round.scripts,
-        plan.policy.split_quota,
-        plan.round.first,
-    )?;
-    match state.begin_split::<N, R>(rt, alloc, &quotas, hot) {
-        Ok(begun) => Ok(begun),
-        Err((_state, fault)) => Err(begin_fault(fault)),
-    }
 }
 
 // What a phase of either kind does once it has begun: its workers do their tasks, and it closes.
@@ -318,6 +284,6 @@ where
 {
     let (floor, permits) = begun;
     let receipts = serve_all(rt, alloc, floor.boxes(), permits, round)?;
-    let ended = floor.close(rt, alloc, history, receipts)?;
+    let ended = floor.close(alloc, history, receipts)?;
     Ok(ended)
 }

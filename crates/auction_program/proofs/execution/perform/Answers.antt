@@ -19,8 +19,8 @@ returns-in_err-outcome-clause-cause g c =
     let rows = opened.rows_of_book c.args.book.now in
     let scripts = c.args.scripts.items in
     let fault = c.in_err-outcome.field-0.0 in
-    let refused = c.run_compact.ensures.refused in
+    let refused = c.run.ensures.refused in
     error_is c.from_residual.result (Run fault) (λ f. IsNotPerformed options f rows scripts) c.from_residual.ensures
     (subst (λ p. IsNotRun p fault rows scripts) c.policy.ensures
-    (not_run c.policy.result rows scripts c.run_compact.result fault c.in_err-outcome.was refused.workers refused.shards refused.quota refused.too_long
-    c.run_compact.ensures.spawn c.run_compact.ensures.numbers))
+    (not_run c.policy.result rows scripts c.run.result fault c.in_err-outcome.was refused.workers refused.shards refused.quota refused.too_long
+    c.run.ensures.spawn c.run.ensures.numbers))

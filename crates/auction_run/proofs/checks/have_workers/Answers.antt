@@ -4,5 +4,5 @@ use Rattle.auction_run.proofs.checks.have_workers.Goals as goal
 
 pub returns : goal.returns
 returns g c =
-    let few : length c.args.scripts.now ≤ 16 = c.if-workers-gt-MOST_WORKERS.false in
+    let few : length (g.S.Scripts.asked c.args.scripts.now) ≤ 16 = omega (arith, c.if-workers-gt-MOST_WORKERS.false) in
     grind (few, arith, common_steps)

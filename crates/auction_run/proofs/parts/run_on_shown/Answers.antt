@@ -1,22 +1,21 @@
-use Rattle.std.proofs.Common.{◌≡◌, ◌≤◌, ◌∙◌, ap, length, refl, subst, sym}
-use Rattle.std.specs.Prelude.{Err, IfErr}
+use Rattle.std.proofs.Common.{◌≡◌, ◌≤◌, ◌∙◌, length, refl, subst, sym}
+use Rattle.std.specs.Prelude.{IfErr}
 use Rattle.auction_rows.specs.declared.limits.TheConstants.{MOST_WORKERS}
 use Rattle.job_threads.proofs.ThreadLemmas.{err_as}
 use Rattle.run_phases.specs.declared.faults.RunFault.TheVariants.{Memory}
 use Rattle.auction_run.specs.declared.checks.Stopped.TheVariants.{Failed}
-use Rattle.auction_run.specs.GoingOn.{AnswersNextRun, HasShownFirstNext, IsCheckedOn, IsReadyFor}
-use Rattle.run_laws.specs.Serving.{lists}
+use Rattle.auction_run.specs.GoingOn.{AnswersNextRun, HasShownFirstNext, IsReadyFor}
 use Rattle.auction_run.proofs.AnswerLemmas.{answered_stopped, not_given_back}
 use Rattle.run_phases.proofs.BoardLemmas.{none_shown}
 use Rattle.auction_run.proofs.parts.run_on_shown.Goals as goal
 
 pub run_on_checked-requires-clause-ready : goal.run_on_checked-requires-clause-ready
 run_on_checked-requires-clause-ready g c κs within =
-    subst (IsReadyFor c.args.state c.args.policy) (ap lists c.as_slice.ensures.value ∙ sym c.in_ok-compact.ensures ∙ sym c.as_slice-2.ensures.value) c.in_default.ensures.checked
+    subst (IsReadyFor c.args.state c.args.policy) (sym (c.as_slice.ensures.value ∙ c.in_ok-compact.ensures)) c.in_default.ensures.checked
 
 pub run_on_checked-requires-clause-few : goal.run_on_checked-requires-clause-few
 run_on_checked-requires-clause-few g c κs within =
-    subst (λ scripts. length scripts ≤ MOST_WORKERS) (ap lists c.as_slice.ensures.value ∙ sym c.in_ok-compact.ensures ∙ sym c.as_slice-2.ensures.value) c.in_default.ensures.few
+    subst (λ scripts. length scripts ≤ MOST_WORKERS) (sym (c.as_slice.ensures.value ∙ c.in_ok-compact.ensures)) c.in_default.ensures.few
 
 pub run_on_checked-requires-clause-board : goal.run_on_checked-requires-clause-board
 run_on_checked-requires-clause-board g c κs within = c.requires
@@ -24,27 +23,25 @@ run_on_checked-requires-clause-board g c κs within = c.requires
 pub returns-clause-answer : goal.returns-clause-answer
 returns-clause-answer g c =
     subst (λ scripts. AnswersNextRun c.args.state c.args.policy scripts c.run_on_checked.result)
-    (c.as_slice-2.ensures.value ∙ c.in_ok-compact.ensures) c.run_on_checked.ensures.answer
+    (c.as_slice.ensures.value ∙ c.in_ok-compact.ensures) c.run_on_checked.ensures.answer
 
 pub returns-clause-board_after_fault : goal.returns-clause-board_after_fault
 returns-clause-board_after_fault g c =
     let B = g.B.Board in let state = c.args.state in
     subst (λ scripts. IfErr c.run_on_checked.result (HasShownFirstNext B.has B.has_refused state c.args.policy scripts c.args.board.now c.run_on_checked.new.board))
-    (c.as_slice-2.ensures.value ∙ c.in_ok-compact.ensures) c.run_on_checked.ensures.board_after_fault
+    (c.as_slice.ensures.value ∙ c.in_ok-compact.ensures) c.run_on_checked.ensures.board_after_fault
 
 pub returns-in_err-compact-clause-answer : goal.returns-in_err-compact-clause-answer
 returns-in_err-compact-clause-answer g c =
-    let state = c.args.state in let policy = c.args.policy in
-    answered_stopped state policy (lists c.args.scripts.items) c.from_residual.result (Failed Memory) c.from_residual.ensures.1
-    (subst (λ scripts. IsReadyFor state policy (lists scripts)) c.as_slice.ensures.value c.in_default.ensures.checked, tt)
+    answered_stopped c.args.state c.args.policy (g.S.Scripts.asked c.args.scripts) c.from_residual.result (Failed Memory) c.from_residual.ensures.1 (c.in_default.ensures.checked, tt)
 
 pub returns-in_err-compact-clause-board_after_fault : goal.returns-in_err-compact-clause-board_after_fault
 returns-in_err-compact-clause-board_after_fault g c =
-    let B = g.B.Board in let state = c.args.state in let policy = c.args.policy in
+    let B = g.B.Board in let state = c.args.state in let policy = c.args.policy in let scripts = g.S.Scripts.asked c.args.scripts in
     err_as c.from_residual.result (Failed Memory)
-    (HasShownFirstNext B.has B.has_refused state policy (lists c.args.scripts.items) c.args.board.now c.args.board.now)
+    (HasShownFirstNext B.has B.has_refused state policy scripts c.args.board.now c.args.board.now)
     c.from_residual.ensures.1
-    (λ rows before has of. none_shown B.has B.has_refused state.opening rows before policy (lists c.args.scripts.items) c.args.board.now has Memory)
+    (λ rows before has of. none_shown B.has B.has_refused state.opening rows before policy scripts c.args.board.now has Memory)
 
 pub returns-in-Err-clause-answer : goal.returns-in-Err-clause-answer
 returns-in-Err-clause-answer g c = record {
@@ -52,20 +49,16 @@ returns-in-Err-clause-answer g c = record {
   outcome = tt;
   left = tt;
   limit = tt;
-  stopped = (
-    refl,
-    subst (λ scripts. IsCheckedOn {T = Unit {0}} (Err c.in-Err.fault) c.args.state c.args.policy (lists scripts)) c.as_slice.ensures.value c.in-Err.ensures.checked,
-  );
+  stopped = (refl, c.in-Err.ensures.checked);
 }
 
 pub returns-in-Err-clause-board_after_fault : goal.returns-in-Err-clause-board_after_fault
 returns-in-Err-clause-board_after_fault g c = λ rows before has of.
-    none_shown g.B.Board.has g.B.Board.has_refused c.args.state.opening rows before c.args.policy (lists c.args.scripts.items) c.args.board.now has c.in-Err.fault
+    none_shown g.B.Board.has g.B.Board.has_refused c.args.state.opening rows before c.args.policy (g.S.Scripts.asked c.args.scripts) c.args.board.now has c.in-Err.fault
 
 pub returns-clause-untouched : goal.returns-clause-untouched
 returns-clause-untouched g c =
-    let state = c.args.state in let policy = c.args.policy in
-    not_given_back state policy (lists c.args.scripts.items) (subst (λ scripts. IsReadyFor state policy (lists scripts)) c.as_slice.ensures.value c.in_default.ensures.checked)
+    not_given_back c.args.state c.args.policy (g.S.Scripts.asked c.args.scripts) c.in_default.ensures.checked
     c.run_on_checked.result (returns-clause-answer g c) (c.run_on_checked.new.board ≡ c.args.board.now)
 
 pub returns-in-Err-clause-untouched : goal.returns-in-Err-clause-untouched

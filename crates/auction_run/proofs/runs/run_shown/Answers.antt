@@ -1,18 +1,17 @@
-use Rattle.std.proofs.Common.{◌≡◌, ◌∙◌, [], ap, subst, sym}
+use Rattle.std.proofs.Common.{◌≡◌, ◌∙◌, [], subst, sym}
 use Rattle.std.specs.Prelude.{IfErr}
 use Rattle.item_shards.specs.OpeningBooks.{opening_of, rows_of_book}
 use Rattle.job_threads.proofs.ThreadLemmas.{err_as}
 use Rattle.run_phases.specs.declared.faults.RunFault.TheVariants.{Memory}
 use Rattle.run_phases.specs.Beginning.{AreShort, HaveWorkers}
 use Rattle.auction_run.specs.Runs.{AnswersRun, HasShownFirst}
-use Rattle.run_laws.specs.Serving.{lists}
-use Rattle.auction_run.proofs.AnswerLemmas.{all, answered_first, answered_memory, not_first}
+use Rattle.auction_run.proofs.AnswerLemmas.{answered_first, answered_memory, not_first}
 use Rattle.run_phases.proofs.BoardLemmas.{none_shown}
 use Rattle.auction_run.proofs.runs.run_shown.Goals as goal
 
 pub run_checked-requires-clause-workers : goal.run_checked-requires-clause-workers
 run_checked-requires-clause-workers g c κs within =
-    subst (HaveWorkers (rows_of_book c.args.book.now)) (ap lists c.as_slice.ensures.value ∙ sym c.in_ok-compact.ensures ∙ sym c.as_slice-2.ensures.value) c.in_ok-check.ensures.0
+    subst (HaveWorkers (rows_of_book c.args.book.now)) (sym (c.as_slice.ensures.value ∙ c.in_ok-compact.ensures)) c.in_ok-check.ensures.0
 
 pub run_checked-requires-clause-shards : goal.run_checked-requires-clause-shards
 run_checked-requires-clause-shards g c κs within = c.in_ok-check.ensures.1.0
@@ -22,7 +21,7 @@ run_checked-requires-clause-quotas g c κs within = c.in_ok-check.ensures.1.1.0
 
 pub run_checked-requires-clause-short : goal.run_checked-requires-clause-short
 run_checked-requires-clause-short g c κs within =
-    subst (AreShort (rows_of_book c.args.book.now)) (ap lists c.as_slice.ensures.value ∙ sym c.in_ok-compact.ensures ∙ sym c.as_slice-2.ensures.value) c.in_ok-check.ensures.1.1.1
+    subst (AreShort (rows_of_book c.args.book.now)) (sym (c.as_slice.ensures.value ∙ c.in_ok-compact.ensures)) c.in_ok-check.ensures.1.1.1
 
 pub run_checked-requires-clause-board : goal.run_checked-requires-clause-board
 run_checked-requires-clause-board g c κs within = c.requires
@@ -31,45 +30,45 @@ pub returns-clause-answer : goal.returns-clause-answer
 returns-clause-answer g c =
     let book = c.args.book.now in
     subst (λ scripts. AnswersRun (opening_of book) (rows_of_book book) c.args.policy scripts c.run_checked.result)
-    (c.as_slice-2.ensures.value ∙ c.in_ok-compact.ensures) c.run_checked.ensures.answer
+    (c.as_slice.ensures.value ∙ c.in_ok-compact.ensures) c.run_checked.ensures.answer
 
 pub returns-clause-board_after_fault : goal.returns-clause-board_after_fault
 returns-clause-board_after_fault g c =
     let B = g.B.Board in
     let book = c.args.book.now in
     subst (λ scripts. IfErr c.run_checked.result (HasShownFirst B.has B.has_refused (opening_of book) (rows_of_book book) c.args.policy scripts c.run_checked.new.board))
-    (c.as_slice-2.ensures.value ∙ c.in_ok-compact.ensures) c.run_checked.ensures.board_after_fault
+    (c.as_slice.ensures.value ∙ c.in_ok-compact.ensures) c.run_checked.ensures.board_after_fault
 
 pub returns-in_err-check-clause-answer : goal.returns-in_err-check-clause-answer
 returns-in_err-check-clause-answer g c =
     let book = c.args.book.now in
-    subst (λ scripts. AnswersRun (opening_of book) (rows_of_book book) c.args.policy (lists scripts) c.from_residual.result) c.as_slice.ensures.value
-    (answered_first (opening_of book) (rows_of_book book) c.args.policy (lists c.as_slice.result.now) c.from_residual.result c.in_err-check.field-0.0 c.from_residual.ensures.1 c.in_err-check.ensures)
+    answered_first (opening_of book) (rows_of_book book) c.args.policy (g.S.Scripts.asked c.args.scripts) c.from_residual.result c.in_err-check.field-0.0 c.from_residual.ensures.1 c.in_err-check.ensures
 
 pub returns-in_err-check-clause-board_after_fault : goal.returns-in_err-check-clause-board_after_fault
 returns-in_err-check-clause-board_after_fault g c =
     let B = g.B.Board in
     let book = c.args.book.now in
+    let scripts = g.S.Scripts.asked c.args.scripts in
     let fault = c.in_err-check.field-0.0 in
-    err_as c.from_residual.result fault (HasShownFirst B.has B.has_refused (opening_of book) (rows_of_book book) c.args.policy (lists c.args.scripts.items) c.args.board.now) c.from_residual.ensures.1
-    (none_shown B.has B.has_refused (opening_of book) (rows_of_book book) [] c.args.policy (lists c.args.scripts.items) c.args.board.now c.requires fault)
+    err_as c.from_residual.result fault (HasShownFirst B.has B.has_refused (opening_of book) (rows_of_book book) c.args.policy scripts c.args.board.now) c.from_residual.ensures.1
+    (none_shown B.has B.has_refused (opening_of book) (rows_of_book book) [] c.args.policy scripts c.args.board.now c.requires fault)
 
 pub returns-in_err-compact-clause-answer : goal.returns-in_err-compact-clause-answer
 returns-in_err-compact-clause-answer g c =
     let book = c.args.book.now in let failed = c.from_residual-in_err-compact in
-    subst (λ scripts. AnswersRun (opening_of book) (rows_of_book book) c.args.policy (lists scripts) failed.result) c.as_slice.ensures.value
-    (answered_memory (opening_of book) (rows_of_book book) c.args.policy (lists c.as_slice.result.now) book.is_book c.in_ok-check.ensures failed.result failed.ensures.1)
+    answered_memory (opening_of book) (rows_of_book book) c.args.policy (g.S.Scripts.asked c.args.scripts) book.is_book c.in_ok-check.ensures failed.result failed.ensures.1
 
 pub returns-in_err-compact-clause-board_after_fault : goal.returns-in_err-compact-clause-board_after_fault
 returns-in_err-compact-clause-board_after_fault g c =
     let B = g.B.Board in
     let book = c.args.book.now in
-    err_as c.from_residual-in_err-compact.result Memory (HasShownFirst B.has B.has_refused (opening_of book) (rows_of_book book) c.args.policy (lists c.args.scripts.items) c.args.board.now)
+    let scripts = g.S.Scripts.asked c.args.scripts in
+    err_as c.from_residual-in_err-compact.result Memory (HasShownFirst B.has B.has_refused (opening_of book) (rows_of_book book) c.args.policy scripts c.args.board.now)
     c.from_residual-in_err-compact.ensures.1
-    (none_shown B.has B.has_refused (opening_of book) (rows_of_book book) [] c.args.policy (lists c.args.scripts.items) c.args.board.now c.requires Memory)
+    (none_shown B.has B.has_refused (opening_of book) (rows_of_book book) [] c.args.policy scripts c.args.board.now c.requires Memory)
 
 pub returns-clause-untouched : goal.returns-clause-untouched
 returns-clause-untouched g c =
-    let opening = opening_of c.args.book.now in let rows = rows_of_book c.args.book.now in let policy = c.args.policy in
-    not_first opening rows policy (lists c.args.scripts.items) (subst (λ scripts. all opening rows policy (lists scripts)) c.as_slice.ensures.value c.in_ok-check.ensures)
+    let book = c.args.book.now in
+    not_first (opening_of book) (rows_of_book book) c.args.policy (g.S.Scripts.asked c.args.scripts) c.in_ok-check.ensures
     c.run_checked.result (returns-clause-answer g c) (c.run_checked.new.board ≡ c.args.board.now)

@@ -2,7 +2,7 @@ use Rattle.std.proofs.Common.{◌++◌, ◌∷◌, append_assoc, ap, sym, ◌∙
 use Rattle.std.specs.Vec.Iter.{into_iter_items}
 use Rattle.job_threads.proofs.ThreadLemmas.{none_left, all_done}
 use Rattle.run_laws.specs.Serving.{lists}
-use Rattle.auction_run.proofs.runs.compact_scripts.Goals as goal
+use Rattle.auction_run.proofs.scripts.VecVecRequestScripts.into_compact.Goals as goal
 
 pub loop-script-preserved : goal.loop-script-preserved
 loop-script-preserved c =
@@ -17,4 +17,4 @@ loop-script-preserved c =
 pub returns : goal.returns
 returns c =
     let left = c.loop-script.script-iterator.rest in
-    all_done c.loop-script.compact.items (lists left.items) (lists c.args.scripts.items) (ap lists (none_left left.items _ left.ok.0 c.in-None.ensures.steps.0)) c.loop-script.invariant
+    all_done c.loop-script.compact.items (lists left.items) (lists c.args.self.items) (ap lists (none_left left.items _ left.ok.0 c.in-None.ensures.steps.0)) c.loop-script.invariant

@@ -1,11 +1,11 @@
-use Rattle.std.proofs.Common.{true, refl, sym, subst}
+use Rattle.std.proofs.Common.{refl, sym, subst}
 use Rattle.job_threads.proofs.ThreadLemmas.{err_as}
 use Rattle.run_phases.specs.Phases.{IsMet}
 use Rattle.run_phases.proofs.PhaseLemmas.{ended_phase, can_perform}
-use Rattle.run_phases.proofs.phase.perform_joined_phase.Goals as goal
+use Rattle.run_phases.proofs.phase.perform_kind.Goals as goal
 
-pub begin_joined_phase-requires : goal.begin_joined_phase-requires
-begin_joined_phase-requires g c = record { shards = c.requires.shards; workers = c.requires.workers; joined = c.requires.joined; first = c.requires.plan.1; may = c.requires.may }
+pub begin-requires : goal.begin-requires
+begin-requires g c = record { shards = c.requires.shards; workers = c.requires.workers; kind = c.requires.kind; first = c.requires.plan.1; may = c.requires.may }
 
 pub returns-in_err-begun-clause-fault : goal.returns-in_err-begun-clause-fault
 returns-in_err-begun-clause-fault g c =
@@ -13,7 +13,7 @@ returns-in_err-begun-clause-fault g c =
     err_as c.from_residual.result c.in_err-begun.field-0.0 (IsMet scripts) c.from_residual.ensures.1 (subst (IsMet scripts) (sym c.in_err-begun.ensures.fault) tt)
 
 pub perform_begun-requires-clause-ready : goal.perform_begun-requires-clause-ready
-perform_begun-requires-clause-ready g c κs within = can_perform c.requires.plan.1 c.requires.may c.in_ok-begun.ensures.begun c.requires.plan.0 true
+perform_begun-requires-clause-ready g c κs within = can_perform c.requires.plan.1 c.requires.may c.in_ok-begun.ensures.begun c.requires.plan.0 _
 
 pub returns-clause-performed : goal.returns-clause-performed
 returns-clause-performed g c =
@@ -21,6 +21,6 @@ returns-clause-performed g c =
     record {
       history = phase.history;
       last = phase.last;
-      closed = ended_phase c.requires.plan.1 c.requires.may c.in_ok-begun.ensures.begun c.requires.shards true c.requires.joined phase.ended;
+      closed = ended_phase c.requires.plan.1 c.requires.may c.in_ok-begun.ensures.begun c.requires.shards _ c.requires.kind phase.ended;
       sets_are = refl;
     }
