@@ -49,7 +49,7 @@ where
     R: Threads + Wait + Sync + Clock + Alloc<A = Global>,
     A::Record: Copy + Send + Sync,
     A::Slice: Send,
-    A::Fixed: Send,
+    A::Look: Send,
     A::Request: Send + Sync,
     A::Reply: Send,
     A::Act: Send,

@@ -1,41 +1,45 @@
 -- Counters as their model has them, and why additions may be done on slices.
-use Rattle.std.specs.Prelude.{◌≡◌, ℕ, ◌+◌, ◌*◌, ◌≤◌, Bool, true, false}
+use Rattle.std.specs.Prelude.{◌≡◌, ℕ, ◌+◌, ◌*◌, ◌≤◌, min, Bool, true, false, List, [], ◌∷◌}
+use Rattle.std.specs.List.{AllByRecursion}
 use Rattle.std.proofs.Common.{true≢false, refl, sym, arith}
 use Rattle.std.proofs.Math.Nat.{add_assoc, add_right_comm, add-zero}
 use Rattle.split_engine.specs.declared.entry.Decision.{Decision}
 use Rattle.split_engine.specs.Rules.{Rules, SplitLaws}
 use Rattle.application_tests.specs.declared.counters.CounterRequest.{CounterRequest}
-use Rattle.application_tests.specs.declared.counters.CounterRequest.TheVariants.{Add, Read}
+use Rattle.application_tests.specs.declared.counters.CounterRequest.TheVariants.{Add, Read, Least, Unknown}
 use Rattle.application_tests.specs.declared.counters.CounterReply.{CounterReply}
-use Rattle.application_tests.specs.declared.counters.CounterReply.TheVariants.{Added, Shows}
+use Rattle.application_tests.specs.declared.counters.CounterReply.TheVariants.{Added, Shows, Refused}
 
-abbrev pub decided : CounterReply → ℕ → ℕ → Decision CounterReply ℕ
-decided reply first second = record { reply = reply; first = first; second = second }
+abbrev pub decided : CounterReply → List ℕ → Decision CounterReply ℕ
+decided reply acts = record { reply = reply; acts = acts }
 
-abbrev pub keys : CounterRequest → ℕ × ℕ
-keys (Add to by) = to
-keys (Read counter) = (counter, counter)
+abbrev pub keys : CounterRequest → List ℕ
+keys (Add to by) = to.0 ∷ to.1 ∷ []
+keys (Read counter) = counter ∷ []
+keys (Least first second third fourth) = first ∷ second ∷ third ∷ fourth ∷ []
+keys Unknown = []
 
 abbrev pub splits : CounterRequest → Bool
 splits (Add to by) = true
 splits (Read counter) = false
+splits (Least first second third fourth) = false
+splits Unknown = false
 
-abbrev pub decide : CounterRequest → ℕ → ℕ → Decision CounterReply ℕ
-decide (Add to by) a b = decided Added by by
-decide (Read counter) a b = decided (Shows a) 0 0
+abbrev pub decide : CounterRequest → (ℕ → ℕ) → Decision CounterReply ℕ
+decide (Add to by) counters = decided Added (by ∷ by ∷ [])
+decide (Read counter) counters = decided (Shows (counters 0)) []
+decide (Least first second third fourth) counters =
+    decided (Shows (min (min (counters 0) (counters 1)) (min (counters 2) (counters 3)))) []
+decide Unknown counters = decided Refused []
 
-abbrev pub decide_split : CounterRequest → Unit {0} → Unit {0} → Decision CounterReply ℕ
-decide_split (Add to by) a b = decided Added by by
-decide_split (Read counter) a b = decided Added 0 0
-
-abbrev pub counters : Rules ℕ ℕ (Unit {0}) CounterRequest CounterReply ℕ
+abbrev pub counters : Rules ℕ ℕ ℕ CounterRequest CounterReply ℕ
 counters = record {
   keys = keys;
   splits = splits;
   blank = 0;
-  fixed = λ _. tt;
+  look = λ a. a;
+  fixed = λ _. 0;
   decide = decide;
-  decide_split = decide_split;
   applied = ◌+◌;
   is_splittable = λ _. true;
   empty = 0;
@@ -50,9 +54,16 @@ IsMadeBy n a = a ≤ n * 4294967295
 abbrev pub IsWord : ℕ → Type 0
 IsWord by = by ≤ 4294967295
 
-by_fixed : (q : CounterRequest) (a b : ℕ) → splits q ≡ true → decide q a b ≡ decide_split q tt tt
-by_fixed (Add to by) a b h = refl
-by_fixed (Read counter) a b h = absurd (true≢false (sym h))
+by_fixed : (q : CounterRequest) (looks : ℕ → ℕ) → splits q ≡ true →
+    decide q (λ _. 0) ≡ decide q looks
+by_fixed (Add to by) looks h = refl
+by_fixed (Read counter) looks h = absurd (true≢false (sym h))
+by_fixed (Least first second third fourth) looks h = absurd (true≢false (sym h))
+by_fixed Unknown looks h = absurd (true≢false (sym h))
+
+acts_split : (acts : List ℕ) → AllByRecursion (λ _. true ≡ true) acts
+acts_split [] = tt
+acts_split (x ∷ xs) = (refl, acts_split xs)
 
 pub counter_laws : SplitLaws counters IsMadeBy IsMadeBy IsWord
 counter_laws = record {
@@ -61,8 +72,7 @@ counter_laws = record {
   commute = λ a x y _ _. add_right_comm a x y;
   keeps_fixed = λ a x _. refl;
   by_fixed = by_fixed;
-  splits_first = λ q f g _. refl;
-  splits_second = λ q f g _. refl;
+  acts_split = λ q looks _. acts_split (decide q looks).acts;
   fits_more = λ n m a le h. omega (arith, le, h);
   fits_after = λ n a x small h. omega (arith, small, h);
   fits_merged = λ n m a s h g. omega (arith, h, g);

@@ -1,15 +1,31 @@
 //! Counters, each a number with no operation but addition.
-ghost use Rattle.std.specs.Prelude.{◌≡◌, ◌*◌, ◌≤◌};
+ghost use Rattle.std.specs.Prelude.{◌≡◌, [], ◌*◌, ◌≤◌};
+ghost use Rattle.application_tests.specs.declared.counters.CounterReply.TheVariants.{Shows};
+ghost use Rattle.application_tests.specs.Model.{decided};
 
-use split_engine::{Application, Checkable, Decision};
+use split_engine::{Application, Checkable, Decision, Few};
 
 /// What is asked of counters.
 #[derive(Clone, Copy)]
 pub enum CounterRequest {
     /// To add so much to two counters, or twice to one.
-    Add { to: (u32, u32), by: u32 },
+    Add {
+        to: (u32, u32),
+        by: u32,
+    },
     /// What a counter shows.
-    Read { counter: u32 },
+    Read {
+        counter: u32,
+    },
+    /// The least that four counters show.
+    Least {
+        first: u32,
+        second: u32,
+        third: u32,
+        fourth: u32,
+    },
+    /// What counters cannot do: it names none.
+    Unknown,
 }
 
 /// What is answered.
@@ -17,10 +33,21 @@ pub enum CounterRequest {
 pub enum CounterReply {
     Added,
     Shows(u64),
+    Refused,
 }
 
 /// The application.
 pub struct Counters;
+
+// A number is shown, and nothing done.
+fn shown(number: u64) -> Decision<CounterReply, u32>
+    ensures { result ≡ decided (Shows number) [] }
+{
+    Decision {
+        reply: CounterReply::Shows(number),
+        acts: Few::none(),
+    }
+}
 
 impl Application for Counters {
     ghost use Rattle.application_tests.specs.Model.{counters, counter_laws, IsMadeBy, IsWord};
@@ -29,7 +56,7 @@ impl Application for Counters {
 
     type Slice = u64;
 
-    type Fixed = ();
+    type Look = u64;
 
     type Request = CounterRequest;
 
@@ -47,50 +74,47 @@ impl Application for Counters {
 
     ghost laws = { counter_laws };
 
-    fn keys(request: &CounterRequest) -> (u32, u32) {
-        match *request {
-            CounterRequest::Add { to, .. } => to,
-            CounterRequest::Read { counter } => (counter, counter),
+    fn keys(request: &CounterRequest) -> Few<u32> {
+        let request = *request;
+        match request {
+            CounterRequest::Add { to, .. } => Few::two(to.0, to.1),
+            CounterRequest::Read { counter } => Few::one(counter),
+            CounterRequest::Least {
+                first,
+                second,
+                third,
+                fourth,
+            } => Few::two(first, second).and(third).and(fourth),
+            CounterRequest::Unknown => Few::none(),
+        }
+    }
+
+    fn look(held: &u64) -> u64 {
+        *held
+    }
+
+    fn decide(request: &CounterRequest, looks: &Few<u64>) -> Decision<CounterReply, u32> {
+        let request = *request;
+        match request {
+            CounterRequest::Add { by, .. } => Decision {
+                reply: CounterReply::Added,
+                acts: Few::two(by, by),
+            },
+            CounterRequest::Read { .. } => shown(looks.at(0)),
+            CounterRequest::Least { .. } => {
+                let front = looks.at(0).min(looks.at(1));
+                let back = looks.at(2).min(looks.at(3));
+                shown(front.min(back))
+            }
+            CounterRequest::Unknown => Decision {
+                reply: CounterReply::Refused,
+                acts: Few::none(),
+            },
         }
     }
 
     fn splits(request: &CounterRequest) -> bool {
         matches!(*request, CounterRequest::Add { .. })
-    }
-
-    fn fixed(_held: &u64) -> () {}
-
-    fn decide(request: &CounterRequest, first: &u64, _second: &u64) -> Decision<CounterReply, u32> {
-        let request = *request;
-        match request {
-            CounterRequest::Add { by, .. } => Decision {
-                reply: CounterReply::Added,
-                first: by,
-                second: by,
-            },
-            CounterRequest::Read { .. } => Decision {
-                reply: CounterReply::Shows(*first),
-                first: 0,
-                second: 0,
-            },
-        }
-    }
-
-    fn decide_split(
-        request: &CounterRequest,
-        _first: (),
-        _second: (),
-    ) -> Decision<CounterReply, u32> {
-        let request = *request;
-        let by = match request {
-            CounterRequest::Add { by, .. } => by,
-            CounterRequest::Read { .. } => 0,
-        };
-        Decision {
-            reply: CounterReply::Added,
-            first: by,
-            second: by,
-        }
     }
 
     fn apply(held: &mut u64, by: u32) {

@@ -1,8 +1,10 @@
 //! Runs: which requests are deferred, and what the counters show. The replies were worked out by
 //! hand.
-use crate::counters::CounterRequest::{Add, Read};
+use crate::counters::CounterRequest::{Add, Least, Read, Unknown};
 use crate::counters::{CounterReply, CounterRequest, Counters};
-use split_engine::{Entry, Policy, ScriptFault, check_scripts, run, split_phases_replay};
+use split_engine::{
+    Entry, Policy, ScriptFault, check_scripts, run, runs_replay_as_one, split_phases_replay,
+};
 use std::alloc::{AllocError, Global};
 use std::test::Fail;
 
@@ -101,6 +103,89 @@ fn nothing_is_split(rt: HostRuntime) -> Result<(), Fail> {
     Ok(())
 }
 
+// A run goes on from the table that another has left.
+#[test]
+fn a_run_goes_on(rt: HostRuntime) -> Result<(), Fail> {
+    let alloc = rt.alloc();
+    runs_replay_as_one::<Counters>();
+    let first = vec![in alloc; Add { to: (0, 1), by: 5 }, Read { counter: 1 }]?;
+    let second = vec![in alloc; Add { to: (0, 0), by: 2 }]?;
+    let counters = vec![in alloc; 0u64, 3u64]?;
+    let outcome = run::<Counters, HostRuntime>(
+        &rt,
+        alloc,
+        counters,
+        &[first, second],
+        policy(1, 1),
+    )?;
+    let wanted = [
+        (0, 0, CounterReply::Added),
+        (1, 0, CounterReply::Added),
+        (0, 1, CounterReply::Shows(8)),
+    ];
+    assert_eq!(rt;
+        told(alloc, &outcome.history)?.as_slice(),
+        wanted.as_slice()
+    );
+    let first = vec![in alloc; Read { counter: 0 }, Add { to: (1, 1), by: 1 }]?;
+    let second = vec![in alloc; Add { to: (0, 1), by: 10 }]?;
+    let outcome = run::<Counters, HostRuntime>(
+        &rt,
+        alloc,
+        outcome.table,
+        &[first, second],
+        policy(1, 1),
+    )?;
+    let wanted = [
+        (0, 0, CounterReply::Shows(9)),
+        (1, 0, CounterReply::Added),
+        (0, 1, CounterReply::Added),
+    ];
+    assert_eq!(rt;
+        told(alloc, &outcome.history)?.as_slice(),
+        wanted.as_slice()
+    );
+    assert_eq!(rt; outcome.table.as_slice(), [19, 20].as_slice());
+    Ok(())
+}
+
+// The least of two counters, each of which is named twice.
+fn least(one: u32, other: u32) -> CounterRequest {
+    Least {
+        first: one,
+        second: other,
+        third: one,
+        fourth: other,
+    }
+}
+
+// Requests that name four counters, and one that names none.
+#[test]
+fn four_counters_and_none(rt: HostRuntime) -> Result<(), Fail> {
+    let alloc = rt.alloc();
+    let all = Least {
+        first: 3,
+        second: 1,
+        third: 2,
+        fourth: 0,
+    };
+    let scripts = [vec![in alloc; all, Unknown, Add { to: (0, 1), by: 9 }, all]?];
+    let counters = vec![in alloc; 7u64, 4u64, 5u64, 6u64]?;
+    let outcome = run::<Counters, HostRuntime>(&rt, alloc, counters, &scripts, policy(0, 1))?;
+    let wanted = [
+        (0, 0, CounterReply::Shows(4)),
+        (0, 1, CounterReply::Refused),
+        (0, 2, CounterReply::Added),
+        (0, 3, CounterReply::Shows(5)),
+    ];
+    assert_eq!(rt;
+        told(alloc, &outcome.history)?.as_slice(),
+        wanted.as_slice()
+    );
+    assert_eq!(rt; outcome.table.as_slice(), [16, 13, 5, 6].as_slice());
+    Ok(())
+}
+
 #[test]
 fn nobody_asks(rt: HostRuntime) -> Result<(), Fail> {
     let alloc = rt.alloc();
@@ -135,6 +220,15 @@ fn scripts_over_two_counters(rt: HostRuntime) -> Result<(), Fail> {
                 index: 1,
             }),
         ),
+        (least(1, 0), Ok(())),
+        (
+            least(1, 2),
+            Err(ScriptFault::NoSuchKey {
+                worker: 1,
+                index: 1,
+            }),
+        ),
+        (Unknown, Ok(())),
     ];
     for (number, (request, wanted)) in cases.iter().enumerate() {
         let scripts = [vec![in alloc; both]?, vec![in alloc; both, *request, both]?];

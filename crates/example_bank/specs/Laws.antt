@@ -1,14 +1,15 @@
 -- Why deposits may be performed on slices.
 use Rattle.std.specs.Prelude.{◌≡◌, ℕ, suc, Bool, true, false}
+use Rattle.std.specs.List.{AllByRecursion}
 use Rattle.std.proofs.Common.{true≢false, refl, sym, ap, arith}
 use Rattle.std.proofs.Math.Nat.{add_assoc, add_right_comm, add-zero}
 use Rattle.split_engine.specs.Rules.{SplitLaws}
 use Rattle.example_bank.specs.declared.bank.BankRequest.{BankRequest}
 use Rattle.example_bank.specs.declared.bank.BankRequest.TheVariants.{Deposit, Transfer, Balance, Close}
 use Rattle.example_bank.specs.declared.bank.Change.{Change}
-use Rattle.example_bank.specs.declared.bank.Change.TheVariants.{Add, Take, Shut, Nothing}
+use Rattle.example_bank.specs.declared.bank.Change.TheVariants.{Add, Take, Shut}
 use Rattle.example_bank.specs.declared.bank.Account.{Account}
-use Rattle.example_bank.specs.Model.{account, deposited, decide, splits, amount_of, applied, is_splittable, sliced, merged, bank, Fits, SliceFits, IsSmall}
+use Rattle.example_bank.specs.Model.{account, deposited, decide, splits, applied, is_splittable, sliced, merged, bank, Fits, SliceFits, IsSmall}
 
 pub bank_laws : SplitLaws bank Fits SliceFits IsSmall
 bank_laws = record {
@@ -17,8 +18,7 @@ bank_laws = record {
   commute = swap;
   keeps_fixed = stays_open;
   by_fixed = by_fixed;
-  splits_first = λ q is_open other _. first_splits is_open (amount_of q);
-  splits_second = λ q is_open other _. second_splits is_open (amount_of q);
+  acts_split = acts_split;
   fits_more = λ n m a le h. omega (arith, le, h);
   fits_after = fits_after;
   fits_merged = λ n m a s h g. omega (arith, h, g);
@@ -32,49 +32,47 @@ bank_laws = record {
     one_more a s (Add n) p = ap (λ held. account held a.is_open) (sym (add_assoc a.held s n))
     one_more a s (Take n) p = absurd (true≢false (sym p))
     one_more a s Shut p = absurd (true≢false (sym p))
-    one_more a s Nothing p = refl
 
     swap : (a : Account) (x y : Change) → is_splittable x ≡ true → is_splittable y ≡ true →
         applied (applied a x) y ≡ applied (applied a y) x
     swap a (Add n) (Add m) p q = ap (λ held. account held a.is_open) (add_right_comm a.held n m)
-    swap a (Add n) Nothing p q = refl
-    swap a Nothing (Add m) p q = refl
-    swap a Nothing Nothing p q = refl
     swap a (Take n) y p q = absurd (true≢false (sym p))
     swap a Shut y p q = absurd (true≢false (sym p))
     swap a x (Take m) p q = absurd (true≢false (sym q))
     swap a x Shut p q = absurd (true≢false (sym q))
 
-    stays_open : (a : Account) (x : Change) → is_splittable x ≡ true → (applied a x).is_open ≡ a.is_open
+    stays_open : (a : Account) (x : Change) → is_splittable x ≡ true →
+        account 0 (applied a x).is_open ≡ account 0 a.is_open
     stays_open a (Add n) p = refl
     stays_open a (Take n) p = absurd (true≢false (sym p))
     stays_open a Shut p = absurd (true≢false (sym p))
-    stays_open a Nothing p = refl
 
-    by_fixed : (q : BankRequest) (a b : Account) → splits q ≡ true →
-        decide q a b ≡ deposited a.is_open (amount_of q)
-    by_fixed (Deposit to n) a b h = refl
-    by_fixed (Transfer from to n) a b h = absurd (true≢false (sym h))
-    by_fixed (Balance of) a b h = absurd (true≢false (sym h))
-    by_fixed (Close of) a b h = absurd (true≢false (sym h))
+    by_fixed : (q : BankRequest) (accounts : ℕ → Account) → splits q ≡ true →
+        decide q (λ place. account 0 (accounts place).is_open) ≡ decide q accounts
+    by_fixed (Deposit to n) accounts h = refl
+    by_fixed (Transfer from to n) accounts h = absurd (true≢false (sym h))
+    by_fixed (Balance of) accounts h = absurd (true≢false (sym h))
+    by_fixed (Close of) accounts h = absurd (true≢false (sym h))
 
-    first_splits : (is_open : Bool) (n : ℕ) → is_splittable (deposited is_open n).first ≡ true
-    first_splits true n = refl
-    first_splits false n = refl
+    additions : (is_open : Bool) (n : ℕ) →
+        AllByRecursion (λ x. is_splittable x ≡ true) (deposited (account 0 is_open) n).acts
+    additions true n = (refl, tt)
+    additions false n = tt
 
-    second_splits : (is_open : Bool) (n : ℕ) → is_splittable (deposited is_open n).second ≡ true
-    second_splits true n = refl
-    second_splits false n = refl
+    acts_split : (q : BankRequest) (accounts : ℕ → Account) → splits q ≡ true →
+        AllByRecursion (λ x. is_splittable x ≡ true) (decide q accounts).acts
+    acts_split (Deposit to n) accounts h = additions (accounts 0).is_open n
+    acts_split (Transfer from to n) accounts h = absurd (true≢false (sym h))
+    acts_split (Balance of) accounts h = absurd (true≢false (sym h))
+    acts_split (Close of) accounts h = absurd (true≢false (sym h))
 
     fits_after : (n : ℕ) (a : Account) (x : Change) → IsSmall x → Fits n a → Fits (suc n) (applied a x)
     fits_after n a (Add m) small h = omega (arith, small, h)
     fits_after n a (Take m) small h = omega (arith, h)
     fits_after n a Shut small h = omega (arith, h)
-    fits_after n a Nothing small h = omega (arith, h)
 
     slice_fits_after : (n s : ℕ) (x : Change) → IsSmall x → SliceFits n s →
         SliceFits (suc n) (sliced s x)
     slice_fits_after n s (Add m) small h = omega (arith, small, h)
     slice_fits_after n s (Take m) small h = omega (arith, h)
     slice_fits_after n s Shut small h = omega (arith, h)
-    slice_fits_after n s Nothing small h = omega (arith, h)

@@ -1,8 +1,9 @@
 //! The bank: its accounts, and the requests that name one or two of them.
 ghost use Rattle.std.specs.Prelude.{◌≡◌, ◌*◌, ◌≤◌};
+ghost use Rattle.std.specs.List.{AllByRecursion};
 ghost use Rattle.example_bank.specs.Model.{deposited, refused, transferred, IsSmall};
 
-use split_engine::{Application, Checkable, Decision};
+use split_engine::{Application, Checkable, Decision, Few};
 
 /// What the bank is asked.
 #[derive(Clone, Copy)]
@@ -35,7 +36,6 @@ pub enum Change {
     Add(u32),
     Take(u32),
     Shut,
-    Nothing,
 }
 
 /// What is kept of an account.
@@ -53,34 +53,32 @@ pub struct Bank;
 // Nothing is done.
 fn refused(reply: BankReply) -> Decision<BankReply, Change>
     ensures value { result ≡ refused reply }
-    ensures small { IsSmall result.first × IsSmall result.second }
+    ensures small { AllByRecursion IsSmall result.acts }
 {
     Decision {
         reply,
-        first: Change::Nothing,
-        second: Change::Nothing,
+        acts: Few::none(),
     }
 }
 
-// A deposit into an account, of which this says whether it is open.
-fn deposited(is_open: bool, amount: u32) -> Decision<BankReply, Change>
-    ensures value { result ≡ deposited is_open amount }
-    ensures small { IsSmall result.first × IsSmall result.second }
+// A deposit into an account.
+fn deposited(to: Account, amount: u32) -> Decision<BankReply, Change>
+    ensures value { result ≡ deposited to amount }
+    ensures small { AllByRecursion IsSmall result.acts }
 {
-    if !is_open {
+    if !to.is_open {
         return refused(BankReply::Closed);
     }
     Decision {
         reply: BankReply::Done,
-        first: Change::Add(amount),
-        second: Change::Nothing,
+        acts: Few::one(Change::Add(amount)),
     }
 }
 
 // A transfer from one account to another.
-fn transferred(from: &Account, to: &Account, amount: u32) -> Decision<BankReply, Change>
-    ensures value { result ≡ transferred from.now to.now amount }
-    ensures small { IsSmall result.first × IsSmall result.second }
+fn transferred(from: Account, to: Account, amount: u32) -> Decision<BankReply, Change>
+    ensures value { result ≡ transferred from to amount }
+    ensures small { AllByRecursion IsSmall result.acts }
 {
     if !from.is_open {
         return refused(BankReply::Closed);
@@ -93,8 +91,7 @@ fn transferred(from: &Account, to: &Account, amount: u32) -> Decision<BankReply,
     }
     Decision {
         reply: BankReply::Done,
-        first: Change::Take(amount),
-        second: Change::Add(amount),
+        acts: Few::two(Change::Take(amount), Change::Add(amount)),
     }
 }
 
@@ -106,7 +103,7 @@ impl Application for Bank {
 
     type Slice = u64;
 
-    type Fixed = bool;
+    type Look = Account;
 
     type Request = BankRequest;
 
@@ -124,12 +121,29 @@ impl Application for Bank {
 
     ghost laws = { bank_laws };
 
-    fn keys(request: &BankRequest) -> (u32, u32) {
+    fn keys(request: &BankRequest) -> Few<u32> {
         match *request {
-            BankRequest::Transfer { from, to, .. } => (from, to),
+            BankRequest::Transfer { from, to, .. } => Few::two(from, to),
             BankRequest::Deposit { to: of, .. }
             | BankRequest::Balance { of }
-            | BankRequest::Close { of } => (of, of),
+            | BankRequest::Close { of } => Few::one(of),
+        }
+    }
+
+    fn look(held: &Account) -> Account {
+        *held
+    }
+
+    fn decide(request: &BankRequest, looks: &Few<Account>) -> Decision<BankReply, Change> {
+        let request = *request;
+        match request {
+            BankRequest::Deposit { amount, .. } => deposited(looks.at(0), amount),
+            BankRequest::Transfer { amount, .. } => transferred(looks.at(0), looks.at(1), amount),
+            BankRequest::Balance { .. } => refused(BankReply::Holds(looks.at(0).held)),
+            BankRequest::Close { .. } => Decision {
+                reply: BankReply::Done,
+                acts: Few::one(Change::Shut),
+            },
         }
     }
 
@@ -137,47 +151,11 @@ impl Application for Bank {
         matches!(*request, BankRequest::Deposit { .. })
     }
 
-    fn fixed(held: &Account) -> bool {
-        held.is_open
-    }
-
-    fn decide(
-        request: &BankRequest,
-        first: &Account,
-        second: &Account,
-    ) -> Decision<BankReply, Change> {
-        let request = *request;
-        match request {
-            BankRequest::Deposit { amount, .. } => deposited(first.is_open, amount),
-            BankRequest::Transfer { amount, .. } => transferred(first, second, amount),
-            BankRequest::Balance { .. } => refused(BankReply::Holds(first.held)),
-            BankRequest::Close { .. } => Decision {
-                reply: BankReply::Done,
-                first: Change::Shut,
-                second: Change::Nothing,
-            },
-        }
-    }
-
-    fn decide_split(
-        request: &BankRequest,
-        first: bool,
-        _second: bool,
-    ) -> Decision<BankReply, Change> {
-        let request = *request;
-        let amount = match request {
-            BankRequest::Deposit { amount, .. } => amount,
-            _ => 0,
-        };
-        deposited(first, amount)
-    }
-
     fn apply(held: &mut Account, act: Change) {
         match act {
             Change::Add(amount) => held.held += amount as u64,
             Change::Take(amount) => held.held = held.held.saturating_sub(amount as u64),
             Change::Shut => held.is_open = false,
-            Change::Nothing => {}
         }
     }
 

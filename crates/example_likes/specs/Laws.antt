@@ -1,5 +1,6 @@
 -- Why likes may be performed on slices: the laws are those of sums and of the greatest.
-use Rattle.std.specs.Prelude.{◌≡◌, ℕ, suc, ◌+◌, true}
+use Rattle.std.specs.Prelude.{◌≡◌, ℕ, suc, ◌+◌, true, List, [], ◌∷◌, None}
+use Rattle.std.specs.List.{AllByRecursion}
 use Rattle.std.specs.Ordering.{nat_cmp}
 use Rattle.std.proofs.Common.{true≢false, refl, sym, ap, arith}
 use Rattle.phase_laws.specs.Ranking.{greater}
@@ -9,9 +10,9 @@ use Rattle.split_engine.specs.Rules.{SplitLaws}
 use Rattle.example_likes.specs.declared.likes.LikeRequest.{LikeRequest}
 use Rattle.example_likes.specs.declared.likes.LikeRequest.TheVariants.{Like, View}
 use Rattle.example_likes.specs.declared.likes.Change.{Change}
-use Rattle.example_likes.specs.declared.likes.Change.TheVariants.{Note, Count, Nothing}
+use Rattle.example_likes.specs.declared.likes.Change.TheVariants.{Note, Count}
 use Rattle.example_likes.specs.declared.likes.Tally.{Tally}
-use Rattle.example_likes.specs.Model.{tally, splits, decide, decide_split, applied, merged, likes, Fits}
+use Rattle.example_likes.specs.Model.{tally, splits, decide, applied, merged, likes, Fits}
 
 one_more : (a s : Tally) (x : Change) → true ≡ true →
     merged a (applied s x) ≡ applied (merged a s) x
@@ -19,28 +20,26 @@ one_more a s (Note time) p =
     ap (tally (a.likes + s.likes)) (max_laws.merge_applied a.last s.last time)
 one_more a s Count p =
     ap (λ n. tally n (greater nat_cmp a.last s.last)) (sum_laws.merge_applied a.likes s.likes 1)
-one_more a s Nothing p = refl
 
 swap : (a : Tally) (x y : Change) → true ≡ true → true ≡ true →
     applied (applied a x) y ≡ applied (applied a y) x
 swap a (Note n) (Note m) p q = ap (tally a.likes) (max_laws.applications_commute a.last n m)
 swap a (Note n) Count p q = refl
-swap a (Note n) Nothing p q = refl
 swap a Count (Note m) p q = refl
 swap a Count Count p q = refl
-swap a Count Nothing p q = refl
-swap a Nothing (Note m) p q = refl
-swap a Nothing Count p q = refl
-swap a Nothing Nothing p q = refl
 
-by_fixed : (q : LikeRequest) (a b : Tally) → splits q ≡ true → decide q a b ≡ decide_split q tt tt
-by_fixed (Like user page time) a b h = refl
-by_fixed (View user page) a b h = absurd (true≢false (sym h))
+by_fixed : (q : LikeRequest) (tallies : ℕ → Tally) → splits q ≡ true →
+    decide q (λ _. tally 0 None) ≡ decide q tallies
+by_fixed (Like user page time) tallies h = refl
+by_fixed (View user page) tallies h = absurd (true≢false (sym h))
+
+acts_split : (xs : List Change) → AllByRecursion (λ _. true ≡ true) xs
+acts_split [] = tt
+acts_split (x ∷ xs) = (refl, acts_split xs)
 
 fits_after : (n : ℕ) (a : Tally) (x : Change) → Unit {0} → Fits n a → Fits (suc n) (applied a x)
 fits_after n a (Note time) small h = omega (arith, h)
 fits_after n a Count small h = omega (arith, h)
-fits_after n a Nothing small h = omega (arith, h)
 
 pub likes_laws : SplitLaws likes Fits Fits (λ _. Unit {0})
 likes_laws = record {
@@ -50,8 +49,7 @@ likes_laws = record {
   commute = swap;
   keeps_fixed = λ a x _. refl;
   by_fixed = by_fixed;
-  splits_first = λ q f g _. refl;
-  splits_second = λ q f g _. refl;
+  acts_split = λ q tallies _. acts_split (decide q tallies).acts;
   fits_more = λ n m a le h. omega (arith, le, h);
   fits_after = fits_after;
   fits_merged = λ n m a s h g. omega (arith, h, g);

@@ -1,7 +1,7 @@
 //! Users who like pages. Each record is of a user or of a page; requests know which key is whose.
 ghost use Rattle.std.specs.Prelude.{◌≡◌, ◌≤◌};
 
-use split_engine::{Application, Checkable, Decision};
+use split_engine::{Application, Checkable, Decision, Few};
 
 /// What is asked.
 #[derive(Clone, Copy)]
@@ -27,7 +27,6 @@ pub enum Change {
     Note(u64),
     /// One like more.
     Count,
-    Nothing,
 }
 
 /// What is kept of a user or a page, and a slice of it.
@@ -56,7 +55,7 @@ impl Application for Likes {
 
     type Slice = Tally;
 
-    type Fixed = ();
+    type Look = Tally;
 
     type Request = LikeRequest;
 
@@ -74,9 +73,31 @@ impl Application for Likes {
 
     ghost laws = { likes_laws };
 
-    fn keys(request: &LikeRequest) -> (u32, u32) {
+    fn keys(request: &LikeRequest) -> Few<u32> {
         match *request {
-            LikeRequest::Like { user, page, .. } | LikeRequest::View { user, page } => (user, page),
+            LikeRequest::Like { user, page, .. } | LikeRequest::View { user, page } => {
+                Few::two(user, page)
+            }
+        }
+    }
+
+    fn look(held: &Tally) -> Tally {
+        *held
+    }
+
+    fn decide(request: &LikeRequest, looks: &Few<Tally>) -> Decision<LikeReply, Change> {
+        match *request {
+            LikeRequest::Like { time, .. } => Decision {
+                reply: LikeReply::Liked,
+                acts: Few::two(Change::Note(time), Change::Count),
+            },
+            LikeRequest::View { .. } => Decision {
+                reply: LikeReply::Viewed {
+                    likes: looks.at(1).likes,
+                    last: looks.at(0).last,
+                },
+                acts: Few::none(),
+            },
         }
     }
 
@@ -84,43 +105,10 @@ impl Application for Likes {
         matches!(*request, LikeRequest::Like { .. })
     }
 
-    fn fixed(_held: &Tally) -> () {}
-
-    fn decide(request: &LikeRequest, first: &Tally, second: &Tally) -> Decision<LikeReply, Change> {
-        match *request {
-            LikeRequest::Like { time, .. } => Decision {
-                reply: LikeReply::Liked,
-                first: Change::Note(time),
-                second: Change::Count,
-            },
-            LikeRequest::View { .. } => Decision {
-                reply: LikeReply::Viewed {
-                    likes: second.likes,
-                    last: first.last,
-                },
-                first: Change::Nothing,
-                second: Change::Nothing,
-            },
-        }
-    }
-
-    fn decide_split(request: &LikeRequest, _first: (), _second: ()) -> Decision<LikeReply, Change> {
-        let first = match *request {
-            LikeRequest::Like { time, .. } => Change::Note(time),
-            LikeRequest::View { .. } => Change::Nothing,
-        };
-        Decision {
-            reply: LikeReply::Liked,
-            first,
-            second: Change::Count,
-        }
-    }
-
     fn apply(held: &mut Tally, act: Change) {
         match act {
             Change::Note(time) => held.last = held.last.max(Some(time)),
             Change::Count => held.likes += 1,
-            Change::Nothing => {}
         }
     }
 

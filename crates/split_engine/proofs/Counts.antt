@@ -42,7 +42,7 @@ total_take [] (suc k) = omega arith
 total_take (xs ∷ xss) zero = omega arith
 total_take (xs ∷ xss) (suc k) = let again = total_take xss k in omega (arith, again)
 
-module _ {Record Slice Fixed Request Reply Act : Type 0} (rules : Rules Record Slice Fixed Request Reply Act) where
+module _ {Record Slice Look Request Reply Act : Type 0} (rules : Rules Record Slice Look Request Reply Act) where
   each_short : (size : ℕ) (ss : List (List Request)) → total ss ≤ MOST_COMMITS → AllByRecursion (AllByRecursion (IsWithin rules size)) ss → AllByRecursion (IsScript rules size) ss
   each_short size [] few h = tt
   each_short size (s ∷ ss) few h = ((h.0, omega (arith, few)), each_short size ss (omega (arith, few)) h.1)
@@ -71,7 +71,7 @@ stashed_long script old new le f =
     let c : length new.stash.items ≡ length old.stash.items + length f.all = ap length f.stash_is ∙ length-append old.stash.items f.all in
     omega (arith, a, b, c, long_before script old.next le, long_before script new.next f.next_in)
 
-module _ {Record Slice Fixed Request Reply Act : Type 0} (rules : Rules Record Slice Fixed Request Reply Act) where
+module _ {Record Slice Look Request Reply Act : Type 0} (rules : Rules Record Slice Look Request Reply Act) where
   -- what a split phase performs and what it puts off are what it is given
   pub done_long : (IsSmall : Act → Type 0) (a : Assignment Record Request) (new : Cursor Request) (journal : List (Entry Request Reply)) (slices : List Slice) →
       a.cursor.next ≤ length a.script → HasDone rules IsSmall a new journal slices →
@@ -156,7 +156,7 @@ abbrev passed : {Q : Type 0} → List (Cursor Q) → ℕ
 passed [] = 0
 passed (d ∷ ds) = d.next + passed ds
 
-module _ {Record Slice Fixed Request Reply Act : Type 0} (rules : Rules Record Slice Fixed Request Reply Act) where
+module _ {Record Slice Look Request Reply Act : Type 0} (rules : Rules Record Slice Look Request Reply Act) where
   served_long : (size v : ℕ) (s : List Request) (d : Cursor Request) (history : List (Entry Request Reply)) → HasServed rules size v s d history →
       length (entries_of v history) + length d.stash.items ≡ d.next
   served_long size v s d history h =

@@ -3,6 +3,7 @@ use Rattle.std.proofs.Common.{◌≡◌, ℕ, zero, suc, ◌+◌, ◌*◌, ◌<�
 use Rattle.std.proofs.Math.Numerals.{add-one}
 use Rattle.std.proofs.Math.Seq.{take-suc}
 use Rattle.std.specs.List.{AllByRecursion}
+use Rattle.split_engine.specs.declared.few.TheConstants.{MOST_KEYS}
 use Rattle.split_engine.specs.declared.entry.Entry.{Entry}
 use Rattle.split_engine.specs.declared.state.Cursor.{Cursor}
 use Rattle.split_engine.specs.Rules.{Rules}
@@ -50,7 +51,7 @@ pub finished_whole : {Request : Type 0} (ss : List (List Request)) (ds : List (C
 finished_whole ss ds k le len h =
     subst (λ (p : List (List _) × List (Cursor _)). AllFinished p.0 p.1) (λ i. (take_whole ss k le i, take_whole ds k (omega (arith, le, len)) i)) h
 
-module _ {Record Slice Fixed Request Reply Act : Type 0} (rules : Rules Record Slice Fixed Request Reply Act) where
+module _ {Record Slice Look Request Reply Act : Type 0} (rules : Rules Record Slice Look Request Reply Act) where
   fresh_served : (size v : ℕ) (ss : List (List Request)) (ds : List (Cursor Request)) → length ds ≡ length ss → AreFresh ds → HaveServed {Reply = Reply} rules size v ss ds []
   fresh_served size v [] [] len h = tt
   fresh_served size v [] (d ∷ ds) len h = absurd (omega (arith, len))
@@ -69,7 +70,7 @@ module _ {Record Slice Fixed Request Reply Act : Type 0} (rules : Rules Record S
   pub state_at_first : (Fits : ℕ → Record → Type 0) (n : ℕ) (opened : List Record) (scripts : List (List Request)) (history : List (Entry Request Reply)) (cursors : List (Cursor Request)) →
       length cursors ≡ length scripts → AreFresh cursors → history ≡ [] → AllByRecursion (Fits n) opened → IsRunState rules Fits n opened scripts opened history cursors
   state_at_first Fits n opened scripts history cursors len fresh none fits =
-      let same : n ≡ n + 2 * 0 = omega arith in
+      let same : n ≡ n + MOST_KEYS * 0 = omega arith in
       let state : IsRunState {Reply = Reply} rules Fits n opened scripts opened [] cursors = record {
         replays = tt;
         leaves = refl;

@@ -94,7 +94,7 @@ kept_set guesses keys slices place s are = record {
   right = are.right;
 }
 
-module _ {Record Slice Fixed Request Reply Act : Type 0} (rules : Rules Record Slice Fixed Request Reply Act) where
+module _ {Record Slice Look Request Reply Act : Type 0} (rules : Rules Record Slice Look Request Reply Act) where
   kept_here : (keys : List ℕ) (slices : List Slice) (key guess : ℕ) → is_at keys key guess ≡ true → kept rules keys slices key guess ≡ get_or slices guess rules.empty
   kept_here keys slices key guess is = cond-true (is_at keys key guess) (get_or slices guess rules.empty) rules.empty is
 

@@ -1,6 +1,7 @@
 -- Lines of a history, and marks of their requests.
 use Rattle.std.proofs.Common.{◌≡◌, ℕ, zero, suc, ◌==◌, Bool, true, false, List, [], ◌∷◌, ◌++◌, length, set, replicate, Some, refl, sym, ap, ◌∙◌, subst, append_assoc, append-nil, eqb-true}
 use Rattle.std.specs.Prelude.{slice_get, ◌&&◌, ◌||◌}
+use Rattle.std.specs.List.{AllByRecursion}
 use Rattle.std.specs.Option.{option_map}
 use Rattle.std.proofs.lemmas.Bool.{eq-eqb, eqb-false, ne_eqb}
 use Rattle.std.proofs.lemmas.List.Sums.{fold-append}
@@ -10,6 +11,20 @@ use Rattle.split_engine.specs.Rules.{Rules}
 use Rattle.split_engine.specs.Serving.{request_at}
 use Rattle.split_engine.specs.inner.Marking.{no_marks}
 use Rattle.split_engine.specs.Checking.{has_line, AreMarks, IsRightLine, after_line, after_lines, lines_replay}
+
+-- ---- requests
+
+in_script : {Q : Type 0} (P : Q → Type 0) (script : List Q) (i : ℕ) (q : Q) → AllByRecursion P script → slice_get script i ≡ Some q → P q
+in_script P [] i q h at = absurd (none-some q at)
+in_script P (r ∷ rs) zero q h at = subst P (same_Some r q at) h.0
+in_script P (r ∷ rs) (suc i) q h at = in_script P rs i q h.1 at
+
+-- what holds of all requests of scripts holds of one of them
+pub in_scripts : {Q : Type 0} (P : Q → Type 0) (L : List Q → Type 0) (scripts : List (List Q)) (w i : ℕ) (q : Q) →
+    AllByRecursion (λ script. AllByRecursion P script × L script) scripts → request_at scripts w i ≡ Some q → P q
+in_scripts P L [] w i q h at = absurd (none-some q at)
+in_scripts P L (s ∷ ss) zero i q h at = in_script P s i q h.0.0 at
+in_scripts P L (s ∷ ss) (suc w) i q h at = in_scripts P L ss w i q h.1 at
 
 -- ---- marks
 
@@ -141,7 +156,7 @@ module _ {Q R : Type 0} (scripts : List (List Q)) (before : List (Line R)) (old 
   pub marks_more : AreMarks scripts (before ++ line ∷ []) new
   marks_more w i = more_if w i (w == line.worker) (i == line.index) refl refl
 
-module _ {Record Slice Fixed Request Reply Act : Type 0} (rules : Rules Record Slice Fixed Request Reply Act) (scripts : List (List Request)) where
+module _ {Record Slice Look Request Reply Act : Type 0} (rules : Rules Record Slice Look Request Reply Act) (scripts : List (List Request)) where
   pub lines_push : (before : List (Line Reply)) (t : List Record) (lines : List (Line Reply)) (line : Line Reply) → lines_replay rules scripts before t lines →
       IsRightLine rules scripts (before ++ lines) (after_lines rules scripts t lines) line → lines_replay rules scripts before t (lines ++ line ∷ [])
   lines_push before t [] line h right = (subst (λ b. IsRightLine rules scripts b t line) (append-nil before) right, tt)

@@ -85,7 +85,7 @@ long_before {Q} script (suc n) le =
     length-append (calls_before script n) last ∙ ap (λ k. length (calls_before script n) + k) (one_long n (slice_get script n) at.0 at.1) in
     omega (arith, more, long_before script n (omega (arith, le)))
 
-module _ {Record Slice Fixed Request Reply Act : Type 0} (rules : Rules Record Slice Fixed Request Reply Act) where
+module _ {Record Slice Look Request Reply Act : Type 0} (rules : Rules Record Slice Look Request Reply Act) where
   abbrev Own : ℕ → List (Entry Request Reply) → List (Entry Request Reply)
   Own w es = part (λ (e : Entry Request Reply). e.worker) w es
 

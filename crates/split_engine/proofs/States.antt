@@ -12,6 +12,7 @@ use Rattle.std.proofs.lemmas.List.Sums.{fold-append}
 use Rattle.phase_laws.specs.Order.{part}
 use Rattle.phase_laws.proofs.ListLemmas.{all-right}
 use Rattle.phase_laws.proofs.OrderLemmas.{all-filter, all-weaker}
+use Rattle.split_engine.specs.declared.few.TheConstants.{MOST_KEYS}
 use Rattle.split_engine.specs.declared.entry.Entry.{Entry}
 use Rattle.split_engine.specs.declared.state.Cursor.{Cursor}
 use Rattle.split_engine.specs.Rules.{Rules, SplitLaws}
@@ -107,7 +108,7 @@ module _ {Q R : Type 0} where
       AllByRecursion (λ (e : Entry Q R). e.worker ≡ v → ⊥) more
   own_not w v ne more own = all-weaker (λ (e : Entry Q R). e.worker ≡ w) (λ e. e.worker ≡ v → ⊥) (λ e is same. ne (sym is ∙ same)) more own
 
-module _ {Record Slice Fixed Request Reply Act : Type 0} (rules : Rules Record Slice Fixed Request Reply Act) where
+module _ {Record Slice Look Request Reply Act : Type 0} (rules : Rules Record Slice Look Request Reply Act) where
   served_same : (size w : ℕ) (script : List Request) (cursor : Cursor Request) (history later : List (Entry Request Reply)) →
       own_part w later ≡ own_part w history → HasServed rules size w script cursor history → HasServed rules size w script cursor later
   served_same size w script cursor history later same h = record {
@@ -204,7 +205,7 @@ module _ {Record Slice Fixed Request Reply Act : Type 0} (rules : Rules Record S
           replays = replays_both rules opened history t.more f.replays (subst (λ b. ReplaysFrom rules b t.more) f.leaves t.replays);
           leaves = t.table_is ∙ ap (λ b. table_after rules b t.more) f.leaves ∙ sym (fold-append (after_entry rules) opened history t.more);
           size_is = t.size_is ∙ f.size_is;
-          fits = subst (λ h. AllByRecursion (Fits (n + 2 * length h)) after) t.history_is (t.fits n f.fits);
+          fits = subst (λ h. AllByRecursion (Fits (n + MOST_KEYS * length h)) after) t.history_is (t.fits n f.fits);
           served = have_set (length opened) 0 scripts cursors k s cursor history (history ++ t.more) others is served f.served;
           no_others = all_both _ history t.more f.no_others (all-weaker (λ (e : Entry Request Reply). e.worker ≡ k) (λ e. e.worker < length scripts) (λ e own. omega (arith, own, lt)) t.more t.own);
         } in subst (λ h. IsRunState rules Fits n opened scripts after h (set cursors k cursor)) (sym t.history_is) state
@@ -280,18 +281,18 @@ module _ {Record Slice Fixed Request Reply Act : Type 0} (rules : Rules Record S
     pub state_worked : (n : ℕ) (opened : List Record) (scripts : List (List Request)) (after : List Record) (history later : List (Entry Request Reply)) (olds news : List (Cursor Request)) (js : List (List (Entry Request Reply))) →
         AllByRecursion (IsScript rules (length table)) scripts →
         IsRunState rules Fits n opened scripts table history olds → HaveDone rules IsSmall (assignments table hot quota 0 scripts olds) news js →
-        after ≡ all_merged rules table table js → length after ≡ length table → later ≡ history ++ joined js → AllByRecursion (Fits (n + 2 * length later)) after →
+        after ≡ all_merged rules table table js → length after ≡ length table → later ≡ history ++ joined js → AllByRecursion (Fits (n + MOST_KEYS * length later)) after →
         IsRunState rules Fits n opened scripts after later news
     state_worked n opened scripts after history later olds news js all f h merged size long fits =
         let split = all_split 0 scripts olds news js h in
         let at : after ≡ table_after rules table (joined js) =
-        merged ∙ opened_merged rules Fits SliceFits IsSmall laws table (n + 2 * length history) js (joined js) f.fits (all_in_turn js) split in
+        merged ∙ opened_merged rules Fits SliceFits IsSmall laws table (n + MOST_KEYS * length history) js (joined js) f.fits (all_in_turn js) split in
         let replays = replay rules Fits SliceFits IsSmall laws table table (joined js) (λ key. refl) split in
         let state : IsRunState rules Fits n opened scripts after (history ++ joined js) news = record {
           replays = replays_both rules opened history (joined js) f.replays (subst (λ b. ReplaysFrom rules b (joined js)) f.leaves replays);
           leaves = at ∙ ap (λ b. table_after rules b (joined js)) f.leaves ∙ sym (fold-append (after_entry rules) opened history (joined js));
           size_is = size ∙ f.size_is;
-          fits = subst (λ es. AllByRecursion (Fits (n + 2 * length es)) after) long fits;
+          fits = subst (λ es. AllByRecursion (Fits (n + MOST_KEYS * length es)) after) long fits;
           served = subst (λ m. HaveServed rules m 0 scripts news (history ++ joined js)) f.size_is
               (have_worked 0 scripts olds news js history all (subst (λ m. HaveServed rules m 0 scripts olds history) (sym f.size_is) f.served) h);
           no_others = all_both _ history (joined js) f.no_others (all-weaker (λ (e : Entry Request Reply). (0 ≤ e.worker) × (e.worker < 0 + length scripts)) (λ e. e.worker < length scripts)
@@ -317,7 +318,7 @@ pub joined_push : {X : Type 0} (xss : List (List X)) (xs : List X) → joined (x
 joined_push [] xs = append-nil xs
 joined_push (ys ∷ xss) xs = ap (λ zs. ys ++ zs) (joined_push xss xs) ∙ sym (append_assoc ys (joined xss) xs)
 
-module _ {Record Slice Fixed Request Reply Act : Type 0} (rules : Rules Record Slice Fixed Request Reply Act) where
+module _ {Record Slice Look Request Reply Act : Type 0} (rules : Rules Record Slice Look Request Reply Act) where
   merged_push : (opened table : List Record) (js : List (List (Entry Request Reply))) (j : List (Entry Request Reply)) →
       all_merged rules opened table (js ++ j ∷ []) ≡ merged_all rules (all_merged rules opened table js) (slices_of rules opened j)
   merged_push opened table [] j = refl
@@ -348,7 +349,7 @@ module _ {Record Slice Fixed Request Reply Act : Type 0} (rules : Rules Record S
         (a : Assignment Record Request) (d : Cursor Request) (j : List (Entry Request Reply)) (slices : List Slice) →
         HasClosed rules IsSmall Fits before table history mid some olds → a.table ≡ table → HasDone rules IsSmall a d j slices → length j ≤ left_of a →
         after ≡ merged_all rules mid slices → length after ≡ length mid → later ≡ some ++ j → news ≡ olds ++ d ∷ [] →
-        ((n : ℕ) → AllByRecursion (Fits (n + 2 * length some)) mid → AllByRecursion (Fits (n + 2 * length later)) after) →
+        ((n : ℕ) → AllByRecursion (Fits (n + MOST_KEYS * length some)) mid → AllByRecursion (Fits (n + MOST_KEYS * length later)) after) →
         HasClosed rules IsSmall Fits (before ++ a ∷ []) table history after later news
     closed_more Fits before table mid after history some later olds news a d j slices h same w few merged size long cursors fits =
         let are = w.done.slices_are in
@@ -402,7 +403,7 @@ assigned_next table hot quota k ss ds s d rest lt is next =
     (λ i. assignments table hot quota k (drop_step ss k s lt is i) (next i))
     ∙ ap (λ n. assignment table hot k s quota d ∷ assignments table hot quota n (drop n ss) rest) (sym (add-one k))
 
-pub served_next : {Record Slice Fixed Request Reply Act : Type 0} (rules : Rules Record Slice Fixed Request Reply Act) (size k : ℕ) (ss : List (List Request)) (ds : List (Cursor Request)) (s : List Request) (d : Cursor Request)
+pub served_next : {Record Slice Look Request Reply Act : Type 0} (rules : Rules Record Slice Look Request Reply Act) (size k : ℕ) (ss : List (List Request)) (ds : List (Cursor Request)) (s : List Request) (d : Cursor Request)
     (rest : List (Cursor Request)) (history : List (Entry Request Reply)) →
     k < length ss → s ≡ get_or ss k s → ds ≡ d ∷ rest → HaveServed rules size k (drop k ss) ds history →
     HasServed rules size k s d history × HaveServed rules size (k + 1) (drop (k + 1) ss) rest history

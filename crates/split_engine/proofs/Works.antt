@@ -48,7 +48,7 @@ all_at P [] n d h all = absurd (omega arith)
 all_at P (x ∷ xs) zero d h all = all.0
 all_at P (x ∷ xs) (suc n) d h all = all_at P xs n d (omega arith) all.1
 
-module _ {Record Slice Fixed Request Reply Act : Type 0} (rules : Rules Record Slice Fixed Request Reply Act) (IsSmall : Act → Type 0)
+module _ {Record Slice Look Request Reply Act : Type 0} (rules : Rules Record Slice Look Request Reply Act) (IsSmall : Act → Type 0)
     (hot : List Bool) (table : List Record) (worker : ℕ) where
   pub stashed_more : (before all : List (ℕ × Request)) (journal : List (Entry Request Reply)) (slices : List Slice) (stash : List (ℕ × Request)) (call : ℕ × Request) →
       HasPerformedOnSlices rules IsSmall hot table worker all journal slices before stash → is_taken rules hot call.1 ≡ false →
@@ -63,7 +63,7 @@ module _ {Record Slice Fixed Request Reply Act : Type 0} (rules : Rules Record S
     slices_are = d.slices_are;
   }
 
-module _ {Record Slice Fixed Request Reply Act : Type 0} (rules : Rules Record Slice Fixed Request Reply Act) where
+module _ {Record Slice Look Request Reply Act : Type 0} (rules : Rules Record Slice Look Request Reply Act) where
   pub replays_both : (t : List Record) (es fs : List (Entry Request Reply)) → ReplaysFrom rules t es → ReplaysFrom rules (table_after rules t es) fs → ReplaysFrom rules t (es ++ fs)
   replays_both t [] fs h g = g
   replays_both t (e ∷ es) fs h g = (h.0, replays_both (after_entry rules t e) es fs h.1 g)

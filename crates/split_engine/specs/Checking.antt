@@ -19,8 +19,8 @@ abbrev pub AreMarks : {Q R : Type 0} → List (List Q) → List (Line R) → Lis
 AreMarks scripts lines marks = (worker index : ℕ) → request_at marks worker index
     ≡ option_map (λ q. has_line lines worker index) (request_at scripts worker index)
 
-module _ {Record Slice Fixed Request Reply Act : Type 0}
-    (rules : Rules Record Slice Fixed Request Reply Act) (scripts : List (List Request)) where
+module _ {Record Slice Look Request Reply Act : Type 0}
+    (rules : Rules Record Slice Look Request Reply Act) (scripts : List (List Request)) where
   -- a line is right after some lines that leave this table: its request is there, none of them has
   -- it, and its reply is the one that the table gives
   pub record IsRightLine (before : List (Line Reply)) (table : List Record)

@@ -22,8 +22,8 @@ abbrev pub IsRunFault : ℕ → RunFault → Type 0
 IsRunFault workers Spawn = 1 < workers
 IsRunFault workers Memory = ⊤
 
-module _ {Record Slice Fixed Request Reply Act : Type 0}
-    (rules : Rules Record Slice Fixed Request Reply Act) where
+module _ {Record Slice Look Request Reply Act : Type 0}
+    (rules : Rules Record Slice Look Request Reply Act) where
   -- why scripts cannot be run over so many records
   abbrev pub IsScriptFault : ℕ → List (List Request) → ScriptFault → Type 0
   IsScriptFault size scripts TooLong = MOST_COMMITS < length scripts + total scripts

@@ -1,21 +1,22 @@
 -- What an application says of its records and requests, and what its user proves of that.
-use Rattle.std.specs.Prelude.{◌≡◌, ℕ, suc, ◌+◌, ◌≤◌, Bool, true}
+use Rattle.std.specs.Prelude.{◌≡◌, ℕ, suc, ◌+◌, ◌≤◌, Bool, true, List, slice_index_or}
+use Rattle.std.specs.List.{AllByRecursion}
 use Rattle.split_engine.specs.declared.entry.Decision.{Decision}
 
 -- The model of an application.
-pub record Rules (Record Slice Fixed Request Reply Act : Type 0) : Type 0 where
-  -- the keys of the two records that a request names: they may be one
-  pub keys : Request → ℕ × ℕ
+pub record Rules (Record Slice Look Request Reply Act : Type 0) : Type 0 where
+  -- the keys of the records that a request names: one may stand there twice
+  pub keys : Request → List ℕ
   -- whether a request can be performed on slices
   pub splits : Request → Bool
   -- what is read at a key that is none of the table's
   pub blank : Record
-  -- what of a record does not change while it is split
-  pub fixed : Record → Fixed
-  -- what a request is answered and does, by its two records
-  pub decide : Request → Record → Record → Decision Reply Act
-  -- the same of a request that can be performed on slices, by what is fixed of them
-  pub decide_split : Request → Fixed → Fixed → Decision Reply Act
+  -- what a request sees of a record
+  pub look : Record → Look
+  -- what of that does not change while the record is split, the rest being blank
+  pub fixed : Look → Look
+  -- what a request is answered and does, by what it sees at each place of its keys
+  pub decide : Request → (ℕ → Look) → Decision Reply Act
   -- a record after an act
   pub applied : Record → Act → Record
   -- whether an act can be done on a slice
@@ -27,8 +28,12 @@ pub record Rules (Record Slice Fixed Request Reply Act : Type 0) : Type 0 where
   -- a record into which a slice is merged
   pub merged : Record → Slice → Record
 
-module _ {Record Slice Fixed Request Reply Act : Type 0}
-    (rules : Rules Record Slice Fixed Request Reply Act) where
+module _ {Record Slice Look Request Reply Act : Type 0}
+    (rules : Rules Record Slice Look Request Reply Act) where
+  -- the look at a place, of some looks
+  abbrev pub looks_in : List Look → ℕ → Look
+  looks_in looks place = slice_index_or looks place (rules.look rules.blank)
+
   -- What a user proves. `Fits n` holds of what at most n acts can make, `IsSmall` of the acts that
   -- requests decide.
   pub record SplitLaws (Fits : ℕ → Record → Type 0) (SliceFits : ℕ → Slice → Type 0)
@@ -44,15 +49,13 @@ module _ {Record Slice Fixed Request Reply Act : Type 0}
         rules.applied (rules.applied r x) y ≡ rules.applied (rules.applied r y) x
     -- and leave what is fixed
     pub keeps_fixed : (r : Record) (x : Act) → rules.is_splittable x ≡ true →
-        rules.fixed (rules.applied r x) ≡ rules.fixed r
+        rules.fixed (rules.look (rules.applied r x)) ≡ rules.fixed (rules.look r)
     -- a request on slices is decided by what is fixed
-    pub by_fixed : (q : Request) (r t : Record) → rules.splits q ≡ true →
-        rules.decide q r t ≡ rules.decide_split q (rules.fixed r) (rules.fixed t)
+    pub by_fixed : (q : Request) (looks : ℕ → Look) → rules.splits q ≡ true →
+        rules.decide q (λ place. rules.fixed (looks place)) ≡ rules.decide q looks
     -- and does such acts
-    pub splits_first : (q : Request) (f g : Fixed) → rules.splits q ≡ true →
-        rules.is_splittable (rules.decide_split q f g).first ≡ true
-    pub splits_second : (q : Request) (f g : Fixed) → rules.splits q ≡ true →
-        rules.is_splittable (rules.decide_split q f g).second ≡ true
+    pub acts_split : (q : Request) (looks : ℕ → Look) → rules.splits q ≡ true →
+        AllByRecursion (λ x. rules.is_splittable x ≡ true) (rules.decide q looks).acts
     -- the bound on acts may be raised
     pub fits_more : (n m : ℕ) (r : Record) → n ≤ m → Fits n r → Fits m r
     -- an act raises it by one

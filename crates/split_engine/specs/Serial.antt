@@ -1,12 +1,13 @@
 -- One thread: what a request is answered, and what it leaves.
-use Rattle.std.specs.Prelude.{◌≡◌, ℕ, ◌<◌, List, slice_index_or, slice_set, fold}
+use Rattle.std.specs.Prelude.{◌≡◌, ℕ, ◌<◌, List, slice_index_or, slice_set, map, fold}
+use Rattle.std.specs.List.{zip, AllByRecursion}
 use Rattle.phase_laws.specs.Replay.{Replays}
 use Rattle.split_engine.specs.declared.entry.Decision.{Decision}
 use Rattle.split_engine.specs.declared.entry.Entry.{Entry}
-use Rattle.split_engine.specs.Rules.{Rules}
+use Rattle.split_engine.specs.Rules.{Rules, looks_in}
 
-module _ {Record Slice Fixed Request Reply Act : Type 0}
-    (rules : Rules Record Slice Fixed Request Reply Act) where
+module _ {Record Slice Look Request Reply Act : Type 0}
+    (rules : Rules Record Slice Look Request Reply Act) where
   -- the record at a key
   abbrev pub record_at : List Record → ℕ → Record
   record_at table key = slice_index_or table key rules.blank
@@ -15,14 +16,21 @@ module _ {Record Slice Fixed Request Reply Act : Type 0}
   abbrev pub after_act : List Record → ℕ → Act → List Record
   after_act table key x = slice_set table key (rules.applied (record_at table key) x)
 
-  -- the table after the acts of a decision about two keys
-  abbrev pub after_both : List Record → ℕ × ℕ → Decision Reply Act → List Record
-  after_both table keys d = after_act (after_act table keys.0 d.first) keys.1 d.second
+  -- the table after acts, each at a key
+  abbrev pub after_acts : List Record → List (ℕ × Act) → List Record
+  after_acts = fold (λ table act. after_act table act.0 act.1)
+
+  -- what is seen at keys
+  abbrev pub looks_at : List Record → List ℕ → List Look
+  looks_at table keys = map (λ key. rules.look (record_at table key)) keys
 
   -- what a request decides
   abbrev pub decision : List Record → Request → Decision Reply Act
-  decision table q =
-      rules.decide q (record_at table (rules.keys q).0) (record_at table (rules.keys q).1)
+  decision table q = rules.decide q (looks_in rules (looks_at table (rules.keys q)))
+
+  -- what it then does, and at which keys
+  abbrev pub acts_at : List Record → Request → List (ℕ × Act)
+  acts_at table q = zip (rules.keys q) (decision table q).acts
 
   -- what a request is answered
   abbrev pub reply : List Record → Request → Reply
@@ -30,7 +38,7 @@ module _ {Record Slice Fixed Request Reply Act : Type 0}
 
   -- the table after a request
   abbrev pub next : List Record → Request → List Record
-  next table q = after_both table (rules.keys q) (decision table q)
+  next table q = after_acts table (acts_at table q)
 
   -- a commit's reply is the one that the table gives
   abbrev pub IsRight : List Record → Entry Request Reply → Type 0
@@ -48,6 +56,6 @@ module _ {Record Slice Fixed Request Reply Act : Type 0}
   abbrev pub table_after : List Record → List (Entry Request Reply) → List Record
   table_after = fold after_entry
 
-  -- both records of a request are of a table of this length
+  -- a request names keys of a table of this length
   abbrev pub IsWithin : ℕ → Request → Type 0
-  IsWithin len q = ((rules.keys q).0 < len) × ((rules.keys q).1 < len)
+  IsWithin len q = AllByRecursion (λ key. key < len) (rules.keys q)

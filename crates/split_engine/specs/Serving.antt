@@ -53,8 +53,8 @@ calls_of worker history = map call_of (entries_of worker history)
 abbrev pub count : {X : Type 0} → (X → Bool) → List X → ℕ
 count p xs = length (filter p xs)
 
-module _ {Record Slice Fixed Request Reply Act : Type 0}
-    (rules : Rules Record Slice Fixed Request Reply Act) where
+module _ {Record Slice Look Request Reply Act : Type 0}
+    (rules : Rules Record Slice Look Request Reply Act) where
   -- a script's requests name keys of a table of this size, and a u32 has their indexes
   abbrev pub IsScript : ℕ → List Request → Type 0
   IsScript size script = AllByRecursion (IsWithin rules size) script × (length script < index_end)

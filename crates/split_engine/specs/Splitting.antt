@@ -1,9 +1,10 @@
 -- A split phase: workers act on slices of their own, which are merged.
-use Rattle.std.specs.Prelude.{◌≡◌, ℕ, List, [], ◌∷◌, ◌++◌, true, length, replicate, slice_index_or, slice_set, fold}
-use Rattle.split_engine.specs.declared.entry.Decision.{Decision}
+use Rattle.std.specs.Prelude.{◌≡◌, ◌≤◌, ℕ, List, [], ◌∷◌, ◌++◌, true, length, replicate, slice_index_or, slice_set, fold}
+use Rattle.std.specs.List.{AllByRecursion}
 use Rattle.split_engine.specs.declared.entry.Entry.{Entry}
 use Rattle.split_engine.specs.Rules.{Rules}
-use Rattle.split_engine.specs.Serial.{record_at, IsWithin}
+use Rattle.split_engine.specs.declared.few.TheConstants.{MOST_KEYS}
+use Rattle.split_engine.specs.Serial.{decision, acts_at, reply, IsWithin}
 
 -- the third list has the elements of two others, those of each in order
 pub data Interleaves {X : Type 0} : List X → List X → List X → Type 0 where
@@ -11,40 +12,29 @@ pub data Interleaves {X : Type 0} : List X → List X → List X → Type 0 wher
   First : {xs ys zs : List X} (x : X) → Interleaves xs ys zs → Interleaves (x ∷ xs) ys (x ∷ zs)
   Second : {xs ys zs : List X} (y : X) → Interleaves xs ys zs → Interleaves xs (y ∷ ys) (y ∷ zs)
 
-module _ {Record Slice Fixed Request Reply Act : Type 0}
-    (rules : Rules Record Slice Fixed Request Reply Act) where
-  -- what is fixed of the record at a key
-  abbrev pub fixed_at : List Record → ℕ → Fixed
-  fixed_at table key = rules.fixed (record_at rules table key)
-
-  -- what a request decides in a split phase that opened with this table
-  abbrev pub split_decision : List Record → Request → Decision Reply Act
-  split_decision table q =
-      rules.decide_split q (fixed_at table (rules.keys q).0) (fixed_at table (rules.keys q).1)
-
-  -- a commit of a split phase that opened with this table
+module _ {Record Slice Look Request Reply Act : Type 0}
+    (rules : Rules Record Slice Look Request Reply Act) where
+  -- a commit of a split phase that opened with this table, by which its request is decided
   pub record IsSplitEntry (IsSmall : Act → Type 0) (table : List Record)
       (e : Entry Request Reply) : Type 0 where
     pub splits : rules.splits e.request ≡ true
     pub within : IsWithin rules (length table) e.request
-    pub reply : e.reply ≡ (split_decision table e.request).reply
-    pub first_small : IsSmall (split_decision table e.request).first
-    pub second_small : IsSmall (split_decision table e.request).second
+    pub reply : e.reply ≡ reply rules table e.request
+    pub few : length (decision rules table e.request).acts ≤ MOST_KEYS
+    pub small : AllByRecursion IsSmall (decision rules table e.request).acts
 
   -- slices after an act on the one at a key
   abbrev pub after_slice_act : List Slice → ℕ → Act → List Slice
   after_slice_act slices key x =
       slice_set slices key (rules.sliced (slice_index_or slices key rules.empty) x)
 
-  -- slices after the acts of a decision about two keys
-  abbrev pub after_slice_both : List Slice → ℕ × ℕ → Decision Reply Act → List Slice
-  after_slice_both slices keys d =
-      after_slice_act (after_slice_act slices keys.0 d.first) keys.1 d.second
+  -- slices after acts, each on the one at a key
+  abbrev pub after_slice_acts : List Slice → List (ℕ × Act) → List Slice
+  after_slice_acts = fold (λ slices act. after_slice_act slices act.0 act.1)
 
   -- slices after a commit
   abbrev pub after_split : List Record → List Slice → Entry Request Reply → List Slice
-  after_split table slices e =
-      after_slice_both slices (rules.keys e.request) (split_decision table e.request)
+  after_split table slices e = after_slice_acts slices (acts_at rules table e.request)
 
   -- the slices that a worker's commits make
   abbrev pub slices_of : List Record → List (Entry Request Reply) → List Slice

@@ -1,5 +1,6 @@
 -- What no contract of a public function names.
 pub mod Assignments
 pub mod Kept
+pub mod Listed
 pub mod Marking
 pub mod Phases

@@ -1,14 +1,16 @@
 //! What a user of the engine gives.
-ghost use Rattle.std.specs.Prelude.{◌≡◌, ℕ, ◌+◌, ◌<◌, ◌≤◌, true};
-ghost use Rattle.split_engine.specs.Rules.{most_acts};
+ghost use Rattle.std.specs.Prelude.{◌≡◌, ℕ, ◌+◌, ◌<◌, ◌≤◌, true, length};
+ghost use Rattle.std.specs.List.{AllByRecursion};
+ghost use Rattle.split_engine.specs.Rules.{most_acts, looks_in};
 
 use crate::entry::Decision;
+use crate::few::Few;
 
-/// Records, and requests that name one or two of them.
+/// Records, and requests that name at most `MOST_KEYS` of them.
 ///
-/// A request looks at its two records and decides its reply and one act on each; then the acts are
-/// done. So it reads and writes no other record, by its form. The laws speak of one record, one
-/// slice and two acts.
+/// A request looks at its records and decides its reply and one act on each; then the acts are
+/// done. So it reads and writes no other record, by its form. One that names no record is answered
+/// by itself. The laws speak of one record, one slice and two acts.
 ///
 /// An impl has five types beside the record; the model (`rules`), which says in definitions what
 /// the functions do; three facts on what fits; and the laws. `example_bank` and `example_likes` are
@@ -22,8 +24,8 @@ pub trait Application {
     /// What a worker keeps of a record while the record is split.
     type Slice: Drop;
 
-    /// What of a record does not change while it is split.
-    type Fixed: Copy;
+    /// What a request sees of a record.
+    type Look: Copy;
 
     /// What is asked.
     type Request: Copy;
@@ -35,7 +37,7 @@ pub trait Application {
     type Act: Copy;
 
     /// The model.
-    ghost rules: { Rules Self.Record Self.Slice Self.Fixed Self.Request Self.Reply Self.Act };
+    ghost rules: { Rules Self.Record Self.Slice Self.Look Self.Request Self.Reply Self.Act };
 
     /// Holds of a record that at most so many acts can make: one act more does not overflow it, if
     /// they are fewer than 2^32.
@@ -47,37 +49,24 @@ pub trait Application {
     /// Holds of each act that a request decides.
     ghost is_small: { Self.Act → Type 0 };
 
-    /// The keys of the records that a request names: it may name one twice.
-    fn keys(request: &Self::Request) -> (u32, u32)
+    /// The keys of the records that a request names: one may stand there twice.
+    fn keys(request: &Self::Request) -> Few<u32>
         ensures { result ≡ rules.keys request.now };
+
+    /// What a request sees of a record.
+    fn look(held: &Self::Record) -> Self::Look
+        ensures { result ≡ rules.look held.now };
+
+    /// What a request is answered and does, by what it sees at each of its keys.
+    fn decide(request: &Self::Request, looks: &Few<Self::Look>) -> Decision<Self::Reply, Self::Act>
+        requires { length looks.now ≡ length (rules.keys request.now) }
+        ensures value { result ≡ rules.decide request.now (looks_in rules looks.now) }
+        ensures small { AllByRecursion is_small result.acts };
 
     /// Whether a request can be performed on slices of its records. If not, a split phase defers it
     /// to the next joined one.
     fn splits(request: &Self::Request) -> bool
         ensures { result ≡ rules.splits request.now };
-
-    /// What of a record does not change while it is split.
-    fn fixed(held: &Self::Record) -> Self::Fixed
-        ensures { result ≡ rules.fixed held.now };
-
-    /// What a request is answered and does, by its two records.
-    fn decide(
-        request: &Self::Request,
-        first: &Self::Record,
-        second: &Self::Record,
-    ) -> Decision<Self::Reply, Self::Act>
-        ensures value { result ≡ rules.decide request.now first.now second.now }
-        ensures small { is_small result.first × is_small result.second };
-
-    /// The same, by what is fixed of them.
-    fn decide_split(
-        request: &Self::Request,
-        first: Self::Fixed,
-        second: Self::Fixed,
-    ) -> Decision<Self::Reply, Self::Act>
-        requires splits { rules.splits request.now ≡ true }
-        ensures value { result ≡ rules.decide_split request.now first second }
-        ensures small { is_small result.first × is_small result.second };
 
     /// Does an act on a record.
     fn apply(held: &mut Self::Record, act: Self::Act)

@@ -1,14 +1,15 @@
 //! What a request decides, and what is committed.
 
-/// What a request is answered, and what it does to each of its two records.
-#[derive(Clone, Copy)]
+use crate::few::Few;
+
+/// What a request is answered, and what it does to its records.
+#[derive(Drop)]
 pub struct Decision<R, A> {
     /// What it is answered.
     pub reply: R,
-    /// What it does to the record at its first key.
-    pub first: A,
-    /// What it then does to the record at its second key, which may be the first.
-    pub second: A,
+    /// What it does to the record at each of its keys, in their order: nothing at those for which
+    /// there is no act. An act for which there is no key is not done.
+    pub acts: Few<A>,
 }
 
 /// A commit: the request with this index of a worker's script, and its reply.

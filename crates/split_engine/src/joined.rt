@@ -1,14 +1,16 @@
 //! Joined phases: requests are performed on the table itself, worker after worker.
 ghost use Rattle.std.specs.Prelude.{◌≡◌, ◌++◌, ◌∷◌, [], ℕ, suc, ◌+◌, ◌*◌, ◌<◌, ◌≤◌, List, length, OnOk};
-ghost use Rattle.std.specs.List.{AllByRecursion};
+ghost use Rattle.std.specs.List.{zip, AllByRecursion};
 ghost use Rattle.split_engine.specs.declared.entry.Entry.{Entry as Commit};
 ghost use Rattle.split_engine.specs.Rules.{most_acts, most_before, index_end};
-ghost use Rattle.split_engine.specs.Serial.{IsWithin, after_act, next, reply};
+ghost use Rattle.split_engine.specs.Serial.{IsWithin, after_act, after_acts, next, reply};
 ghost use Rattle.split_engine.specs.Serving.{lists, total, commit, IsScript};
 ghost use Rattle.split_engine.specs.inner.Phases.{HasPerformed, HasServed, HasStashed, HasTurned, IsRunState, AllFinished};
 
 use crate::application::Application;
 use crate::entry::Entry;
+use crate::few::{Few, MOST_KEYS};
+use crate::looks::looks_at;
 use crate::state::{Cursor, MOST_COMMITS, Outcome, RunState};
 use std::alloc::AllocError;
 
@@ -24,19 +26,36 @@ fn act_on<A: Application>(table: &mut Vec<A::Record>, key: u32, act: A::Act)
     A::apply(&mut table[key as usize], act);
 }
 
+// Does acts on the records at keys, in their order.
+fn act_all<A: Application>(table: &mut Vec<A::Record>, keys: &Few<u32>, acts: &Few<A::Act>)
+    requires within { AllByRecursion (λ key. key < length table.old.items) keys.now }
+    requires fits { (n : ℕ) × (n + MOST_KEYS ≤ most_acts)
+        × AllByRecursion (A.fits n) table.old.items }
+    requires small { AllByRecursion A.is_small acts.now }
+    ensures table { table.new.items
+        ≡ after_acts A.rules table.old.items (zip keys.now acts.now) }
+    ensures fits { (n : ℕ) → AllByRecursion (A.fits n) table.old.items →
+        AllByRecursion (A.fits (n + MOST_KEYS)) table.new.items }
+{
+    for place in 0..keys.len().min(acts.len()) {
+        act_on::<A>(table, keys.at(place), acts.at(place));
+    }
+}
+
 /// Performs a request on a table, as one thread does that performs one request after the other.
 pub fn perform<A: Application>(table: &mut Vec<A::Record>, request: &A::Request) -> A::Reply
     requires within { IsWithin A.rules (length table.old.items) request.now }
-    requires fits { (n : ℕ) × (n + 1 < most_acts) × AllByRecursion (A.fits n) table.old.items }
+    requires fits { (n : ℕ) × (n + MOST_KEYS ≤ most_acts)
+        × AllByRecursion (A.fits n) table.old.items }
     ensures reply { result ≡ reply A.rules table.old.items request.now }
     ensures table { table.new.items ≡ next A.rules table.old.items request.now }
     ensures fits { (n : ℕ) → AllByRecursion (A.fits n) table.old.items →
-        AllByRecursion (A.fits (suc (suc n))) table.new.items }
+        AllByRecursion (A.fits (n + MOST_KEYS)) table.new.items }
 {
-    let (first, second) = A::keys(request);
-    let decision = A::decide(request, &table[first as usize], &table[second as usize]);
-    act_on::<A>(table, first, decision.first);
-    act_on::<A>(table, second, decision.second);
+    let keys = A::keys(request);
+    let looks = looks_at::<A>(table, &keys);
+    let decision = A::decide(request, &looks);
+    act_all::<A>(table, &keys, &decision.acts);
     decision.reply
 }
 
@@ -47,13 +66,13 @@ fn perform_call<A: Application>(
     call: &(u32, A::Request),
 ) -> Result<(), AllocError>
     requires within { IsWithin A.rules (length so_far.old.table.items) call.now.1 }
-    requires fits { (n : ℕ) × (n + 1 < most_acts)
+    requires fits { (n : ℕ) × (n + MOST_KEYS ≤ most_acts)
         × AllByRecursion (A.fits n) so_far.old.table.items }
     ensures history { OnOk result (so_far.new.history.items ≡ so_far.old.history.items
         ++ commit worker call.now (reply A.rules so_far.old.table.items call.now.1) ∷ []) }
     ensures table { so_far.new.table.items ≡ next A.rules so_far.old.table.items call.now.1 }
     ensures fits { (n : ℕ) → AllByRecursion (A.fits n) so_far.old.table.items →
-        AllByRecursion (A.fits (suc (suc n))) so_far.new.table.items }
+        AllByRecursion (A.fits (n + MOST_KEYS)) so_far.new.table.items }
 {
     let (index, request) = *call;
     let reply = perform::<A>(&mut so_far.table, &request);
@@ -74,7 +93,7 @@ fn perform_all<A: Application>(
 ) -> Result<(), AllocError>
     requires within { AllByRecursion (λ call.
         IsWithin A.rules (length so_far.old.table.items) call.1) calls.now }
-    requires fits { (n : ℕ) × (n + 2 * length calls.now < most_acts)
+    requires fits { (n : ℕ) × (n + MOST_KEYS * length calls.now < most_acts)
         × AllByRecursion (A.fits n) so_far.old.table.items }
     ensures performed { OnOk result ((more : List (Commit A.Request A.Reply))
         × (so_far.new.history.items ≡ so_far.old.history.items ++ more)
@@ -82,7 +101,7 @@ fn perform_all<A: Application>(
         so_far.old.table.items so_far.new.table.items more) }
     ensures same { length so_far.new.table.items ≡ length so_far.old.table.items }
     ensures fits { (n : ℕ) → AllByRecursion (A.fits n) so_far.old.table.items →
-        OnOk result (AllByRecursion (A.fits (n + 2 * length calls.now)) so_far.new.table.items) }
+        OnOk result (AllByRecursion (A.fits (n + MOST_KEYS * length calls.now)) so_far.new.table.items) }
 {
     for place in 0..calls.len() {
         perform_call::<A>(so_far, worker, &calls[place])?;
@@ -122,7 +141,7 @@ fn take_turn<A: Application>(
     requires served { HasServed A.rules (length so_far.old.table.items) worker script.now
         cursor.old so_far.old.history.items }
     requires fits { (n : ℕ) × (n < most_before)
-        × AllByRecursion (A.fits (n + 2 * length so_far.old.history.items)) so_far.old.table.items }
+        × AllByRecursion (A.fits (n + MOST_KEYS * length so_far.old.history.items)) so_far.old.table.items }
     requires room { length so_far.old.history.items + length cursor.old.stash.items
         + length script.now ≤ MOST_COMMITS + cursor.old.next }
     ensures turned { OnOk result (HasTurned A.rules A.fits worker script.now

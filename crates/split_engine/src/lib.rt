@@ -14,8 +14,10 @@
 mod application;
 mod entry;
 mod fault;
+mod few;
 mod joined;
 mod laws;
+mod looks;
 mod marks;
 mod phases;
 mod phasing;
@@ -29,6 +31,7 @@ mod state;
 pub use application::Application;
 pub use entry::{Decision, Entry};
 pub use fault::RunFault;
+pub use few::{Few, MOST_KEYS};
 pub use joined::perform;
 pub use laws::{runs_replay_as_one, split_phases_replay};
 pub use referee::{Checkable, HistoryFault, Line, check_history};

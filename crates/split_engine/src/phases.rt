@@ -12,6 +12,7 @@ ghost use Rattle.split_engine.specs.inner.Assignments.{Assignment, assignment, a
 
 use crate::application::Application;
 use crate::fault::RunFault;
+use crate::few::MOST_KEYS;
 use crate::slices::Guesses;
 use crate::split::{SplitData, SplitPhase, SplitPlan, SplitTask, begin};
 use crate::state::{Cursor, MOST_COMMITS, Outcome, RunState};
@@ -29,7 +30,7 @@ fn tasks<'a, A: Application>(
     mut guesses: Vec<Guesses>,
 ) -> Result<Vec<SplitTask<'a, A>>, AllocError>
     requires few { length scripts.now < index_end }
-    requires quota { 2 * phase.plan.quota < most_acts }
+    requires quota { MOST_KEYS * phase.plan.quota < most_acts }
     requires hot { length phase.plan.hot.now ≡ length phase.table.now }
     requires scripts { AllByRecursion (IsScript A.rules (length phase.table.now))
         (lists scripts.now) }
@@ -77,7 +78,7 @@ fn take_in<A: Application>(state: RunState<A>, own: SplitData<A>) -> Result<RunS
         × HasDone A.rules A.is_small given own.cursor own.journal.items own.slices }
     requires room { length state.so_far.history.items + length own.journal.items ≤ MOST_COMMITS }
     requires fits { (n : ℕ) × (n < most_before)
-        × AllByRecursion (A.fits (n + 2 * length state.so_far.history.items))
+        × AllByRecursion (A.fits (n + MOST_KEYS * length state.so_far.history.items))
         state.so_far.table.items }
     ensures table { IfOk result (λ new.
         new.so_far.table.items ≡ merged_all A.rules state.so_far.table.items own.slices) }
@@ -86,10 +87,10 @@ fn take_in<A: Application>(state: RunState<A>, own: SplitData<A>) -> Result<RunS
     ensures cursors { IfOk result (λ new.
         new.cursors.items ≡ state.cursors.items ++ own.cursor ∷ []) }
     ensures fits { (n : ℕ) →
-        AllByRecursion (A.fits (n + 2 * length state.so_far.history.items))
+        AllByRecursion (A.fits (n + MOST_KEYS * length state.so_far.history.items))
         state.so_far.table.items →
         IfOk result (λ new.
-        AllByRecursion (A.fits (n + 2 * length new.so_far.history.items)) new.so_far.table.items) }
+        AllByRecursion (A.fits (n + MOST_KEYS * length new.so_far.history.items)) new.so_far.table.items) }
 {
     let RunState {
         so_far,
@@ -122,7 +123,7 @@ fn take_in_all<A: Application>(
     answers: Vec<Result<SplitData<A>, AllocError>>,
 ) -> Result<RunState<A>, AllocError>
     requires fits { (n : ℕ) × (n < most_before)
-        × AllByRecursion (A.fits (n + 2 * length so_far.history.items)) so_far.table.items }
+        × AllByRecursion (A.fits (n + MOST_KEYS * length so_far.history.items)) so_far.table.items }
     requires done { (given : List (Assignment A.Record A.Request))
         × (length so_far.history.items + all_left given ≤ MOST_COMMITS)
         × AllByRecursion (λ a. a.cursor.next ≤ length a.script) given
@@ -194,12 +195,12 @@ pub(crate) fn split_phase<A: Application + Send + Sync, R: Threads + Wait + Sync
 where
     A::Record: Send + Sync,
     A::Slice: Send,
-    A::Fixed: Send,
+    A::Look: Send,
     A::Request: Send + Sync,
     A::Reply: Send,
     A::Act: Send,
     requires few { length scripts.now < index_end }
-    requires quota { 2 * plan.quota < most_acts }
+    requires quota { MOST_KEYS * plan.quota < most_acts }
     requires hot { length plan.hot.now ≡ length state.so_far.table.items }
     requires total { total (lists scripts.now) ≤ MOST_COMMITS }
     requires state { (n : ℕ) × (opened : List A.Record) × (n < most_before)

@@ -4,6 +4,7 @@ ghost use Rattle.std.specs.Prelude.{◌≡◌, length, IfOk};
 
 use crate::application::Application;
 use crate::entry::Entry;
+use crate::few::Few;
 use crate::runs::Policy;
 use std::alloc::{AllocError, Global};
 
@@ -71,16 +72,14 @@ impl Phasing {
         Ok(())
     }
 
-    // One more request names these keys, which may be one.
-    fn count_keys(&mut self, keys: (u32, u32)) -> Result<(), AllocError>
+    // One more request names these keys.
+    fn count_keys(&mut self, keys: &Few<u32>) -> Result<(), AllocError>
         ensures { length self.new.hot.items ≡ length self.old.hot.items }
     {
-        let (first, second) = keys;
-        self.count_key(first)?;
-        if second == first {
-            return Ok(());
+        for place in 0..keys.len() {
+            self.count_key(keys.at(place))?;
         }
-        self.count_key(second)
+        Ok(())
     }
 
     /// Chooses by the splittable requests from a place of the history on.
@@ -95,7 +94,8 @@ impl Phasing {
         for place in from..history.len() {
             let request = history[place].request;
             if A::splits(&request) {
-                self.count_keys(A::keys(&request))?;
+                let keys = A::keys(&request);
+                self.count_keys(&keys)?;
             }
         }
         Ok(())

@@ -1,5 +1,5 @@
 //! The referee: judges a history of an application on one thread.
-ghost use Rattle.std.specs.Prelude.{◌≡◌, ℕ, suc, true, false, Some, None, MatchOption, ◌+◌, ◌*◌, ◌<◌, ◌++◌, ◌∷◌, [], List, length, IfOk, IfErr};
+ghost use Rattle.std.specs.Prelude.{◌≡◌, ℕ, true, false, Some, None, MatchOption, ◌+◌, ◌*◌, ◌<◌, ◌≤◌, ◌++◌, ◌∷◌, [], List, length, IfOk, IfErr};
 ghost use Rattle.std.specs.List.{AllByRecursion};
 ghost use Rattle.split_engine.specs.declared.referee.Line.{Line as LineValue};
 ghost use Rattle.split_engine.specs.Rules.{most_acts};
@@ -7,6 +7,7 @@ ghost use Rattle.split_engine.specs.Serving.{lists, request_at, IsScript};
 ghost use Rattle.split_engine.specs.Checking.{AreMarks, IsRightLine, after_line, after_lines, IsHistory, IsHistoryFault};
 
 use crate::application::Application;
+use crate::few::MOST_KEYS;
 use crate::joined::perform;
 use crate::marks::{mark, new_marks, unmarked};
 use std::alloc::{AllocError, Global};
@@ -78,7 +79,7 @@ fn check_line<A: Checkable>(
         (lists scripts.now) }
     requires marks { (before : List (LineValue A.Reply))
         × AreMarks (lists scripts.now) before (lists marks.old.items) }
-    requires fits { (n : ℕ) × (n + 1 < most_acts) × AllByRecursion (A.fits n) table.old.items }
+    requires fits { (n : ℕ) × (n + MOST_KEYS ≤ most_acts) × AllByRecursion (A.fits n) table.old.items }
     ensures right { (before : List (LineValue A.Reply)) →
         AreMarks (lists scripts.now) before (lists marks.old.items) → result ≡ true →
         IsRightLine A.rules (lists scripts.now) before table.old.items line.now }
@@ -92,7 +93,7 @@ fn check_line<A: Checkable>(
         table.new.items ≡ after_line A.rules (lists scripts.now) table.old.items line.now }
     ensures size { length table.new.items ≡ length table.old.items }
     ensures fits { (n : ℕ) → AllByRecursion (A.fits n) table.old.items →
-        AllByRecursion (A.fits (suc (suc n))) table.new.items }
+        AllByRecursion (A.fits (n + MOST_KEYS)) table.new.items }
 {
     let Some(request) = asked(scripts, line) else {
         return false;
@@ -114,7 +115,7 @@ pub fn check_history<A: Checkable>(
 ) -> Result<(), HistoryFault>
     requires scripts { AllByRecursion (IsScript A.rules (length table.old.items))
         (lists scripts.now) }
-    requires fits { (n : ℕ) × (n + 2 * length lines.now < most_acts)
+    requires fits { (n : ℕ) × (n + MOST_KEYS * length lines.now < most_acts)
         × AllByRecursion (A.fits n) table.old.items }
     ensures history { IfOk result (λ _.
         IsHistory A.rules (lists scripts.now) table.old.items lines.now) }

@@ -8,6 +8,7 @@ ghost use Rattle.split_engine.specs.inner.Phases.{IsRunState, AreFresh, AllFinis
 
 use crate::application::Application;
 use crate::fault::RunFault;
+use crate::few::MOST_KEYS;
 use crate::joined::joined_phase;
 use crate::phases::split_phase;
 use crate::phasing::Phasing;
@@ -28,7 +29,7 @@ pub struct Policy {
     /// How many times a joined and a split phase follow each other, before a last joined phase
     /// performs what is left.
     pub rounds: usize,
-    /// How many splittable requests of a joined phase have to name a key for it to be hot in the
+    /// How often splittable requests of a joined phase have to name a key for it to be hot in the
     /// split phase after it.
     pub threshold: u32,
 }
@@ -75,7 +76,7 @@ fn perform_round<A: Application + Send + Sync, R: Threads + Wait + Sync>(
 where
     A::Record: Send + Sync,
     A::Slice: Send,
-    A::Fixed: Send,
+    A::Look: Send,
     A::Request: Send + Sync,
     A::Reply: Send,
     A::Act: Send,
@@ -116,11 +117,15 @@ fn finish<A: Application>(scripts: &[Vec<A::Request>], state: RunState<A>) -> Ou
     ensures fits { (n : ℕ) (opened : List A.Record) →
         IsRunState A.rules A.fits n opened (lists scripts.now)
         state.so_far.table.items state.so_far.history.items state.cursors.items →
-        AllByRecursion (A.fits (n + 2 * length result.history.items)) result.table.items }
+        AllByRecursion (A.fits (n + MOST_KEYS * length result.history.items)) result.table.items }
     ensures count { (n : ℕ) (opened : List A.Record) →
         IsRunState A.rules A.fits n opened (lists scripts.now)
         state.so_far.table.items state.so_far.history.items state.cursors.items →
         length result.history.items ≡ total (lists scripts.now) }
+    ensures len { (n : ℕ) (opened : List A.Record) →
+        IsRunState A.rules A.fits n opened (lists scripts.now)
+        state.so_far.table.items state.so_far.history.items state.cursors.items →
+        length result.table.items ≡ length opened }
 {
     let RunState {
         so_far,
@@ -135,7 +140,7 @@ fn finish<A: Application>(scripts: &[Vec<A::Request>], state: RunState<A>) -> Ou
 ///
 /// `check_scripts` is the test of `scripts`. `fits`: each record is one that fewer than 2^31 acts
 /// can make. A run may go on from the table that another has left, if both together are that short:
-/// each commit is two acts.
+/// each commit is at most `MOST_KEYS` acts.
 pub fn run<A: Application + Send + Sync, R: Threads + Wait + Sync>(
     rt: &R,
     alloc: Global,
@@ -146,7 +151,7 @@ pub fn run<A: Application + Send + Sync, R: Threads + Wait + Sync>(
 where
     A::Record: Send + Sync,
     A::Slice: Send,
-    A::Fixed: Send,
+    A::Look: Send,
     A::Request: Send + Sync,
     A::Reply: Send,
     A::Act: Send,
@@ -156,9 +161,10 @@ where
         outcome.history.items outcome.table.items) }
     ensures fits { (n : ℕ) → n < most_before → AllByRecursion (A.fits n) table.items →
         IfOk result (λ outcome.
-        AllByRecursion (A.fits (n + 2 * length outcome.history.items)) outcome.table.items) }
+        AllByRecursion (A.fits (n + MOST_KEYS * length outcome.history.items)) outcome.table.items) }
     ensures count { IfOk result (λ outcome.
         length outcome.history.items ≡ total (lists scripts.now)) }
+    ensures len { IfOk result (λ outcome. length outcome.table.items ≡ length table.items) }
     ensures fault { IfErr result (IsRunFault (length scripts.now)) }
 {
     let mut phasing = Phasing::new(alloc, table.len(), policy)?;

@@ -6,21 +6,22 @@ ghost use Rattle.split_engine.specs.Serving.{lists, total, AreScripts};
 ghost use Rattle.split_engine.specs.Faults.{IsScriptFault};
 
 use crate::application::Application;
+use crate::few::Few;
 use crate::state::MOST_COMMITS;
 use thiserror::Error;
 
 /// Why scripts cannot be run.
 #[derive(Clone, Copy, Debug, PartialEq, Eq, Drop, Error)]
 pub enum ScriptFault {
-    /// There are more than 2^30 scripts and requests.
-    #[error("more than 1073741824 scripts and requests")]
+    /// There are more than 2^29 scripts and requests.
+    #[error("more than 536870912 scripts and requests")]
     TooLong,
     /// The request with this index of a worker's script names a key that the table does not have.
     #[error("worker {worker}, request {index}: no such key")]
     NoSuchKey { worker: usize, index: usize },
 }
 
-// Whether there are at most 2^30 scripts and requests.
+// Whether there are at most 2^29 scripts and requests.
 fn are_few<Q>(scripts: &[Vec<Q>]) -> bool
     ensures few { result ≡ true → length scripts.now + total (lists scripts.now) ≤ MOST_COMMITS }
     ensures many { result ≡ false → MOST_COMMITS < length scripts.now + total (lists scripts.now) }
@@ -39,6 +40,19 @@ fn are_few<Q>(scripts: &[Vec<Q>]) -> bool
     true
 }
 
+// Whether some keys are all of a table of so many records.
+fn are_within(keys: &Few<u32>, records: usize) -> bool
+    ensures yes { result ≡ true → AllByRecursion (λ key. key < records) keys.now }
+    ensures no { result ≡ false → AllByRecursion (λ key. key < records) keys.now → ⊥ }
+{
+    for place in 0..keys.len() {
+        if keys.at(place) as usize >= records {
+            return false;
+        }
+    }
+    true
+}
+
 // The index of the first request that names a key which is not there.
 fn without_key<A: Application>(script: &[A::Request], records: usize) -> Option<usize>
     ensures { MatchOption result (AllByRecursion (IsWithin A.rules records) script.now)
@@ -46,8 +60,8 @@ fn without_key<A: Application>(script: &[A::Request], records: usize) -> Option<
         × (IsWithin A.rules records q → ⊥)) }
 {
     for index in 0..script.len() {
-        let (first, second) = A::keys(&script[index]);
-        if first as usize >= records || second as usize >= records {
+        let keys = A::keys(&script[index]);
+        if !are_within(&keys, records) {
             return Some(index);
         }
     }

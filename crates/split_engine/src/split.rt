@@ -1,14 +1,16 @@
 //! A worker's part of a split phase.
 ghost use Rattle.std.specs.Prelude.{◌≡◌, ℕ, ◌+◌, ◌*◌, ◌<◌, ◌≤◌, ◌++◌, ◌∷◌, [], List, true, length, IfOk, OnOk};
-ghost use Rattle.std.specs.List.{AllByRecursion};
+ghost use Rattle.std.specs.List.{zip, list_all, AllByRecursion};
 ghost use Rattle.split_engine.specs.Rules.{most_acts};
-ghost use Rattle.split_engine.specs.Serial.{IsWithin};
-ghost use Rattle.split_engine.specs.Splitting.{split_decision, after_slice_both};
-ghost use Rattle.split_engine.specs.inner.Phases.{is_taken, HasPerformedOnSlices, IsUnused};
+ghost use Rattle.split_engine.specs.Serial.{IsWithin, acts_at, decision, reply};
+ghost use Rattle.split_engine.specs.Splitting.{after_slice_acts};
+ghost use Rattle.split_engine.specs.inner.Phases.{is_hot, is_taken, HasPerformedOnSlices, IsUnused};
 ghost use Rattle.split_engine.specs.inner.Assignments.{assignment, CanDo, HasDone};
 
 use crate::application::Application;
 use crate::entry::Entry;
+use crate::few::{Few, MOST_KEYS};
+use crate::looks::looks_at;
 use crate::slices::{Guesses, Slices};
 use crate::state::Cursor;
 use job_threads::Job;
@@ -57,7 +59,28 @@ pub(crate) fn begin<A: Application>(
     })
 }
 
-// Performs a request on slices: what is fixed of its records is read from the table.
+// Does acts on the slices of keys, in their order.
+fn act_all<A: Application>(
+    slices: &mut Slices<A>,
+    keys: &Few<u32>,
+    acts: &Few<A::Act>,
+) -> Result<(), AllocError>
+    requires within { AllByRecursion (λ key. key < length slices.old) keys.now }
+    requires fits { (n : ℕ) × (n + MOST_KEYS ≤ most_acts)
+        × AllByRecursion (A.slice_fits n) slices.old }
+    requires small { AllByRecursion A.is_small acts.now }
+    requires splits { AllByRecursion (λ x. A.rules.is_splittable x ≡ true) acts.now }
+    ensures few { length acts.now ≤ MOST_KEYS }
+    ensures slices { OnOk result (slices.new
+        ≡ after_slice_acts A.rules slices.old (zip keys.now acts.now)) }
+{
+    for place in 0..keys.len().min(acts.len()) {
+        slices.act(keys.at(place), acts.at(place))?;
+    }
+    Ok(())
+}
+
+// Performs a request on slices: it sees the table as the phase opened.
 fn perform<A: Application>(
     table: &[A::Record],
     slices: &mut Slices<A>,
@@ -66,21 +89,32 @@ fn perform<A: Application>(
     requires splits { A.rules.splits request.now ≡ true }
     requires within { IsWithin A.rules (length table.now) request.now }
     requires len { length slices.old ≡ length table.now }
-    requires fits { (n : ℕ) × (n + 1 < most_acts) × AllByRecursion (A.slice_fits n) slices.old }
-    ensures reply { IfOk result (λ reply.
-        reply ≡ (split_decision A.rules table.now request.now).reply) }
-    ensures first_small { A.is_small (split_decision A.rules table.now request.now).first }
-    ensures second_small { A.is_small (split_decision A.rules table.now request.now).second }
-    ensures slices { OnOk result (slices.new ≡ after_slice_both A.rules slices.old
-        (A.rules.keys request.now) (split_decision A.rules table.now request.now)) }
+    requires fits { (n : ℕ) × (n + MOST_KEYS ≤ most_acts)
+        × AllByRecursion (A.slice_fits n) slices.old }
+    ensures reply { IfOk result (λ answer. answer ≡ reply A.rules table.now request.now) }
+    ensures few { length (decision A.rules table.now request.now).acts ≤ MOST_KEYS }
+    ensures small { AllByRecursion A.is_small (decision A.rules table.now request.now).acts }
+    ensures slices { OnOk result (slices.new
+        ≡ after_slice_acts A.rules slices.old (acts_at A.rules table.now request.now)) }
 {
-    let (first, second) = A::keys(request);
-    let fixed_first = A::fixed(&table[first as usize]);
-    let fixed_second = A::fixed(&table[second as usize]);
-    let decision = A::decide_split(request, fixed_first, fixed_second);
-    slices.act(first, decision.first)?;
-    slices.act(second, decision.second)?;
+    let keys = A::keys(request);
+    let looks = looks_at::<A>(table, &keys);
+    let decision = A::decide(request, &looks);
+    act_all::<A>(slices, &keys, &decision.acts)?;
     Ok(decision.reply)
+}
+
+// Whether all of some keys are hot.
+fn are_hot(hot: &[bool], keys: &Few<u32>) -> bool
+    requires within { AllByRecursion (λ key. key < length hot.now) keys.now }
+    ensures { result ≡ list_all (is_hot hot.now) keys.now }
+{
+    for place in 0..keys.len() {
+        if !hot[keys.at(place) as usize] {
+            return false;
+        }
+    }
+    true
 }
 
 // Whether a request is performed in a split phase in which these keys are hot.
@@ -88,8 +122,8 @@ fn is_taken<A: Application>(hot: &[bool], request: &A::Request) -> bool
     requires within { IsWithin A.rules (length hot.now) request.now }
     ensures { result ≡ is_taken A.rules hot.now request.now }
 {
-    let (first, second) = A::keys(request);
-    A::splits(request) && (hot[first as usize] && hot[second as usize])
+    let keys = A::keys(request);
+    A::splits(request) && are_hot(hot, &keys)
 }
 
 // Performs a request of a worker's script, or defers it.
@@ -103,7 +137,7 @@ fn perform_or_put_off<A: Application>(
     requires within { IsWithin A.rules (length phase.now.table.now) request.now }
     requires hot { length phase.now.plan.hot.now ≡ length phase.now.table.now }
     requires len { length own.old.slices ≡ length phase.now.table.now }
-    requires fits { (n : ℕ) × (n + 1 < most_acts)
+    requires fits { (n : ℕ) × (n + MOST_KEYS ≤ most_acts)
         × AllByRecursion (A.slice_fits n) own.old.slices }
     ensures few { OnOk result (length own.new.journal.items ≤ length own.old.journal.items + 1) }
     ensures next { own.new.cursor.next ≡ own.old.cursor.next }

@@ -4,7 +4,7 @@ use crate::entry::Entry;
 use crate::slices::Guesses;
 
 /// How many requests the scripts of a run may have together.
-pub const MOST_COMMITS: usize = 1_073_741_824;
+pub const MOST_COMMITS: usize = 536_870_912;
 
 /// What a run gives.
 #[derive(Drop)]

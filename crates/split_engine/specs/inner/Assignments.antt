@@ -2,6 +2,7 @@
 use Rattle.std.specs.Prelude.{◌≡◌, ℕ, suc, Bool, List, [], ◌∷◌, ◌++◌, ◌<◌, ◌≤◌, ◌+◌, ◌-◌, ◌*◌, length}
 use Rattle.std.specs.List.{AllByRecursion}
 use Rattle.split_engine.specs.declared.entry.Entry.{Entry}
+use Rattle.split_engine.specs.declared.few.TheConstants.{MOST_KEYS}
 use Rattle.split_engine.specs.declared.state.Cursor.{Cursor}
 use Rattle.split_engine.specs.Rules.{Rules, most_acts, index_end}
 use Rattle.split_engine.specs.Serial.{IsWithin}
@@ -47,15 +48,15 @@ abbrev pub all_left : {Record Request : Type 0} → List (Assignment Record Requ
 all_left [] = 0
 all_left (a ∷ more) = left_of a + all_left more
 
-module _ {Record Slice Fixed Request Reply Act : Type 0}
-    (rules : Rules Record Slice Fixed Request Reply Act) where
+module _ {Record Slice Look Request Reply Act : Type 0}
+    (rules : Rules Record Slice Look Request Reply Act) where
   -- What a worker has to be given, and what it begins with.
   pub record CanDo (a : Assignment Record Request) (journal : List (Entry Request Reply))
       (slices : List Slice) : Type 0 where
     pub within : AllByRecursion (IsWithin rules (length a.table)) a.script
     pub hot_len : length a.hot ≡ length a.table
     pub short : length a.script < index_end
-    pub few : 2 * a.quota < most_acts
+    pub few : MOST_KEYS * a.quota < most_acts
     pub next_in : a.cursor.next ≤ length a.script
     pub start : IsUnused rules (length a.table) journal slices
 
@@ -90,5 +91,5 @@ module _ {Record Slice Fixed Request Reply Act : Type 0}
     pub size_is : length after ≡ length table
     pub history_is : later ≡ history ++ joined journals
     pub few : length later ≤ length history + all_left given
-    pub fits : (n : ℕ) → AllByRecursion (Fits (n + 2 * length history)) table →
-        AllByRecursion (Fits (n + 2 * length later)) after
+    pub fits : (n : ℕ) → AllByRecursion (Fits (n + MOST_KEYS * length history)) table →
+        AllByRecursion (Fits (n + MOST_KEYS * length later)) after

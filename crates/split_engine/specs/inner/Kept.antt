@@ -13,8 +13,8 @@ pub record AreKept {Slice : Type 0} (guesses keys : List ℕ) (slices : List Sli
   pub right : (place : ℕ) → place < length keys →
       slice_index_or guesses (slice_index_or keys place 0) 0 ≡ place
 
-module _ {Record Slice Fixed Request Reply Act : Type 0}
-    (rules : Rules Record Slice Fixed Request Reply Act) where
+module _ {Record Slice Look Request Reply Act : Type 0}
+    (rules : Rules Record Slice Look Request Reply Act) where
   -- the slice of a key, by its guess
   abbrev pub kept : List ℕ → List Slice → ℕ → ℕ → Slice
   kept keys slices key guess =

@@ -1,8 +1,9 @@
 -- What phases make of the state of a run.
 use Rattle.std.specs.Prelude.{◌≡◌, ℕ, suc, Bool, true, false, not, ◌&&◌, List, [], ◌∷◌, ◌++◌, ◌<◌, ◌≤◌, ◌+◌, ◌*◌, map, length, replicate, slice_index_or, ⊤, ◌⊎◌}
-use Rattle.std.specs.List.{filter, AllByRecursion}
+use Rattle.std.specs.List.{filter, list_all, AllByRecursion}
 use Rattle.phase_laws.specs.Order.{IsOrderedBy}
 use Rattle.split_engine.specs.declared.entry.Entry.{Entry}
+use Rattle.split_engine.specs.declared.few.TheConstants.{MOST_KEYS}
 use Rattle.split_engine.specs.declared.state.Cursor.{Cursor}
 use Rattle.split_engine.specs.Rules.{Rules}
 use Rattle.split_engine.specs.Serial.{ReplaysFrom, table_after, IsWithin}
@@ -32,11 +33,11 @@ AllFinished [] (d ∷ ds) = ⊥
 AllFinished (s ∷ ss) [] = ⊥
 AllFinished (s ∷ ss) (d ∷ ds) = ((d.next ≡ length s) × (d.stash.items ≡ [])) × AllFinished ss ds
 
-module _ {Record Slice Fixed Request Reply Act : Type 0}
-    (rules : Rules Record Slice Fixed Request Reply Act) where
+module _ {Record Slice Look Request Reply Act : Type 0}
+    (rules : Rules Record Slice Look Request Reply Act) where
   -- whether a request is performed in a split phase with these keys hot: if not, it is deferred
   abbrev pub is_taken : List Bool → Request → Bool
-  is_taken hot q = rules.splits q && (is_hot hot (rules.keys q).0 && is_hot hot (rules.keys q).1)
+  is_taken hot q = rules.splits q && list_all (is_hot hot) (rules.keys q)
 
   -- of some calls those that a split phase performs, and those that it defers
   abbrev pub split_calls : List Bool → List (ℕ × Request) → List (ℕ × Request)
@@ -105,8 +106,8 @@ module _ {Record Slice Fixed Request Reply Act : Type 0}
     pub table_is : after ≡ table_after rules table more
     pub size_is : length after ≡ length table
     pub own : AllByRecursion (λ e. e.worker ≡ worker) more
-    pub fits : (n : ℕ) → AllByRecursion (Fits (n + 2 * length history)) table →
-        AllByRecursion (Fits (n + 2 * length later)) after
+    pub fits : (n : ℕ) → AllByRecursion (Fits (n + MOST_KEYS * length history)) table →
+        AllByRecursion (Fits (n + MOST_KEYS * length later)) after
     pub served : HasServed (length table) worker script cursor later
 
   -- the same of all workers, from this one on
@@ -125,6 +126,6 @@ module _ {Record Slice Fixed Request Reply Act : Type 0}
     pub replays : ReplaysFrom rules opened history
     pub leaves : table ≡ table_after rules opened history
     pub size_is : length table ≡ length opened
-    pub fits : AllByRecursion (Fits (n + 2 * length history)) table
+    pub fits : AllByRecursion (Fits (n + MOST_KEYS * length history)) table
     pub served : HaveServed (length opened) 0 scripts cursors history
     pub no_others : AllByRecursion (λ e. e.worker < length scripts) history

@@ -1,11 +1,13 @@
-use Rattle.std.proofs.Common.{◌≡◌, ◌++◌, ◌∷◌, [], ◌+◌, ◌*◌, suc, length, take, ap, sym, ◌∙◌, refl, subst, arith, append_assoc}
+use Rattle.std.proofs.Common.{◌≡◌, ◌++◌, ◌∷◌, [], ◌+◌, ◌*◌, length, take, ap, sym, ◌∙◌, refl, subst, arith, append_assoc}
 use Rattle.std.proofs.Math.Numerals.{add-one}
 use Rattle.std.proofs.Math.Seq.{take-suc}
-use Rattle.std.proofs.lemmas.List.{length-set, append-nil}
+use Rattle.std.proofs.lemmas.List.{append-nil}
 use Rattle.std.specs.List.{AllByRecursion}
-use Rattle.split_engine.specs.Serial.{after_act, reply, IsWithin}
+use Rattle.split_engine.specs.declared.few.TheConstants.{MOST_KEYS}
+use Rattle.split_engine.specs.Serial.{acts_at, reply, IsWithin}
 use Rattle.split_engine.specs.Serving.{commit}
 use Rattle.split_engine.specs.inner.Phases.{HasPerformed}
+use Rattle.split_engine.proofs.Splits.{length-acts}
 use Rattle.split_engine.proofs.Works.{all_at, performed_both, performed_none, performed_one}
 use Rattle.split_engine.proofs.joined.perform_all.Goals as goal
 
@@ -18,7 +20,7 @@ perform_call-requires-clause-within g c =
 pub perform_call-requires-clause-fits : goal.perform_call-requires-clause-fits
 perform_call-requires-clause-fits g c =
     let fits = c.requires.fits in
-    (fits.0 + 2 * c.loop-place.place, omega (arith, fits.1, c.loop-place-test.true), c.loop-place.invariant.fits fits.0 fits.2)
+    (fits.0 + MOST_KEYS * c.loop-place.place, omega (arith, fits.1, c.loop-place-test.true), c.loop-place.invariant.fits fits.0 fits.2)
 
 pub loop-place-init : goal.loop-place-init
 loop-place-init g c = record {
@@ -42,13 +44,18 @@ loop-place-preserved g c =
       more = was.more ++ e ∷ [];
       history_is = d.history ∙ ap (λ h. h ++ e ∷ []) was.history_is ∙ append_assoc c.args.so_far.now.history.items was.more (e ∷ []);
       performed = subst (λ all. HasPerformed g.A.Application.rules c.args.worker all c.args.so_far.now.table.items c.perform_call.new.so_far.table.items (was.more ++ e ∷ [])) (sym taken) done;
-      same = ap length d.table ∙ length-set (after_act g.A.Application.rules c.loop-place.so_far.table.items _ _) _ _ ∙ length-set c.loop-place.so_far.table.items _ _ ∙ was.same;
+      same = ap length d.table ∙ length-acts g.A.Application.rules c.loop-place.so_far.table.items (acts_at g.A.Application.rules c.loop-place.so_far.table.items call.1) ∙ was.same;
       fits = λ n h.
-          let two : suc (suc (n + 2 * place)) ≡ n + 2 * (place + 1) = omega arith in
-          subst (λ m. AllByRecursion (g.A.Application.fits m) c.perform_call.new.so_far.table.items) two (d.fits (n + 2 * place) (was.fits n h));
+          let more : n + MOST_KEYS * place + MOST_KEYS ≡ n + MOST_KEYS * (place + 1) = omega arith in
+          subst (λ m. AllByRecursion (g.A.Application.fits m) c.perform_call.new.so_far.table.items) more (d.fits (n + MOST_KEYS * place) (was.fits n h));
     }
+
+pub returns-in_err-perform_call-clause-same : goal.returns-in_err-perform_call-clause-same
+returns-in_err-perform_call-clause-same g c =
+    let rules = g.A.Application.rules in let table = c.loop-place.so_far.table.items in
+    ap length c.perform_call.ensures.table ∙ length-acts rules table (acts_at rules table c.index-calls-place.result.1) ∙ c.loop-place.invariant.same
 
 pub returns-clause-fits : goal.returns-clause-fits
 returns-clause-fits g c n h =
-    let all : n + 2 * c.loop-place.place ≡ n + 2 * length c.args.calls.now = omega (arith, c.loop-place-test.false, c.loop-place.auto.place-end) in
+    let all : n + MOST_KEYS * c.loop-place.place ≡ n + MOST_KEYS * length c.args.calls.now = omega (arith, c.loop-place-test.false, c.loop-place.auto.place-end) in
     subst (λ m. AllByRecursion (g.A.Application.fits m) c.loop-place.so_far.table.items) all (c.loop-place.invariant.fits n h)

@@ -1,5 +1,6 @@
 use Rattle.std.proofs.Common.{◌≡◌, ◌++◌, ℕ, ◌+◌, ◌*◌, List, length, take}
 use Rattle.std.specs.List.{AllByRecursion}
+use Rattle.split_engine.specs.declared.few.TheConstants.{MOST_KEYS}
 use Rattle.split_engine.specs.declared.entry.Entry.{Entry}
 use Rattle.split_engine.specs.inner.Phases.{HasPerformed}
 use Rattle.split_engine.proofs.joined.perform_all.Given as goal
@@ -10,5 +11,5 @@ invariant-loop-place g l = record {
   history_is : l.so_far.history.items ≡ l.fn.so_far.history.items ++ more;
   performed : HasPerformed g.A.Application.rules l.worker (take l.place l.calls) l.fn.so_far.table.items l.so_far.table.items more;
   same : length l.so_far.table.items ≡ length l.fn.so_far.table.items;
-  fits : (n : ℕ) → AllByRecursion (g.A.Application.fits n) l.fn.so_far.table.items → AllByRecursion (g.A.Application.fits (n + 2 * l.place)) l.so_far.table.items;
+  fits : (n : ℕ) → AllByRecursion (g.A.Application.fits n) l.fn.so_far.table.items → AllByRecursion (g.A.Application.fits (n + MOST_KEYS * l.place)) l.so_far.table.items;
 }

@@ -1,6 +1,7 @@
 use Rattle.std.proofs.Common.{◌≡◌, ◌+◌, ◌*◌, length, ap, sym, ◌∙◌, subst, arith}
 use Rattle.std.proofs.lemmas.List.{length-append}
 use Rattle.std.specs.List.{AllByRecursion}
+use Rattle.split_engine.specs.declared.few.TheConstants.{MOST_KEYS}
 use Rattle.split_engine.specs.Splitting.{merged_all}
 use Rattle.split_engine.proofs.Splits.{slices_fit, length-slices, merged_fit}
 use Rattle.split_engine.proofs.phases.take_in.Goals as goal
@@ -15,23 +16,23 @@ pub merge_into-requires-clause-fits : goal.merge_into-requires-clause-fits
 merge_into-requires-clause-fits g c =
     let s = g.A.Application in let d = c.requires.done in let fits = c.requires.fits in
     let m = length c.args.own.journal.items in (
-      fits.0 + 2 * length c.args.state.so_far.history.items,
-      m + m,
+      fits.0 + MOST_KEYS * length c.args.state.so_far.history.items,
+      MOST_KEYS * m,
       omega (arith, fits.1, c.requires.room),
       fits.2,
-      subst (λ ss. AllByRecursion (s.slice_fits (m + m)) ss) (sym d.2.done.slices_are)
+      subst (λ ss. AllByRecursion (s.slice_fits (MOST_KEYS * m)) ss) (sym d.2.done.slices_are)
           (slices_fit s.rules s.fits s.slice_fits s.is_small g.met.A.Application.laws d.0.table c.args.own.journal.items d.2.done.split),
     )
 
 pub returns-clause-fits : goal.returns-clause-fits
 returns-clause-fits g c n h =
     let s = g.A.Application in let d = c.requires.done in
-    let m = length c.args.own.journal.items in let n2 = n + 2 * length c.args.state.so_far.history.items in
-    let slices = subst (λ ss. AllByRecursion (s.slice_fits (m + m)) ss) (sym d.2.done.slices_are)
+    let m = length c.args.own.journal.items in let n2 = n + MOST_KEYS * length c.args.state.so_far.history.items in
+    let slices = subst (λ ss. AllByRecursion (s.slice_fits (MOST_KEYS * m)) ss) (sym d.2.done.slices_are)
     (slices_fit s.rules s.fits s.slice_fits s.is_small g.met.A.Application.laws d.0.table c.args.own.journal.items d.2.done.split) in
     let long : length c.append.new.self.items ≡ length c.args.state.so_far.history.items + m =
     ap length c.in_ok-append.ensures.items ∙ length-append c.args.state.so_far.history.items c.args.own.journal.items in
-    let same : n2 + (m + m) ≡ n + 2 * length c.append.new.self.items = omega (arith, long) in
-    subst (λ t. AllByRecursion (s.fits (n + 2 * length c.append.new.self.items)) t) (sym c.merge_into.ensures)
+    let same : n2 + MOST_KEYS * m ≡ n + MOST_KEYS * length c.append.new.self.items = omega (arith, long) in
+    subst (λ t. AllByRecursion (s.fits (n + MOST_KEYS * length c.append.new.self.items)) t) (sym c.merge_into.ensures)
     (subst (λ k. AllByRecursion (s.fits k) (merged_all s.rules c.args.state.so_far.table.items c.args.own.slices)) same
-    (merged_fit s.rules s.fits s.slice_fits s.is_small g.met.A.Application.laws n2 (m + m) c.args.state.so_far.table.items c.args.own.slices h slices))
+    (merged_fit s.rules s.fits s.slice_fits s.is_small g.met.A.Application.laws n2 (MOST_KEYS * m) c.args.state.so_far.table.items c.args.own.slices h slices))

@@ -1,8 +1,9 @@
-use Rattle.std.proofs.Common.{◌≡◌, ◌++◌, [], ◌∷◌, Some, ◌+◌, ◌*◌, suc, take, ap, refl, sym, ◌∙◌, subst, arith}
+use Rattle.std.proofs.Common.{◌≡◌, ◌++◌, [], ◌∷◌, Some, ◌+◌, ◌*◌, take, ap, refl, sym, ◌∙◌, subst, arith}
 use Rattle.std.proofs.Math.Numerals.{add-one}
 use Rattle.std.proofs.Math.Seq.{take-suc}
 use Rattle.std.proofs.lemmas.List.{take_all}
 use Rattle.std.specs.List.{AllByRecursion}
+use Rattle.split_engine.specs.declared.few.TheConstants.{MOST_KEYS}
 use Rattle.split_engine.specs.Serving.{lists, request_at}
 use Rattle.split_engine.specs.Checking.{AreMarks, IsRightLine, after_line, lines_replay, after_lines}
 use Rattle.split_engine.proofs.Lines.{marks_at_first, all_had, lines_push, after_push}
@@ -12,7 +13,7 @@ use Rattle.split_engine.proofs.referee.check_history.Goals as goal
 pub check_line-requires-clause-fits : goal.check_line-requires-clause-fits
 check_line-requires-clause-fits g c =
     let fits = c.requires.fits in
-    (fits.0 + 2 * c.loop-place.place, omega (arith, fits.1, c.loop-place-test.true), c.loop-place.invariant.fits fits.0 fits.2)
+    (fits.0 + MOST_KEYS * c.loop-place.place, omega (arith, fits.1, c.loop-place-test.true), c.loop-place.invariant.fits fits.0 fits.2)
 
 pub loop-place-init : goal.loop-place-init
 loop-place-init g c = let s = g.A.Application in record {
@@ -52,8 +53,8 @@ loop-place-preserved g c =
           ∙ ap (after_lines s.rules scripts c.args.table.now.items) (sym taken);
       size = e.size ∙ was.size;
       fits = λ n h.
-          let two : suc (suc (n + 2 * place)) ≡ n + 2 * (place + 1) = omega arith in
-          subst (λ m. AllByRecursion (s.fits m) c.check_line.new.table.items) two (e.fits (n + 2 * place) (was.fits n h));
+          let more : n + MOST_KEYS * place + MOST_KEYS ≡ n + MOST_KEYS * (place + 1) = omega arith in
+          subst (λ m. AllByRecursion (s.fits m) c.check_line.new.table.items) more (e.fits (n + MOST_KEYS * place) (was.fits n h));
     }
 
 -- all lines are right, and no request is not marked

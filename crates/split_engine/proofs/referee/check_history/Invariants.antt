@@ -1,5 +1,6 @@
 use Rattle.std.proofs.Common.{◌≡◌, ◌+◌, ◌*◌, [], ℕ, length, take}
 use Rattle.std.specs.List.{AllByRecursion}
+use Rattle.split_engine.specs.declared.few.TheConstants.{MOST_KEYS}
 use Rattle.split_engine.specs.Serving.{lists}
 use Rattle.split_engine.specs.Checking.{AreMarks, lines_replay, after_lines}
 use Rattle.split_engine.proofs.referee.check_history.Given as goal
@@ -10,5 +11,5 @@ invariant-loop-place g l = record {
   marks : AreMarks (lists l.scripts) (take l.place l.lines) (lists l.marks.items);
   table : l.table.items ≡ after_lines g.A.Application.rules (lists l.scripts) l.fn.table.items (take l.place l.lines);
   size : length l.table.items ≡ length l.fn.table.items;
-  fits : (n : ℕ) → AllByRecursion (g.A.Application.fits n) l.fn.table.items → AllByRecursion (g.A.Application.fits (n + 2 * l.place)) l.table.items;
+  fits : (n : ℕ) → AllByRecursion (g.A.Application.fits n) l.fn.table.items → AllByRecursion (g.A.Application.fits (n + MOST_KEYS * l.place)) l.table.items;
 }

@@ -1,15 +1,40 @@
-use Rattle.std.proofs.Common.{true, false, Some, sym, ap, ◌∙◌}
+use Rattle.std.proofs.Common.{◌+◌, ◌<◌, true, false, length, Some, sym, ap, ◌∙◌, arith}
 use Rattle.std.proofs.lemmas.Bool.{true≢false}
 use Rattle.std.proofs.lemmas.Option.{same_Some}
+use Rattle.split_engine.specs.declared.few.TheConstants.{MOST_KEYS}
+use Rattle.split_engine.specs.Rules.{index_end}
+use Rattle.split_engine.specs.Serial.{IsWithin, acts_at}
 use Rattle.split_engine.specs.Serving.{lists}
 use Rattle.split_engine.specs.Checking.{has_line}
-use Rattle.split_engine.proofs.Lines.{mark_there, marks_more}
+use Rattle.split_engine.proofs.Lines.{in_scripts, mark_there, marks_more}
+use Rattle.split_engine.proofs.Splits.{length-acts, fit_most}
 use Rattle.split_engine.proofs.referee.check_line.Goals as goal
 
 pub mark-requires : goal.mark-requires
 mark-requires g c =
     let line = c.args.line.now in let given = c.requires.marks in
     (has_line given.0 line.worker line.index, mark_there (lists c.args.scripts.now) given.0 (lists c.args.marks.now.items) line.worker line.index c.in-Some.request.now given.1 c.in-Some.ensures)
+
+pub returns-in_default-clause-fits : goal.returns-in_default-clause-fits
+returns-in_default-clause-fits g c n h =
+    let s = g.A.Application in
+    fit_most s.rules s.fits s.slice_fits s.is_small g.met.A.Application.laws n (n + MOST_KEYS) c.args.table.now.items (omega arith) h
+
+pub returns-then-mark-clause-fits : goal.returns-then-mark-clause-fits
+returns-then-mark-clause-fits g c n h =
+    let s = g.A.Application in
+    fit_most s.rules s.fits s.slice_fits s.is_small g.met.A.Application.laws n (n + MOST_KEYS) c.args.table.now.items (omega arith) h
+
+pub perform-reply-requires-clause-within : goal.perform-reply-requires-clause-within
+perform-reply-requires-clause-within g c =
+    let size = length c.args.table.now.items in let line = c.args.line.now in
+    in_scripts (IsWithin g.A.Application.rules size) (λ script. length script < index_end) (lists c.args.scripts.now) line.worker line.index c.in-Some.request.now
+    c.requires.scripts c.in-Some.ensures
+
+pub returns-clause-size : goal.returns-clause-size
+returns-clause-size g c =
+    let rules = g.A.Application.rules in
+    ap length c.perform-reply.ensures.table ∙ length-acts rules c.args.table.now.items (acts_at rules c.args.table.now.items c.in-Some.request.now)
 
 pub returns-then-mark-clause-wrong : goal.returns-then-mark-clause-wrong
 returns-then-mark-clause-wrong g c before are is right =

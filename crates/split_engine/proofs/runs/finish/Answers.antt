@@ -15,3 +15,6 @@ pub returns-clause-count : goal.returns-clause-count
 returns-clause-count g c n opened f =
     let s = g.A.Application in let state = c.args.state in
     all_committed s.rules s.fits n opened (lists c.args.scripts.now) state.so_far.table.items state.so_far.history.items state.cursors.items f c.requires
+
+pub returns-clause-len : goal.returns-clause-len
+returns-clause-len g c n opened f = f.size_is

@@ -90,3 +90,14 @@ returns-clause-count g c =
     let fits = c.requires.fits in
     c.finish-2.ensures.count fits.0 c.args.table.items
     (c.in_ok-joined_phase.ensures.state fits.0 c.args.table.items fits.1 (are_scripts g.A.Application.rules (length c.args.table.items) (lists c.args.scripts.now) c.requires.scripts) (c.loop-round.invariant.state fits.0 fits.1 fits.2))
+
+pub returns-then-is_finished-clause-len : goal.returns-then-is_finished-clause-len
+returns-then-is_finished-clause-len g c =
+    let fits = c.requires.fits in
+    c.finish.ensures.len fits.0 c.args.table.items (c.loop-round.invariant.state fits.0 fits.1 fits.2)
+
+pub returns-clause-len : goal.returns-clause-len
+returns-clause-len g c =
+    let fits = c.requires.fits in
+    c.finish-2.ensures.len fits.0 c.args.table.items
+    (c.in_ok-joined_phase.ensures.state fits.0 c.args.table.items fits.1 (are_scripts g.A.Application.rules (length c.args.table.items) (lists c.args.scripts.now) c.requires.scripts) (c.loop-round.invariant.state fits.0 fits.1 fits.2))

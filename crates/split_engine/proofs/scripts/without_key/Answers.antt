@@ -1,4 +1,4 @@
-use Rattle.std.proofs.Common.{ℕ, ◌<◌, subst, arith}
+use Rattle.std.proofs.Common.{◌<◌, subst, arith}
 use Rattle.std.specs.List.{AllByRecursion}
 use Rattle.split_engine.specs.Serial.{IsWithin}
 use Rattle.split_engine.proofs.Ends.{take_whole}
@@ -8,7 +8,7 @@ use Rattle.split_engine.proofs.scripts.without_key.Goals as goal
 pub loop-index-preserved : goal.loop-index-preserved
 loop-index-preserved g c =
     all_take (IsWithin g.A.Application.rules c.args.records) c.args.script.now c.loop-index.index c.index-script-index.result c.loop-index-test.true c.index-script-index.is
-    c.loop-index.invariant (subst (λ (keys : ℕ × ℕ). (keys.0 < c.args.records) × (keys.1 < c.args.records)) c.keys-first.ensures (c.if-first-records.false, c.if-second-records.false))
+    c.loop-index.invariant (subst (AllByRecursion (λ key. key < c.args.records)) c.keys-keys.ensures (c.are_within.ensures.yes c.if-not-are_within.false))
 
 pub returns : goal.returns
 returns g c =

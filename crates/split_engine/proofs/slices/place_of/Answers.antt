@@ -1,10 +1,19 @@
-use Rattle.std.proofs.Common.{◌≡◌, ◌++◌, ◌∷◌, [], length, get_or, set, false, sym, ap, ◌∙◌, arith}
-use Rattle.std.proofs.lemmas.Bool.{ltb-false}
+use Rattle.std.proofs.Common.{◌≡◌, ◌<◌, ◌++◌, ◌∷◌, [], length, get_or, set, false, sym, ap, ◌∙◌, arith}
+use Rattle.std.proofs.lemmas.Bool.{ltb-true, ltb-false}
 use Rattle.split_engine.specs.inner.Kept.{is_at, spread}
 use Rattle.split_engine.proofs.KeptSlices.{not_at, spread_more}
 use Rattle.split_engine.proofs.Splits.{read_any}
 use Rattle.split_engine.proofs.slices.place_of.Goals as goal
 use Rattle.split_engine.proofs.slices.place_of.Goals.{in-Some+else-there-key, in_default}
+
+-- the guess was right
+pub returns-then-there-key-clause-at : goal.returns-then-there-key-clause-at
+returns-then-there-key-clause-at g c =
+    let keys = c.args.keys.now.items in let guess = c.index-guess.result.now in let there = c.in-Some.there.now in let known = c.deref.ensures.value in
+    let within : guess < length keys = omega (arith, ltb-true guess (length c.deref.result.now) (sym c.in-Some.ensures.lookup.0), ap length known) in (
+      within,
+      sym (c.in-Some.ensures.lookup.1 ∙ ap (λ ks. get_or ks guess there) known ∙ read_any keys guess there 0 within) ∙ c.if-there-key.true,
+    )
 
 pub returns-clause-same : goal.returns-clause-same
 returns-clause-same g c =

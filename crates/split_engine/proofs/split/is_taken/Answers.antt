@@ -1,9 +1,11 @@
-use Rattle.std.proofs.Common.{◌&&◌, ◌∙◌, sym}
+use Rattle.std.proofs.Common.{◌&&◌, sym, ap, ◌∙◌}
+use Rattle.std.specs.List.{list_all}
 use Rattle.split_engine.specs.inner.Phases.{is_hot}
 use Rattle.split_engine.proofs.split.is_taken.Goals as goal
 
-pub returns-then-hot-first : goal.returns-then-hot-first
-returns-then-hot-first g c =
-    let hot = c.args.hot.now in let keys = c.keys-first in
-    (λ i. sym c.if-splits.true i && (sym c.if-hot-first.true i && is_hot hot keys.result.1))
-    ∙ (λ i. c.splits.ensures i && (is_hot hot (keys.ensures i).0 && is_hot hot (keys.ensures i).1))
+-- it splits: what is left is whether its keys are hot
+pub returns-then-splits : goal.returns-then-splits
+returns-then-splits g c =
+    let rules = g.A.Application.rules in let are_hot = list_all (is_hot c.args.hot.now) in
+    c.are_hot.ensures ∙ ap are_hot c.keys-keys.ensures
+    ∙ ap (λ splits. splits && are_hot (rules.keys c.args.request.now)) (sym c.if-splits.true ∙ c.splits.ensures)

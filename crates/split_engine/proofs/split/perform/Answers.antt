@@ -1,6 +1,11 @@
-use Rattle.std.proofs.Common.{suc, arith}
+use Rattle.std.proofs.Common.{◌≡◌, true, sym, ap, subst}
+use Rattle.std.specs.List.{AllByRecursion}
+use Rattle.split_engine.specs.Rules.{looks_in}
 use Rattle.split_engine.proofs.split.perform.Goals as goal
 
-pub act-requires-2-clause-fits : goal.act-requires-2-clause-fits
-act-requires-2-clause-fits g c =
-    let fits = c.requires.fits in (suc fits.0, omega (arith, fits.1), c.in_ok-act.ensures.fits fits.0 fits.2)
+-- the acts of a request that splits
+pub act_all-requires-clause-splits : goal.act_all-requires-clause-splits
+act_all-requires-clause-splits g c =
+    let rules = g.A.Application.rules in
+    subst (AllByRecursion (λ x. rules.is_splittable x ≡ true)) (sym (ap (λ d. d.acts) c.decide-decision.ensures.value))
+    (g.met.A.Application.laws.acts_split c.args.request.now (looks_in rules c.looks_at-looks.result) c.requires.splits)

@@ -1,6 +1,7 @@
-use Rattle.std.proofs.Common.{ℕ, ◌≡◌, ◌++◌, [], ◌∷◌, ◌+◌, length, map, ap, sym, ◌∙◌, subst, arith, append_assoc}
+use Rattle.std.proofs.Common.{ℕ, ◌≡◌, ◌++◌, [], ◌∷◌, ◌*◌, length, map, ap, sym, ◌∙◌, subst, arith, append_assoc}
 use Rattle.std.proofs.lemmas.List.{append-nil}
 use Rattle.std.specs.List.{AllByRecursion}
+use Rattle.split_engine.specs.declared.few.TheConstants.{MOST_KEYS}
 use Rattle.split_engine.specs.Serving.{call_of, calls_before}
 use Rattle.split_engine.specs.Splitting.{IsSplitEntry, slices_of}
 use Rattle.split_engine.proofs.Splits.{slices_fit, length-slices}
@@ -17,9 +18,9 @@ pub perform_or_put_off-requires-clause-fits : goal.perform_or_put_off-requires-c
 perform_or_put_off-requires-clause-fits g c =
     let was = c.loop-index.invariant in
     let n = length c.loop-index.own.journal.items in (
-      n + n,
+      MOST_KEYS * n,
       omega (arith, was.few, c.loop-index-test.true, c.requires.few, c.min-end.ensures, c.saturating_add.ensures),
-      subst (λ ss. AllByRecursion (g.A.Application.slice_fits (n + n)) ss) (sym was.done.slices_are)
+      subst (λ ss. AllByRecursion (g.A.Application.slice_fits (MOST_KEYS * n)) ss) (sym was.done.slices_are)
           (slices_fit g.A.Application.rules g.A.Application.fits g.A.Application.slice_fits g.A.Application.is_small g.met.A.Application.laws c.args.phase.now.table.now c.loop-index.own.journal.items was.done.split),
     )
 
