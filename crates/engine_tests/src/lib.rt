@@ -5,8 +5,6 @@
 #[cfg(test)]
 mod calls;
 #[cfg(test)]
-mod comparing;
-#[cfg(test)]
 mod rows;
 #[cfg(test)]
 mod runs;

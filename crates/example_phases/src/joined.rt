@@ -32,7 +32,7 @@ where
     ensures phase { IfOk result (λ next. next.state.phase ≡ auction.state.phase + 1) }
 {
     let (state, stashes, history, clients) = auction.parts();
-    match state.begin_joined::<N, R>(rt, alloc, &[QUOTA, QUOTA], stashes) {
+    match state.begin_joined::<N>(alloc, &[QUOTA, QUOTA], stashes) {
         Ok(begun) => perform_begun(rt, alloc, begun, history, clients),
         Err((_state, _stashes, fault)) => bail!("{fault}"),
     }

@@ -123,8 +123,7 @@ fn both_of(
 }
 
 // Closes the phase: the objects, what each worker has deferred, and all commits so far.
-fn close<N: PhaseName, K: Kind, R: Wait>(
-    rt: &R,
+fn close<N: PhaseName, K: Kind>(
     alloc: Global,
     floor: Floor<N, K>,
     mut history: History,
@@ -138,7 +137,7 @@ fn close<N: PhaseName, K: Kind, R: Wait>(
     ensures phase { IfOk result (λ closed. closed.0.phase ≡ floor.phase + 1) }
 {
     let receipts = vec![in alloc; receipts.0, receipts.1]?;
-    let (state, stashes) = floor.close(rt, alloc, &mut history, receipts)?;
+    let (state, stashes) = floor.close(alloc, &mut history, receipts)?;
     Ok((state, stashes, history))
 }
 
@@ -162,7 +161,7 @@ where
     let (floor, one, other) = parts_of(begun, clients);
     let ((one, first), (other, second)) = work_both(rt, &floor, one, other);
     let clients = both_of(first, second);
-    let (state, stashes, history) = close(rt, alloc, floor, history, (one, other))?;
+    let (state, stashes, history) = close(alloc, floor, history, (one, other))?;
     let (first, second) = clients?;
     Ok(Auction {
         state,

@@ -38,7 +38,7 @@ where
     ensures phase { IfOk result (λ next. next.state.phase ≡ auction.state.phase + 1) }
 {
     let (state, _stashes, history, clients) = auction.parts();
-    match state.begin_split::<N, R>(rt, alloc, &[QUOTA, QUOTA], hot) {
+    match state.begin_split::<N>(alloc, &[QUOTA, QUOTA], hot) {
         Ok(begun) => perform_begun(rt, alloc, begun, history, clients),
         Err((_state, fault)) => bail!("{fault}"),
     }

@@ -1,5 +1,5 @@
 -- Receipts of workers, in order.
-use Rattle.std.proofs.Common.{◌≡◌, ℕ, zero, suc, ◌+◌, ◌<◌, List, [], ◌∷◌, ◌++◌, length, Result, Ok, Err, subst, arith}
+use Rattle.std.proofs.Common.{◌≡◌, ℕ, zero, suc, ◌+◌, ◌<◌, ◌≤◌, List, [], ◌∷◌, ◌++◌, length, Result, Ok, Err, sym, ap, subst, arith}
 use Rattle.std.specs.Prelude.{⊤, IfOk, IfErr}
 use Rattle.closing_laws.specs.Phases.{receipt_at}
 use Rattle.phase_floor.specs.Closings.{IsReceipt, AreReceiptsOf}
@@ -54,6 +54,38 @@ of_all floor receipts many are = (
   λ v less. let e : 0 + v ≡ v = omega arith in
       subst (λ n. IsReceipt floor n (receipt_at receipts v)) e (each_from floor 0 receipts are v (omega (arith, less, many))),
 )
+
+-- the receipts that are given and the permits that are left are the workers', in order
+pub record AreInTurn (floor : FloorState) (given capacity left : ℕ) (receipts permits : List WorkerState) : Type 0 where
+  pub workers : given + left ≡ length floor.counters
+  pub room : length floor.counters ≤ capacity
+  pub first : AreFrom floor 0 receipts
+  pub others : AreFrom floor given permits
+
+pub none_given : {floor : FloorState} {given capacity left : ℕ} {receipts all permits : List WorkerState} → receipts ≡ [] → length receipts ≡ given → AreReceiptsOf floor all
+    → permits ≡ all → left ≡ length all → length floor.counters ≤ capacity → AreInTurn floor given capacity left receipts permits
+none_given {floor} {given} {receipts} {all} {permits} empty many are is long room =
+    let none : given ≡ 0 = omega (arith, sym many, ap length empty) in record {
+      workers = omega (arith, none, long, are.0);
+      room = room;
+      first = subst (AreFrom floor 0) (sym empty) tt;
+      others = subst (λ n. AreFrom floor n permits) (sym none) (subst (AreFrom floor 0) (sym is) (all_of floor all are));
+    }
+
+pub next_is : {floor : FloorState} {given capacity left worker : ℕ} {receipts permits rest : List WorkerState} {permit : WorkerState} → AreInTurn floor given capacity left receipts permits
+    → permits ≡ permit ∷ rest → worker ≡ given → IsReceipt floor worker permit
+next_is {floor} {given} {permit} are is number = subst (λ n. IsReceipt floor n permit) (sym number) (subst (AreFrom floor given) is are.others).0
+
+pub one_more_given : {floor : FloorState} {given capacity left given1 capacity1 left1 worker : ℕ} {receipts permits receipts1 rest : List WorkerState} {permit receipt : WorkerState}
+    → AreInTurn floor given capacity left receipts permits → length receipts ≡ given → permits ≡ permit ∷ rest → left ≡ suc left1 → worker ≡ given → IsReceipt floor worker receipt
+    → receipts1 ≡ receipts ++ receipt ∷ [] → given1 ≡ suc given → capacity1 ≡ capacity → AreInTurn floor given1 capacity1 left1 receipts1 rest
+one_more_given {floor} {given} {worker} {receipts} {rest} {receipt} are many is fewer number its grown more room =
+    let here : worker ≡ 0 + length receipts = omega (arith, number, sym many) in record {
+      workers = omega (arith, more, fewer, are.workers);
+      room = omega (arith, room, are.room);
+      first = subst (AreFrom floor 0) (sym grown) (one_more floor 0 receipts receipt are.first (subst (λ n. IsReceipt floor n receipt) here its));
+      others = subst (λ n. AreFrom floor n rest) (sym more) (subst (AreFrom floor given) is are.others).1;
+    }
 
 -- a permit is its worker's whatever it answers
 module _ (initial : List ShardState) (floor : FloorState) (w : ℕ) (old new : WorkerState) (was : IsReceipt floor w old) (request : Request) (index : ℕ) where

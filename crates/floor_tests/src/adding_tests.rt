@@ -1,25 +1,14 @@
 //! Rows that are added to an auction one after the other.
-use crate::comparing::assert_same;
-use crate::testing::{FIRST, OPENING, VIEW, bid, item_seen, put_up, vases};
-use auction_rows::{BidId, BidRow, Refusal, Request, Row};
+use crate::testing::assert_same;
+use auction_rows::{Refusal, Request};
 use item_shards::Opened;
 use phase_floor::{AddFault, Joined};
-
-const BID_ROW: Row = Row::Bid(BidRow {
-    id: BidId {
-        worker: 1,
-        serial: 0,
-    },
-    item: FIRST,
-    bidder: 3,
-    amount: 20,
-    time: 5,
-});
+use test_values::{OPENING, VIEW, bid, bid_row, item_seen, put_up, vases};
 
 #[test]
 fn added_rows_are_shown(rt: HostRuntime) {
     let mut state = Joined::new(rt.alloc(), OPENING, 2, 4).expect(&rt, "memory");
-    let facts = vases(&rt, 10, 1);
+    let facts = vases(10, 1);
     let item = Opened {
         worker: 0,
         request: put_up(facts),
@@ -31,14 +20,14 @@ fn added_rows_are_shown(rt: HostRuntime) {
         worker: 1,
         request: bid(3, 20, 5),
     };
-    assert_same(&rt, state.add(&bid), Ok(BID_ROW));
-    let seen = item_seen(&facts, (20, 3), 1, 1);
+    assert_same(&rt, state.add(&bid), Ok(bid_row(1, 3, 20, 5)));
+    let seen = item_seen(&facts, Some((20, 3)), 1, 1);
     assert_same(&rt, state.view(&VIEW), Some(seen));
 }
 
 #[test]
 fn what_is_no_row_is_not_added(rt: HostRuntime) {
-    let item = put_up(vases(&rt, 10, 1));
+    let item = put_up(vases(10, 1));
     for (worker, request, fault) in [
         (1, bid(3, 20, 5), AddFault::Refused(Refusal::NoSuchItem)),
         (1, bid(10, 20, 5), AddFault::Refused(Refusal::NoSuchUser)),

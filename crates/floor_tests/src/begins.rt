@@ -1,5 +1,5 @@
 //! Phases of one worker that are begun, or are not, and in which nothing is done.
-ghost use Rattle.std.specs.Prelude.{◌≡◌, ◌≤◌, ◌∷◌, [], length, vec_len, IfErr};
+ghost use Rattle.std.specs.Prelude.{◌≡◌, ◌≤◌, length, vec_len, IfErr};
 ghost use Rattle.phase_floor.specs.States.{states_of};
 
 use auction_rows::Object;
@@ -8,21 +8,10 @@ use phase_floor::{BeginFault, Joined};
 use phase_permits::Stash;
 use shard_boxes::PhaseName;
 use std::alloc::Global;
-use std::sync::Wait;
-
-// The one item.
-fn only<T>(mut items: Vec<T>) -> T
-    requires { vec_len items ≡ 1 }
-    ensures { items.items ≡ result ∷ [] }
-{
-    let item = items.remove(0);
-    items.destroy_empty();
-    item
-}
+use test_values::only;
 
 /// The quota with which a joined phase begins, or what came back.
-pub(crate) fn begin_joined<N: PhaseName, R: Wait>(
-    rt: &R,
+pub(crate) fn begin_joined<N: PhaseName>(
     alloc: Global,
     state: Joined,
     quota: u32,
@@ -36,7 +25,7 @@ pub(crate) fn begin_joined<N: PhaseName, R: Wait>(
     ensures state { IfErr result (λ refused. refused.0 ≡ state) }
     ensures stashes { IfErr result (λ refused. refused.1 ≡ stashes) }
 {
-    match state.begin_joined::<N, R>(rt, alloc, &[quota], stashes) {
+    match state.begin_joined::<N>(alloc, &[quota], stashes) {
         Ok((_floor, permits)) => {
             let permit = only(permits);
             let left = permit.left();
@@ -48,8 +37,7 @@ pub(crate) fn begin_joined<N: PhaseName, R: Wait>(
 }
 
 /// The quota with which a split phase begins, or what came back.
-pub(crate) fn begin_split<N: PhaseName, R: Wait>(
-    rt: &R,
+pub(crate) fn begin_split<N: PhaseName>(
     alloc: Global,
     state: Joined,
     quota: u32,
@@ -61,7 +49,7 @@ pub(crate) fn begin_split<N: PhaseName, R: Wait>(
     requires phase { state.phase ≡ 0 }
     ensures state { IfErr result (λ refused. refused.0 ≡ state) }
 {
-    match state.begin_split::<N, R>(rt, alloc, &[quota], hot) {
+    match state.begin_split::<N>(alloc, &[quota], hot) {
         Ok((_floor, permits)) => {
             let permit = only(permits);
             let left = permit.left();

@@ -3,10 +3,9 @@ ghost use Rattle.std.specs.Prelude.{◌≡◌, ◌<◌, ◌≤◌, ◌↔◌, Al
 ghost use Rattle.auction_rows.specs.Book.{worker_of};
 
 use crate::begins::{begin_joined, begin_split};
-use crate::comparing::assert_same;
 use crate::joined::joined_phase;
-use crate::testing::{OPENING, only_hot, put_up, vases};
-use auction_rows::{ItemId, Object, Request, Row};
+use crate::testing::{assert_same, nothing_waits, only_hot};
+use auction_rows::{ItemId, Object, Row};
 use indexmap::IndexSet;
 use item_shards::{Opened, OpeningBook};
 use phase_floor::{BeginFault, Joined};
@@ -15,22 +14,13 @@ use std::alloc::Global;
 use std::marker::Brand;
 use std::process::Abort;
 use std::sync::Wait;
+use test_values::{LOOK, OPENING, put_up, vases};
 use worker_journals::History;
 
 const EIGHTH: ItemId = ItemId {
     worker: 7,
     serial: 0,
 };
-
-const LOOK: Request = Request::ViewUser { user: 0 };
-
-// What one worker has, for whom nothing waits.
-fn nothing_waits(rt: &impl Abort, alloc: Global) -> Vec<Stash>
-    ensures { vec_len result ≡ 1 }
-{
-    let stash = Stash::with_room(alloc, 0).expect(rt, "memory");
-    vec![in alloc; stash].expect(rt, "memory")
-}
 
 // Whether all rows are of worker 0.
 fn are_of_the_first(rows: &[Row]) -> bool
@@ -40,19 +30,14 @@ fn are_of_the_first(rows: &[Row]) -> bool
 }
 
 // A joined phase that is too long: the state and the stashes come back.
-fn refuses_joined<R: Wait + Abort>(
-    rt: &R,
-    alloc: Global,
-    state: Joined,
-    quota: u32,
-) -> (Joined, Vec<Stash>)
+fn refuses_joined(rt: &impl Abort, alloc: Global, state: Joined, quota: u32) -> (Joined, Vec<Stash>)
     requires one { length state.counters ≡ 1 }
     requires phase { state.phase ≤ 1 }
     ensures state { result.0 ≡ state }
     ensures stashes { vec_len result.1 ≡ 1 }
 {
-    let stashes = nothing_waits(rt, alloc);
-    let begun = begin_joined::<Brand, R>(rt, alloc, state, quota, stashes);
+    let stashes = nothing_waits(alloc, 1).expect(rt, "memory");
+    let begun = begin_joined::<Brand>(alloc, state, quota, stashes);
     let (state, stashes, fault) = begun.expect_err(rt, "too long");
     assert_same(rt, fault, BeginFault::TooLong);
     assert_same(rt, stashes.len(), 1);
@@ -60,18 +45,18 @@ fn refuses_joined<R: Wait + Abort>(
 }
 
 // A joined phase that is too long, and one that is not.
-fn begins_joined<R: Wait + Abort>(rt: &R, alloc: Global, state: Joined, too_long: u32, most: u32)
+fn begins_joined(rt: &impl Abort, alloc: Global, state: Joined, too_long: u32, most: u32)
     requires one { length state.counters ≡ 1 }
     requires phase { state.phase ≡ 0 }
 {
     let (state, stashes) = refuses_joined(rt, alloc, state, too_long);
-    let begun = begin_joined::<Brand, R>(rt, alloc, state, most, stashes);
+    let begun = begin_joined::<Brand>(alloc, state, most, stashes);
     assert_same(rt, begun.ok(), Some(most));
 }
 
 // A split phase whose hot object is unknown, then one that is too long, and one that is neither.
-fn begins_split<R: Wait + Abort>(
-    rt: &R,
+fn begins_split(
+    rt: &impl Abort,
     alloc: Global,
     state: Joined,
     unknown: &IndexSet<Object>,
@@ -80,13 +65,13 @@ fn begins_split<R: Wait + Abort>(
     requires one { length state.counters ≡ 1 }
     requires phase { state.phase ≡ 0 }
 {
-    let begun = begin_split::<Brand, R>(rt, alloc, state, 1_000_001, unknown);
+    let begun = begin_split::<Brand>(alloc, state, 1_000_001, unknown);
     let (state, fault) = begun.expect_err(rt, "an unknown hot object");
     assert_same(rt, fault, BeginFault::UnknownHot);
-    let begun = begin_split::<Brand, R>(rt, alloc, state, 1_000_001, known);
+    let begun = begin_split::<Brand>(alloc, state, 1_000_001, known);
     let (state, fault) = begun.expect_err(rt, "too long");
     assert_same(rt, fault, BeginFault::TooLong);
-    let begun = begin_split::<Brand, R>(rt, alloc, state, 1_000_000, known);
+    let begun = begin_split::<Brand>(alloc, state, 1_000_000, known);
     assert_same(rt, begun.ok(), Some(1_000_000));
 }
 
@@ -111,7 +96,7 @@ fn of_three_rows(rt: &impl Abort, alloc: Global) -> Joined
 {
     let row = Opened {
         worker: 0,
-        request: put_up(vases(rt, 10, 1)),
+        request: put_up(vases(10, 1)),
     };
     let rows = vec![in alloc; row; 3].expect(rt, "memory");
     let book = OpeningBook::new(alloc, OPENING, rows).expect(rt, "a book");
@@ -138,7 +123,7 @@ fn begins_anew<R: Wait + Abort>(rt: &R, alloc: Global, state: Joined)
     requires phase { state.phase ≡ 0 }
 {
     let mut history = History::new(alloc);
-    let stashes = nothing_waits(rt, alloc);
+    let stashes = nothing_waits(alloc, 1).expect(rt, "memory");
     let state = joined_phase::<Brand, R>(rt, alloc, state, stashes, &LOOK, &mut history);
     let (state, _stashes) = refuses_joined(rt, alloc, state, 1_000_000);
     begins_joined(rt, alloc, state.for_next_run(), 1_000_001, 1_000_000);

@@ -86,11 +86,11 @@ pub(crate) fn joined_phase<N: PhaseName, R: Wait + Abort>(
     let workers = stashes.len();
     let quotas = vec![in alloc; 1u32; workers].expect(rt, "memory");
     let room = room_for(rt, alloc, workers);
-    let Ok((floor, permits)) = state.begin_joined::<N, R>(rt, alloc, &quotas, stashes) else {
+    let Ok((floor, permits)) = state.begin_joined::<N>(alloc, &quotas, stashes) else {
         panic!(rt; "the joined phase did not begin");
     };
     let receipts = perform_first(rt, &floor, permits, room, request);
-    let closed = floor.close(rt, alloc, history, receipts);
+    let closed = floor.close(alloc, history, receipts);
     let (state, _stashes) = closed.expect(rt, "a joined phase that is closed");
     state
 }

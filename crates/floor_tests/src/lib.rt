@@ -8,8 +8,6 @@ mod begins;
 #[cfg(test)]
 mod begins_tests;
 #[cfg(test)]
-mod comparing;
-#[cfg(test)]
 mod joined;
 #[cfg(test)]
 mod sixteen_tests;

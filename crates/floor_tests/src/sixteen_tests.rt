@@ -1,20 +1,19 @@
 //! A joined and a split phase of sixteen workers, who bid on one item.
-ghost use Rattle.std.specs.Prelude.{◌≡◌, ◌∷◌, [], length, vec_len, IfOk};
+ghost use Rattle.std.specs.Prelude.{◌≡◌, length};
 ghost use Rattle.phase_floor.specs.States.{states_of};
 
-use crate::comparing::assert_same;
 use crate::joined::joined_phase;
 use crate::split::{BIDS, bid_often};
-use crate::testing::{FIRST, VIEW, item_seen, only_hot, put_up, room_for, vases};
+use crate::testing::{assert_same, nothing_waits, only_hot, room_for};
 use auction_rows::{BidId, BidShown, Facts, MOST_SHOWN, Object, Opening, Reply, Request, Ten};
 use indexmap::IndexSet;
 use phase_floor::Joined;
-use phase_permits::Stash;
 use shard_boxes::PhaseName;
-use std::alloc::{AllocError, Global};
+use std::alloc::Global;
 use std::marker::Brand;
 use std::process::Abort;
 use std::sync::Wait;
+use test_values::{FIRST, VIEW, item_seen, put_up, vases};
 use worker_journals::History;
 
 const WORKERS: u32 = 16;
@@ -25,17 +24,6 @@ const SIXTEEN: Opening = Opening {
 };
 
 const VIEW_OF_BIDS: Request = Request::ViewBids { item: FIRST };
-
-// Nothing waits for any of them.
-fn nothing_waits(alloc: Global) -> Result<Vec<Stash>, AllocError>
-    ensures { IfOk result (λ stashes. vec_len stashes ≡ 16) }
-{
-    let mut stashes = Vec::new(alloc);
-    for _worker in 0..WORKERS {
-        stashes.push(Stash::with_room(alloc, 0)?)?;
-    }
-    Ok(stashes)
-}
 
 // The state after a split phase in which the item is hot and all workers bid on it.
 fn split_phase<N: PhaseName, R: Wait + Abort>(
@@ -51,11 +39,11 @@ fn split_phase<N: PhaseName, R: Wait + Abort>(
     requires phase { state.phase ≡ 1 }
 {
     let room = room_for(rt, alloc, 16);
-    let Ok((floor, permits)) = state.begin_split::<N, R>(rt, alloc, &[BIDS; 16], hot) else {
+    let Ok((floor, permits)) = state.begin_split::<N>(alloc, &[BIDS; 16], hot) else {
         panic!(rt; "the split phase did not begin");
     };
     let receipts = bid_often(rt, &floor, permits, room);
-    let closed = floor.close(rt, alloc, history, receipts);
+    let closed = floor.close(alloc, history, receipts);
     let (state, _stashes) = closed.expect(rt, "a split phase that is closed");
     state
 }
@@ -72,7 +60,7 @@ fn two_phases<R: Wait + Abort>(
     requires sixteen { length state.counters ≡ 16 }
     requires phase { state.phase ≡ 0 }
 {
-    let stashes = nothing_waits(alloc).expect(rt, "memory");
+    let stashes = nothing_waits(alloc, WORKERS).expect(rt, "memory");
     let state = joined_phase::<Brand, R>(rt, alloc, state, stashes, store, history);
     split_phase::<Brand, R>(rt, alloc, state, hot, history)
 }
@@ -94,7 +82,7 @@ fn last_bids(rt: &impl Abort) -> Ten<BidShown> {
 
 // Asserts what views show of the item and of its bids.
 fn assert_shown(rt: &impl Abort, state: &Joined, facts: &Facts) {
-    let seen = item_seen(facts, (5, 15), 16_000, 1);
+    let seen = item_seen(facts, Some((5, 15)), 16_000, 1);
     assert_same(rt, state.view(&VIEW), Some(seen));
     let bids = Reply::BidsSeen(last_bids(rt));
     assert_same(rt, state.view(&VIEW_OF_BIDS), Some(bids));
@@ -103,7 +91,7 @@ fn assert_shown(rt: &impl Abort, state: &Joined, facts: &Facts) {
 #[test]
 fn sixteen_workers_bid_on_one_item(rt: HostRuntime) {
     let alloc = rt.alloc();
-    let facts = vases(&rt, 5, 1);
+    let facts = vases(5, 1);
     let store = put_up(facts);
     let hot = only_hot(&rt, alloc, Object::Item(FIRST));
     let state = Joined::new(alloc, SIXTEEN, WORKERS, 4).expect(&rt, "memory");

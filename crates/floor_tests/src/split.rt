@@ -2,13 +2,13 @@
 ghost use Rattle.std.specs.Prelude.{◌≡◌, ◌≤◌, [], length, vec_capacity};
 ghost use Rattle.phase_floor.specs.Closings.{IsReceipt, AreReceiptsOf};
 
-use crate::testing::bid;
 use auction_rows::MOST_TRIES;
 use phase_floor::SplitFloor;
 use phase_permits::{SplitPermit, SplitReceipt};
 use shard_boxes::PhaseName;
 use std::process::Abort;
 use std::sync::Wait;
+use test_values::bid;
 
 /// How often each worker bids.
 pub(crate) const BIDS: u32 = 1000;

@@ -1,66 +1,16 @@
-//! What tests hand in: ten users, two categories, and an item.
-ghost use Rattle.std.specs.Prelude.{◌≡◌, ◌≤◌, [], vec_capacity};
+//! How tests compare, what is hot and what waits, and room for receipts.
+ghost use Rattle.std.specs.Prelude.{◌≡◌, ◌≤◌, [], vec_capacity, vec_len, IfOk};
 
-use auction_rows::{Facts, ItemId, Name, Object, Opening, Quantity, Reply, Request};
+use auction_rows::Object;
 use indexmap::IndexSet;
-use std::alloc::Global;
+use phase_permits::Stash;
+use std::alloc::{AllocError, Global};
+use std::fmt::Debug;
 use std::process::Abort;
 
-/// Ten users and two categories.
-pub(crate) const OPENING: Opening = Opening {
-    users: 10,
-    categories: 2,
-};
-
-/// The first item that worker 0 stores.
-pub(crate) const FIRST: ItemId = ItemId {
-    worker: 0,
-    serial: 0,
-};
-
-/// A view of it.
-pub(crate) const VIEW: Request = Request::ViewItem { item: FIRST };
-
-/// So many vases, put up by user 0 in category 0 from this amount on, until time 100.
-pub(crate) fn vases(rt: &impl Abort, start: u64, quantity: u64) -> Facts {
-    Facts {
-        seller: 0,
-        category: 0,
-        name: Name::new(b"Vase").expect(rt, "a name"),
-        start,
-        closes: 100,
-        quantity: Quantity::new(quantity).expect(rt, "a quantity"),
-    }
-}
-
-/// A store at time 1.
-pub(crate) fn put_up(facts: Facts) -> Request {
-    Request::StoreItem { facts, time: 1 }
-}
-
-/// A bid on the first item.
-pub(crate) fn bid(bidder: u32, amount: u64, time: u64) -> Request {
-    Request::StoreBid {
-        bidder,
-        item: FIRST,
-        amount,
-        time,
-    }
-}
-
-/// The view of an item with so many bids, the greatest of which is this amount of this bidder.
-pub(crate) fn item_seen(facts: &Facts, greatest: (u64, u32), bids: u64, left: u32) -> Reply {
-    Reply::ItemSeen {
-        seller: facts.seller,
-        category: facts.category,
-        name: facts.name,
-        start: facts.start,
-        closes: facts.closes,
-        highest: Some(greatest.0),
-        bidder: Some(greatest.1),
-        bids,
-        left,
-    }
+/// Ends the test where these are not the same.
+pub(crate) fn assert_same<T: PartialEq + Debug + Drop>(rt: &impl Abort, got: T, wanted: T) {
+    assert_eq!(rt; got, wanted);
 }
 
 /// The one hot object.
@@ -68,6 +18,17 @@ pub(crate) fn only_hot(rt: &impl Abort, alloc: Global, object: Object) -> IndexS
     let mut hot = IndexSet::new(alloc);
     let _is_new = hot.insert(object).ok().expect(rt, "memory");
     hot
+}
+
+/// Nothing waits for so many workers.
+pub(crate) fn nothing_waits(alloc: Global, workers: u32) -> Result<Vec<Stash>, AllocError>
+    ensures { IfOk result (λ stashes. vec_len stashes ≡ workers) }
+{
+    let mut stashes = Vec::new(alloc);
+    for _worker in 0..workers {
+        stashes.push(Stash::with_room(alloc, 0)?)?;
+    }
+    Ok(stashes)
 }
 
 /// Room for so many.

@@ -3,7 +3,6 @@
 //! turn.
 mod first_requests;
 mod joined;
-mod one_permit;
 mod phases;
 mod printing;
 mod split;

@@ -6,8 +6,6 @@ mod boxes;
 #[cfg(test)]
 mod calls;
 #[cfg(test)]
-mod comparing;
-#[cfg(test)]
 mod permits;
 #[cfg(test)]
 mod testing;

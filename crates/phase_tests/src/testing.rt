@@ -1,65 +1,24 @@
-//! What tests hand in: ten users, two categories, and an item.
-ghost use Rattle.std.specs.Prelude.{◌≡◌, ◌≤◌, [], vec_capacity};
+//! How tests compare, a view that waits, and room for keys.
+ghost use Rattle.std.specs.Prelude.{◌≡◌, ◌≤◌, [], length, vec_capacity, IfOk};
 
-use auction_rows::{Facts, ItemId, Name, Opening, Quantity, Reply, Request};
-use std::alloc::Global;
+use auction_rows::Request;
+use phase_permits::Stash;
+use std::alloc::{AllocError, Global};
+use std::fmt::Debug;
 use std::process::Abort;
 
-/// Ten users and two categories.
-pub(crate) const OPENING: Opening = Opening {
-    users: 10,
-    categories: 2,
-};
-
-/// The first item that worker 0 stores.
-pub(crate) const FIRST: ItemId = ItemId {
-    worker: 0,
-    serial: 0,
-};
-
-/// A view of it.
-pub(crate) const VIEW: Request = Request::ViewItem { item: FIRST };
-
-/// So many vases, put up by user 0 in category 0 from this amount on, until time 100.
-pub(crate) fn vases(rt: &impl Abort, start: u64, quantity: u64) -> Facts {
-    Facts {
-        seller: 0,
-        category: 0,
-        name: Name::new(b"Vase").expect(rt, "a name"),
-        start,
-        closes: 100,
-        quantity: Quantity::new(quantity).expect(rt, "a quantity"),
-    }
+/// Ends the test where these are not the same.
+pub(crate) fn assert_same<T: PartialEq + Debug + Drop>(rt: &impl Abort, got: T, wanted: T) {
+    assert_eq!(rt; got, wanted);
 }
 
-/// A store at time 1.
-pub(crate) fn put_up(facts: Facts) -> Request {
-    Request::StoreItem { facts, time: 1 }
-}
-
-/// A bid on the first item.
-pub(crate) fn bid(bidder: u32, amount: u64, time: u64) -> Request {
-    Request::StoreBid {
-        bidder,
-        item: FIRST,
-        amount,
-        time,
-    }
-}
-
-/// The view of an item with so many bids, the greatest of which is this amount of this bidder.
-pub(crate) fn item_seen(facts: &Facts, greatest: (u64, u32), bids: u64, left: u32) -> Reply {
-    Reply::ItemSeen {
-        seller: facts.seller,
-        category: facts.category,
-        name: facts.name,
-        start: facts.start,
-        closes: facts.closes,
-        highest: Some(greatest.0),
-        bidder: Some(greatest.1),
-        bids,
-        left,
-    }
+/// A stash in which a view of this user waits, with this index.
+pub(crate) fn waiting(alloc: Global, index: u32, user: u32) -> Result<Stash, AllocError>
+    ensures { IfOk result (λ stash. length stash.requests ≡ 1) }
+{
+    let mut stash = Stash::with_room(alloc, 1)?;
+    stash.push(index, Request::ViewUser { user });
+    Ok(stash)
 }
 
 /// Room for so many.

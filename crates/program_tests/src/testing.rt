@@ -1,14 +1,13 @@
-//! What tests hand in, and what they look at.
+//! How tests compare, and what they look at.
 use auction_program::{Fault, write_fault};
-use auction_rows::ItemId;
 use std::alloc::Global;
+use std::fmt::Debug;
 use std::process::Abort;
 
-/// The first item that worker 0 stores.
-pub const FIRST: ItemId = ItemId {
-    worker: 0,
-    serial: 0,
-};
+/// Ends the test where these are not the same.
+pub(crate) fn assert_same<T: PartialEq + Debug + Drop>(rt: &impl Abort, got: T, wanted: T) {
+    assert_eq!(rt; got, wanted);
+}
 
 /// Adds bytes to a text.
 pub fn extend(rt: &impl Abort, text: &mut Vec<u8>, bytes: &[u8]) {

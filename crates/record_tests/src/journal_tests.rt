@@ -2,7 +2,7 @@
 ghost use Rattle.std.specs.Prelude.{◌≡◌, ◌≤◌, vec_len};
 ghost use Rattle.worker_journals.specs.Merged.{AreByWorker};
 
-use crate::comparing::assert_same;
+use crate::testing::assert_same;
 use auction_rows::{Entry, Refusal, Reply, Request};
 use std::alloc::Global;
 use std::process::Abort;

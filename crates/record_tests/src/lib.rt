@@ -2,8 +2,6 @@
 #![tactic(auto)]
 
 #[cfg(test)]
-mod comparing;
-#[cfg(test)]
 mod journal_tests;
 #[cfg(test)]
 mod merge_tests;

@@ -2,14 +2,14 @@
 ghost use Rattle.std.specs.Prelude.{◌≡◌, negsuc};
 ghost use Rattle.item_shards.specs.ShardContents.{shard_count, shard_number};
 
-use crate::comparing::assert_same;
-use crate::testing::{FIRST, OPENING, item_seen, vases};
+use crate::testing::assert_same;
 use auction_rows::{
     BidEntry, BidId, BidShown, ItemEntry, ItemId, ItemShown, MOST_SHOWN, Refusal, Reply, Stars, Ten,
 };
 use item_shards::{Act, CategorySlice, ItemSlice, Shard, UserSlice};
 use split_records::Splittable;
 use std::process::Abort;
+use test_values::{FIRST, OPENING, UNRATED, item_seen, vases};
 
 // The item, its bids, a user and a category, as a shard shows them in which all objects lie.
 fn views(shard: &Shard, user: u32, category: u32) -> [Reply; 4]
@@ -33,12 +33,8 @@ const NO_CATEGORY: Reply = Reply::Refused(Refusal::NoSuchCategory);
 #[test]
 fn a_new_shard_shows_what_there_is(rt: HostRuntime) {
     let shard = Shard::new(rt.alloc(), 0, 1, OPENING).expect(&rt, "memory");
-    let unseen = Reply::UserSeen {
-        rating: 0,
-        comments: 0,
-    };
     let none = Reply::CategorySeen(Ten::new());
-    assert_same(&rt, views(&shard, 9, 1), [NO_ITEM, NO_ITEM, unseen, none]);
+    assert_same(&rt, views(&shard, 9, 1), [NO_ITEM, NO_ITEM, UNRATED, none]);
     let unknown = [NO_ITEM, NO_ITEM, NO_USER, NO_CATEGORY];
     assert_same(&rt, views(&shard, 10, 2), unknown);
 }
@@ -121,14 +117,14 @@ fn items_seen<R: Abort>(rt: &R) -> Reply {
 // Of two equal bids the one with the greater number wins.
 #[test]
 fn a_shard_shows_the_slices_merged_into_it(rt: HostRuntime) {
-    let facts = vases(&rt, 10, 1);
+    let facts = vases(10, 1);
     let mut shard = Shard::new(rt.alloc(), 0, 1, OPENING).expect(&rt, "memory");
     shard.merge_user(3, two_comments());
     shard.merge_category(1, two_items());
     shard.prepare_item(FIRST).expect(&rt, "memory");
     shard.merge_item(FIRST, two_bids());
     shard.act(&Act::AddItem(FIRST, facts));
-    let seen = item_seen(&facts, (50, 2), 2, 1);
+    let seen = item_seen(&facts, Some((50, 2)), 2, 1);
     let rated = Reply::UserSeen {
         rating: -2,
         comments: 2,

@@ -2,10 +2,10 @@
 ghost use Rattle.auction_rows.specs.declared.requests.Object.TheVariants.{Item};
 ghost use Rattle.item_shards.specs.ShardContents.{LiesIn};
 
-use crate::comparing::assert_same;
-use crate::testing::{FIRST, OPENING, vases};
+use crate::testing::assert_same;
 use auction_rows::Facts;
 use item_shards::{Act, LAST_NUMBER, Shard, next_number};
+use test_values::{FIRST, OPENING, vases};
 
 #[test]
 fn numbers_end(rt: HostRuntime) {
@@ -30,8 +30,8 @@ fn a_shard_knows_an_item_once_it_is_added(rt: HostRuntime) {
     let mut shard = Shard::new(rt.alloc(), 0, 1, OPENING).expect(&rt, "memory");
     shard.prepare_item(FIRST).expect(&rt, "memory");
     assert_same(&rt, first_in(&shard), (None, None));
-    shard.act(&Act::AddItem(FIRST, vases(&rt, 10, 1)));
-    assert_same(&rt, first_in(&shard), (Some(vases(&rt, 10, 1)), Some(1)));
+    shard.act(&Act::AddItem(FIRST, vases(10, 1)));
+    assert_same(&rt, first_in(&shard), (Some(vases(10, 1)), Some(1)));
 }
 
 #[test]

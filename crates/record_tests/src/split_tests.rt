@@ -1,7 +1,5 @@
 //! Records of each kind, in two slices that are merged.
-ghost use Rattle.std.specs.Prelude.{◌≡◌};
-
-use crate::comparing::assert_same;
+use crate::testing::assert_same;
 use split_records::{AddRec, MaxRec, OPutRec, Splittable, merged_slices, value_of_any_history};
 use top_records::TopRec;
 

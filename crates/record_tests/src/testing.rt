@@ -1,42 +1,8 @@
-//! What tests hand in: ten users, two categories, and an item.
-use auction_rows::{Facts, ItemId, Name, Opening, Quantity, Reply};
+//! How tests compare.
+use std::fmt::Debug;
 use std::process::Abort;
 
-/// Ten users and two categories.
-pub(crate) const OPENING: Opening = Opening {
-    users: 10,
-    categories: 2,
-};
-
-/// The first item that worker 0 stores.
-pub(crate) const FIRST: ItemId = ItemId {
-    worker: 0,
-    serial: 0,
-};
-
-/// So many vases, put up by user 0 in category 0 from this amount on, until time 100.
-pub(crate) fn vases(rt: &impl Abort, start: u64, quantity: u64) -> Facts {
-    Facts {
-        seller: 0,
-        category: 0,
-        name: Name::new(b"Vase").expect(rt, "a name"),
-        start,
-        closes: 100,
-        quantity: Quantity::new(quantity).expect(rt, "a quantity"),
-    }
-}
-
-/// The view of an item with so many bids, the greatest of which is this amount of this bidder.
-pub(crate) fn item_seen(facts: &Facts, greatest: (u64, u32), bids: u64, left: u32) -> Reply {
-    Reply::ItemSeen {
-        seller: facts.seller,
-        category: facts.category,
-        name: facts.name,
-        start: facts.start,
-        closes: facts.closes,
-        highest: Some(greatest.0),
-        bidder: Some(greatest.1),
-        bids,
-        left,
-    }
+/// Ends the test where these are not the same.
+pub(crate) fn assert_same<T: PartialEq + Debug + Drop>(rt: &impl Abort, got: T, wanted: T) {
+    assert_eq!(rt; got, wanted);
 }

@@ -4,7 +4,7 @@ ghost use Rattle.phase_laws.specs.Numbers.{last_by};
 ghost use Rattle.worker_journals.specs.Journals.{entry_number};
 ghost use Rattle.worker_journals.specs.Merged.{AreByWorker};
 
-use crate::comparing::assert_same;
+use crate::testing::assert_same;
 use auction_rows::{Refusal, Reply, Request};
 use std::alloc::Global;
 use std::process::Abort;

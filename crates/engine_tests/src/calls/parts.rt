@@ -1,7 +1,6 @@
 //! Two parts of an auction, the second from the state that the first left.
 use crate::calls::printing::print_state;
 use crate::runs::testing::{own_scripts, policy_of};
-use crate::testing::{LOOK, OPENING, bid, purchase, put_up, vases};
 use auction_rows::Request;
 use auction_run::{FreeGate, RunFault, Stopped, run_on};
 use phase_floor::Joined;
@@ -10,6 +9,7 @@ use std::process::Abort;
 use std::sync::Wait;
 use std::test::Fail;
 use std::thread::Threads;
+use test_values::{LOOK, OPENING, bid, purchase, put_up, vases};
 
 /// Goes on twice from an auction that has no rows: the state after both parts. In the first the
 /// vases are split.
@@ -18,11 +18,11 @@ pub(crate) fn two_parts<R: Threads + Wait + Sync + Print + Abort>(
     alloc: Global,
 ) -> Result<Joined, Fail> {
     let first: [&[Request]; 2] = [
-        &[put_up(vases(rt, 3)), bid(1, 10, 1), bid(1, 20, 2)],
+        &[put_up(vases(10, 3)), bid(1, 10, 1), bid(1, 20, 2)],
         &[LOOK],
     ];
     let first = own_scripts(alloc, &first)?;
-    let second: [&[Request]; 2] = [&[purchase(rt, 4, 1, 9)], &[bid(2, 30, 3)]];
+    let second: [&[Request]; 2] = [&[purchase(4, 1, 9)], &[bid(2, 30, 3)]];
     let second = own_scripts(alloc, &second)?;
     let state = Joined::new(alloc, OPENING, 2, 4)?;
     let _ = println!(rt; "parts ready: {} workers", state.workers());

@@ -1,7 +1,7 @@
 //! What is printed beside the answers of calls.
-use crate::testing::VIEW;
 use auction_rows::Reply;
 use phase_floor::Joined;
+use test_values::VIEW;
 
 /// Prints what a view shows after so many phases.
 pub(crate) fn print_view<R: Print>(rt: &R, phases: u64, reply: &Reply) {

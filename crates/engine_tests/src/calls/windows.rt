@@ -1,19 +1,20 @@
 //! A publisher, a window, and the rows of two phases.
-ghost use Rattle.std.specs.Prelude.{◌≡◌, ◌<◌, ◌++◌, ◌∷◌, [], length, vec_len, IfOk, false};
+ghost use Rattle.std.specs.Prelude.{◌≡◌, ◌<◌, ◌++◌, ◌∷◌, [], vec_len, IfOk, false};
 ghost use Rattle.item_shards.specs.OpeningBooks.{opening_of};
 ghost use Rattle.item_shards.specs.Serial.{CanFollow};
 ghost use Rattle.auction_window.specs.Published.{book_of};
 
 use crate::calls::printing::print_view;
-use crate::testing::{OPENING, VIEW, bid, put_up, vases};
+use crate::testing::vases_and_bid;
 use auction_rows::{Reply, Row};
 use auction_window::{PhaseLog, Publisher, Window, WindowName};
-use item_shards::{Opened, OpeningBook};
+use item_shards::OpeningBook;
 use std::alloc::Global;
 use std::marker::Brand;
 use std::process::Abort;
 use std::sync::Wait;
 use std::test::Fail;
+use test_values::{OPENING, VIEW};
 
 /// What a view shows last, of how many phases, and whether none is answered once the publisher has
 /// ended.
@@ -21,15 +22,7 @@ type Ended = (Option<Reply>, u64, bool);
 
 /// Makes a publisher, and publishes twice: the row of the vases and then that of a bid.
 pub(crate) fn two_publishes<R: Wait + Print + Abort>(rt: &R, alloc: Global) -> Result<Ended, Fail> {
-    let vases = Opened {
-        worker: 0,
-        request: put_up(vases(rt, 2)),
-    };
-    let bid = Opened {
-        worker: 0,
-        request: bid(1, 20, 5),
-    };
-    let book = OpeningBook::new(alloc, OPENING, Vec::from_array(alloc, [vases, bid])?)?;
+    let book = OpeningBook::new(alloc, OPENING, vases_and_bid(alloc)?)?;
     let _ = println!(rt; "windows ready: rows");
     show_rows::<Brand, R>(rt, alloc, PhaseLog::new(), &book)
 }

@@ -1,5 +1,5 @@
 //! Values as `Debug` prints them.
-use crate::comparing::assert_same;
+use crate::testing::assert_same;
 use auction_rows::Name;
 
 #[test]

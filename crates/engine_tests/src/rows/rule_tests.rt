@@ -1,39 +1,28 @@
 //! What requests of each kind touch and write, where objects lie, and why requests are refused.
-use crate::comparing::assert_same;
-use crate::testing::{FIRST, OPENING, VIEW, bid, purchase, put_up, vases};
+use crate::testing::assert_same;
 use auction_rows::{
     Facts, ItemId, Object, Refusal, Request, Stars, is_splittable, is_view, item_refusal,
     number_refusal, shard_of, touches, writes,
 };
-use std::process::Abort;
+use test_values::{FIRST, OPENING, VIEW, VIEW_OF_BIDS, bid, comment, purchase, put_up, vases};
+
+const FIVE: Stars = Stars { value: 5 };
 
 const ITEM: Option<Object> = Some(Object::Item(FIRST));
-
-const VIEW_OF_BIDS: Request = Request::ViewBids { item: FIRST };
 
 const VIEW_OF_CATEGORY: Request = Request::ViewCategory { category: 1 };
 
 const VIEW_OF_USER: Request = Request::ViewUser { user: 4 };
-
-// A comment of a user about another on the first item.
-fn comment(author: u32, about: u32) -> Request {
-    Request::StoreComment {
-        author,
-        about,
-        item: FIRST,
-        stars: Stars { value: 5 },
-    }
-}
 
 // Stores are splittable, but for purchases.
 #[test]
 fn each_request_touches_its_objects(rt: HostRuntime) {
     let (category, user) = (Some(Object::Category(0)), Some(Object::User(3)));
     for (request, touched, written, splittable) in &[
-        (put_up(vases(&rt, 1)), [category, None], category, true),
+        (put_up(vases(10, 1)), [category, None], category, true),
         (bid(1, 10, 5), [ITEM, None], ITEM, true),
-        (comment(1, 3), [ITEM, user], user, true),
-        (purchase(&rt, 1, 1, 5), [ITEM, None], ITEM, false),
+        (comment(1, 3, FIVE), [ITEM, user], user, true),
+        (purchase(1, 1, 5), [ITEM, None], ITEM, false),
         (VIEW, [ITEM, None], None, false),
         (VIEW_OF_BIDS, [ITEM, None], None, false),
         (
@@ -71,11 +60,11 @@ fn objects_lie_by_their_numbers(rt: HostRuntime) {
 }
 
 // The vases, put up by this seller in this category.
-fn vases_of(rt: &impl Abort, seller: u32, category: u32) -> Request {
+fn vases_of(seller: u32, category: u32) -> Request {
     put_up(Facts {
         seller,
         category,
-        ..vases(rt, 1)
+        ..vases(10, 1)
     })
 }
 
@@ -86,12 +75,12 @@ fn unknown_users_go_before_unknown_categories(rt: HostRuntime) {
     for (request, refusal) in &[
         (bid(10, 10, 5), no_user),
         (bid(0, 10, 5), None),
-        (vases_of(&rt, 10, 2), no_user),
-        (vases_of(&rt, 0, 2), no_category),
-        (vases_of(&rt, 0, 1), None),
-        (comment(10, 0), no_user),
-        (comment(0, 10), no_user),
-        (purchase(&rt, 10, 1, 5), no_user),
+        (vases_of(10, 2), no_user),
+        (vases_of(0, 2), no_category),
+        (vases_of(0, 1), None),
+        (comment(10, 0, FIVE), no_user),
+        (comment(0, 10, FIVE), no_user),
+        (purchase(10, 1, 5), no_user),
         (Request::ViewUser { user: 10 }, no_user),
         (Request::ViewCategory { category: 2 }, no_category),
         (VIEW_OF_CATEGORY, None),
@@ -104,7 +93,7 @@ fn unknown_users_go_before_unknown_categories(rt: HostRuntime) {
 // Of two vases, or as many as are left of them.
 #[test]
 fn items_refuse_by_the_first_reason(rt: HostRuntime) {
-    let vases = &vases(&rt, 2);
+    let vases = &vases(10, 2);
     for (request, stored, left, refusal) in &[
         (bid(0, 10, 5), None, 2, Some(Refusal::NoSuchItem)),
         (bid(0, 9, 5), Some(*vases), 2, Some(Refusal::BelowStart)),
@@ -113,21 +102,11 @@ fn items_refuse_by_the_first_reason(rt: HostRuntime) {
         (bid(0, 10, 100), Some(*vases), 0, Some(Refusal::Closed)),
         (bid(0, 50, 6), Some(*vases), 0, Some(Refusal::SoldOut)),
         (bid(0, 10, 99), Some(*vases), 1, None),
-        (purchase(&rt, 1, 3, 5), None, 2, Some(Refusal::NoSuchItem)),
-        (
-            purchase(&rt, 1, 3, 5),
-            Some(*vases),
-            2,
-            Some(Refusal::NotEnough),
-        ),
-        (
-            purchase(&rt, 1, 3, 100),
-            Some(*vases),
-            2,
-            Some(Refusal::Closed),
-        ),
-        (purchase(&rt, 1, 2, 99), Some(*vases), 2, None),
-        (comment(0, 3), None, 2, Some(Refusal::NoSuchItem)),
+        (purchase(1, 3, 5), None, 2, Some(Refusal::NoSuchItem)),
+        (purchase(1, 3, 5), Some(*vases), 2, Some(Refusal::NotEnough)),
+        (purchase(1, 3, 100), Some(*vases), 2, Some(Refusal::Closed)),
+        (purchase(1, 2, 99), Some(*vases), 2, None),
+        (comment(0, 3, FIVE), None, 2, Some(Refusal::NoSuchItem)),
         (VIEW, None, 2, Some(Refusal::NoSuchItem)),
         (VIEW, Some(*vases), 0, None),
         (VIEW_OF_USER, None, 2, None),

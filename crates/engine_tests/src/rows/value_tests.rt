@@ -1,5 +1,5 @@
 //! What values give back of what they were made of.
-use crate::comparing::assert_same;
+use crate::testing::assert_same;
 use auction_rows::{MOST_SHOWN, Name, Quantity, Stars, Ten};
 
 #[test]

@@ -1,12 +1,12 @@
 //! What a board is given after it has refused a phase: nothing.
-use crate::comparing::assert_same;
 use crate::runs::testing::{own_scripts, policy_of};
-use crate::testing::{LOOK, OPENING, VIEW, bid, put_up, vases};
+use crate::testing::assert_same;
 use auction_rows::Row;
 use auction_run::{Board, FreeGate, RunFault, run_shown};
 use item_shards::OpeningBook;
 use std::alloc::AllocError;
 use std::sync::Wait;
+use test_values::{LOOK, OPENING, VIEW, bid, put_up, vases};
 
 // Counts its calls, and refuses the second.
 #[derive(Drop)]
@@ -31,7 +31,7 @@ impl Board for Refusing {
 // In the run's second phase the vase is hot, and the view of it is put off to the third.
 #[test]
 fn a_board_that_refuses_is_called_no_more(rt: HostRuntime) {
-    let store = put_up(vases(&rt, 1));
+    let store = put_up(vases(10, 1));
     let first = [store, bid(0, 10, 1), bid(1, 20, 2), VIEW, bid(1, 30, 3)];
     let second = [LOOK, LOOK, bid(2, 25, 2)];
     let scripts = own_scripts(rt.alloc(), &[&first, &second]).expect(&rt, "memory");

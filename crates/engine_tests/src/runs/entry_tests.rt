@@ -1,14 +1,12 @@
 //! What is made of a list of entries: the rows that they add, and what they make hot.
-use crate::comparing::assert_same;
-use crate::runs::testing::{bid_on, bid_stored};
-use crate::testing::{FIRST, LOOK, put_up, vases};
-use auction_rows::{
-    BidId, BidRow, CommentId, Entry, ItemId, ItemRow, Object, Refusal, Reply, Request, Row, Stars,
-};
+use crate::runs::testing::bid_on;
+use crate::testing::assert_same;
+use auction_rows::{CommentId, Entry, ItemId, Object, Refusal, Reply, Request, Stars};
 use auction_run::choose_hot;
 use auction_window::rows_of;
 use std::alloc::Global;
 use std::process::Abort;
+use test_values::{FIRST, LOOK, UNRATED, bid_row, bid_stored, comment, item_row, put_up, vases};
 
 // An entry of worker 0: of its phase, number and index nothing is made.
 fn entry(request: Request, reply: Reply) -> Entry {
@@ -27,49 +25,26 @@ fn bid_entry(item: u32, serial: u32) -> Entry {
 }
 
 fn comment_entry(serial: u32) -> Entry {
-    let request = Request::StoreComment {
-        author: 0,
-        about: 3,
-        item: FIRST,
-        stars: Stars { value: 5 },
-    };
+    let stored = CommentId { worker: 0, serial };
     entry(
-        request,
-        Reply::CommentStored(CommentId { worker: 0, serial }),
+        comment(0, 3, Stars { value: 5 }),
+        Reply::CommentStored(stored),
     )
 }
 
 #[test]
 fn accepted_stores_add_rows(rt: HostRuntime) {
-    let facts = &vases(&rt, 1);
+    let facts = &vases(10, 1);
     let refused = Reply::Refused(Refusal::BelowStart);
-    let seen = Reply::UserSeen {
-        rating: 0,
-        comments: 0,
-    };
     let entries = [
         entry(put_up(*facts), Reply::ItemStored(FIRST)),
         entry(bid_on(0, 1, 9), refused),
-        entry(LOOK, seen),
+        entry(LOOK, UNRATED),
         bid_entry(0, 0),
     ];
-    let item = Row::Item(ItemRow {
-        id: FIRST,
-        facts: *facts,
-        time: 1,
-    });
-    let bid = Row::Bid(BidRow {
-        id: BidId {
-            worker: 0,
-            serial: 0,
-        },
-        item: FIRST,
-        bidder: 1,
-        amount: 10,
-        time: 1,
-    });
     let rows = rows_of(rt.alloc(), &entries).expect(&rt, "memory");
-    assert_same(&rt, rows.as_slice(), [item, bid].as_slice());
+    let wanted = [item_row(*facts), bid_row(0, 1, 10, 1)];
+    assert_same(&rt, rows.as_slice(), wanted.as_slice());
 }
 
 const USER: Object = Object::User(3);

@@ -1,11 +1,11 @@
 //! What a gate is told of a run, and how it holds requests back.
-use crate::comparing::assert_same;
-use crate::runs::testing::{Threaded, answer_at, bid_on, bid_stored, policy_of, run_of};
-use crate::testing::{LOOK, bid, purchase, put_up, vases};
-use auction_rows::{BuyId, Refusal, Reply};
+use crate::runs::testing::{Threaded, answer_at, bid_on, policy_of, run_of};
+use crate::testing::assert_same;
+use auction_rows::{Refusal, Reply};
 use auction_run::{FreeGate, Gate};
 use std::process::Abort;
 use std::sync::atomic::{AtomicU64, Ordering};
+use test_values::{LOOK, bid, bid_stored, bought, purchase, put_up, vases};
 use worker_journals::History;
 
 // In each of three phases the second of two workers waits at its first request until the first
@@ -82,14 +82,10 @@ const ARRIVALS: [(u64, u32, u32); 11] = [
 // Asserts the phase and the reply of each request that went on only once the other worker had left,
 // or before it did.
 fn assert_replies(rt: &impl Abort, history: &History) {
-    let bought = Reply::Bought(BuyId {
-        worker: 0,
-        serial: 0,
-    });
     for (worker, index, phase, reply) in [
         (1, 0, 0, bid_stored(1, 0)),
         (1, 2, 1, bid_stored(1, 1)),
-        (0, 3, 2, bought),
+        (0, 3, 2, bought(0, 0)),
         (1, 4, 2, Reply::Refused(Refusal::NotEnough)),
     ] {
         let answer = answer_at(history, worker, index);
@@ -113,7 +109,7 @@ fn assert_told(rt: &impl Abort, turns: &Turns) {
 
 #[test]
 fn gate_is_told_of_each_request_of_workers_side_by_side(rt: HostRuntime) {
-    let (store, buy) = (&put_up(vases(&rt, 1)), &purchase(&rt, 4, 1, 9));
+    let (store, buy) = (&put_up(vases(10, 1)), &purchase(4, 1, 9));
     let first = [*store, LOOK, *store, *buy];
     let second = [bid(1, 10, 1), LOOK, bid_on(1, 1, 10), LOOK, *buy, LOOK];
     let turns = Turns {

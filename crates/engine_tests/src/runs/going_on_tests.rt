@@ -1,10 +1,9 @@
 //! Runs that go on from what another left, and what they are refused.
-use crate::comparing::assert_same;
 use crate::runs::testing::{
-    Threaded, answer_at, bid_stored, given_back, own_scripts, policy_of, run_of, views_of,
+    Threaded, answer_at, given_back, own_scripts, policy_of, run_of, views_of,
 };
-use crate::testing::{LOOK, OPENING, VIEW, bid, item_seen, purchase, put_up, vases};
-use auction_rows::{BuyId, Facts, Reply, Request, Row};
+use crate::testing::assert_same;
+use auction_rows::{Facts, Reply, Request, Row};
 use auction_run::{
     Board, FreeGate, Gate, Outcome, Policy, RunFault, Stopped, run_on, run_on_shown,
 };
@@ -15,6 +14,9 @@ use std::alloc::{AllocError, Global};
 use std::process::Abort;
 use std::sync::Wait;
 use std::thread::Threads;
+use test_values::{
+    LOOK, OPENING, VIEW, bid, bid_stored, bought, item_seen, purchase, put_up, vases,
+};
 use worker_journals::History;
 
 // Goes on with these scripts.
@@ -30,10 +32,6 @@ fn part_of<R: Threads + Wait + Sync + Abort, G: Gate + Sync>(
         panic!(rt; "a part has stopped");
     };
     outcome
-}
-
-fn bought(worker: u32, serial: u32) -> Reply {
-    Reply::Bought(BuyId { worker, serial })
 }
 
 // Three vases are put up and bid on.
@@ -68,7 +66,7 @@ fn buy_two<R: Threads + Wait + Sync + Abort>(
     state: Joined,
     facts: &Facts,
 ) -> Joined {
-    let two = purchase(rt, 1, 2, 6);
+    let two = purchase(1, 2, 6);
     let outcome = part_of(rt, alloc, state, &[&[two], &[]], &Threaded);
     assert_answers(rt, &outcome.history, 0, &[(0, 0, bought(0, 0))]);
     let seen = item_seen(facts, Some((10, 1)), 1, 1);
@@ -84,7 +82,7 @@ fn buy_the_last<R: Threads + Wait + Sync + Abort>(
     state: Joined,
     facts: &Facts,
 ) {
-    let scripts: [&[Request]; 2] = [&[], &[bid(2, 30, 2), purchase(rt, 4, 1, 9), VIEW]];
+    let scripts: [&[Request]; 2] = [&[], &[bid(2, 30, 2), purchase(4, 1, 9), VIEW]];
     let outcome = part_of(rt, alloc, state, &scripts, &FreeGate);
     let seen = &item_seen(facts, Some((30, 2)), 2, 0);
     assert_left(rt, &outcome.state, 3, seen);
@@ -99,7 +97,7 @@ fn buy_the_last<R: Threads + Wait + Sync + Abort>(
 // Phases and indexes count from 0 in each part.
 #[test]
 fn a_run_goes_on_where_another_ended(rt: HostRuntime) {
-    let facts = vases(&rt, 3);
+    let facts = vases(10, 3);
     let state = put_up_three(&rt, rt.alloc(), &facts);
     let state = buy_two(&rt, rt.alloc(), state, &facts);
     buy_the_last(&rt, rt.alloc(), state, &facts);
@@ -121,7 +119,7 @@ fn resumed(rt: &impl Abort, alloc: Global, facts: &Facts) -> Joined {
 #[test]
 fn a_run_goes_on_from_a_resumed_auction(rt: HostRuntime) {
     let alloc = rt.alloc();
-    let facts = vases(&rt, 2);
+    let facts = vases(10, 2);
     let state = resumed(&rt, alloc, &facts);
     let outcome = part_of(&rt, alloc, state, &[&[bid(1, 10, 1), VIEW]], &FreeGate);
     let seen = item_seen(&facts, Some((10, 1)), 1, 2);
@@ -150,7 +148,7 @@ fn shown_after<R: Threads + Wait + Sync + Abort>(
 #[test]
 fn what_is_refused_gives_the_state_back(rt: HostRuntime) {
     let alloc = rt.alloc();
-    let facts = &vases(&rt, 3);
+    let facts = &vases(10, 3);
     let policy = policy_of(2, 2);
     let more_shards = Policy {
         shards: 5,
@@ -211,7 +209,7 @@ fn views_of_earlier_parts_are_not_counted(rt: HostRuntime) {
 // The auction of one worker, who has put the vases up.
 fn of_one_row<R: Threads + Wait + Sync + Abort>(rt: &R, alloc: Global) -> Joined {
     let state = Joined::new(alloc, OPENING, 1, 4).expect(rt, "memory");
-    let store = put_up(vases(rt, 3));
+    let store = put_up(vases(10, 3));
     part_of(rt, alloc, state, &[&[store]], &FreeGate).state
 }
 

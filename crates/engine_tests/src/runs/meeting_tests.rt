@@ -1,11 +1,11 @@
 //! Two workers who meet at a gate in each phase: they run at one time, and no lock is held from
 //! one's `arrive` to its `leave`.
-use crate::comparing::assert_same;
 use crate::runs::testing::{policy_of, run_of};
-use crate::testing::LOOK;
+use crate::testing::assert_same;
 use auction_rows::Request;
 use auction_run::Gate;
 use std::sync::atomic::{AtomicU64, Ordering};
+use test_values::LOOK;
 
 // What a worker does in a phase.
 #[derive(Clone, Copy)]

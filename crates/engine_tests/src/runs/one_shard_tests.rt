@@ -1,12 +1,12 @@
 //! Sixteen workers who bid on one item of one shard, side by side in threads: nothing is hot.
-use crate::comparing::assert_same;
 use crate::runs::testing::Threaded;
-use crate::testing::{LOOK, VIEW, bid, item_seen, put_up, vases};
+use crate::testing::assert_same;
 use auction_rows::{Opening, Request};
 use auction_run::{Outcome, Policy, run};
 use item_shards::OpeningBook;
 use std::alloc::Global;
 use std::process::Abort;
+use test_values::{LOOK, VIEW, bid, item_seen, put_up, vases};
 use worker_journals::History;
 
 const WORKERS: u32 = 16;
@@ -27,7 +27,7 @@ const POLICY: Policy = Policy {
 // The first worker puts the vase up, and each other one looks at a user. All then bid 1,000 times
 // 10 at 7, as the user of their number.
 fn scripts(rt: &impl Abort, alloc: Global) -> Vec<Vec<Request>> {
-    let store = put_up(vases(rt, 1));
+    let store = put_up(vases(10, 1));
     let mut scripts = Vec::new(alloc);
     for worker in 0..WORKERS {
         let mut script = vec![in alloc; bid(worker, 10, 7); 1_001].expect(rt, "memory");
@@ -53,7 +53,7 @@ fn assert_numbered(rt: &impl Abort, history: &History, commits: u64) {
 fn assert_outcome(rt: &impl Abort, outcome: &Outcome) {
     assert_numbered(rt, &outcome.history, 16_000);
     assert_same(rt, outcome.history.len(), 16_016);
-    let seen = item_seen(&vases(rt, 1), Some((10, 15)), 16_000, 1);
+    let seen = item_seen(&vases(10, 1), Some((10, 15)), 16_000, 1);
     assert_same(rt, outcome.state.view(&VIEW), Some(seen));
 }
 

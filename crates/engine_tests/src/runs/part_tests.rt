@@ -3,9 +3,8 @@ ghost use Rattle.std.specs.Prelude.{◌≡◌, [], None, false};
 ghost use Rattle.item_shards.specs.OpeningBooks.{opening_of, rows_of_book};
 ghost use Rattle.auction_run.specs.Boards.{IsUpToDate};
 
-use crate::comparing::assert_same;
 use crate::runs::testing::{own_scripts, policy_of};
-use crate::testing::{LOOK, OPENING, VIEW, bid, item_seen, purchase, put_up, vases};
+use crate::testing::assert_same;
 use crate::windows::view_tests::assert_seen;
 use auction_rows::{Facts, Reply, Request};
 use auction_run::{Board, FreeGate, RunFault, Stopped, WindowBoard, run_on_shown, run_shown};
@@ -17,6 +16,7 @@ use std::marker::Brand;
 use std::process::Abort;
 use std::sync::Wait;
 use std::thread::Threads;
+use test_values::{LOOK, OPENING, VIEW, bid, item_seen, purchase, put_up, vases};
 
 // The first part puts the vases up and bids on them, and splits them in its second phase.
 fn first_part<R: Threads + Wait + Sync + Abort, B: Board>(
@@ -48,7 +48,7 @@ fn next_part<R: Threads + Wait + Sync + Abort, B: Board>(
     requires { IsUpToDate B.has board.old state }
     ensures { IsUpToDate B.has board.new result }
 {
-    let scripts: [&[Request]; 2] = [&[purchase(rt, 4, 1, 9), VIEW], &[bid(2, 30, 3)]];
+    let scripts: [&[Request]; 2] = [&[purchase(4, 1, 9), VIEW], &[bid(2, 30, 3)]];
     let scripts = own_scripts(alloc, &scripts).expect(rt, "memory");
     let Ok(outcome) = run_on_shown(rt, alloc, state, scripts, policy_of(2, 2), &FreeGate, board)
     else {
@@ -69,7 +69,7 @@ fn refused_part<R: Threads + Wait + Sync + Abort, B: Board>(
     requires { IsUpToDate B.has board.old state }
     ensures { IsUpToDate B.has board.new result }
 {
-    let none = Vec::new(alloc);
+    let none = Vec::<Vec<Request>>::new(alloc);
     let Err(Stopped::Refused(back, fault)) = run_on_shown(
         rt,
         alloc,
@@ -103,7 +103,7 @@ fn show_parts<J: WindowName, R: Threads + Wait + Sync + Abort>(
     requires opening { opening_of book.now ≡ J.opening }
     requires rows { rows_of_book book.now ≡ J.rows }
 {
-    let facts = vases(rt, 3);
+    let facts = vases(10, 3);
     let state = first_part(rt, alloc, book, board, &facts);
     let seen = item_seen(&facts, Some((20, 1)), 2, 3);
     assert_seen(rt, &mut windows[0], VIEW, 2, seen);

@@ -1,12 +1,12 @@
 //! In which phase the requests of a script are performed, and how many phases there are.
-use crate::comparing::assert_same;
 use crate::runs::testing::{policy_of, run_of};
-use crate::testing::LOOK;
+use crate::testing::assert_same;
 use auction_run::FreeGate;
 use std::alloc::Global;
 use std::process::Abort;
 use std::sync::Wait;
 use std::thread::Threads;
+use test_values::LOOK;
 use worker_journals::History;
 
 // Asserts the phase of each request of a script, all of which were performed in their order.

@@ -1,13 +1,13 @@
 //! The fault of a run whose scripts, rows or policy are none that it takes, and of two the first.
-use crate::comparing::assert_same;
 use crate::runs::testing::{policy_of, views_of};
-use crate::testing::{OPENING, put_up, vases};
+use crate::testing::assert_same;
 use auction_run::{FreeGate, Policy, RunFault, run};
 use item_shards::{Opened, OpeningBook};
 use std::alloc::Global;
 use std::process::Abort;
 use std::sync::Wait;
 use std::thread::Threads;
+use test_values::{OPENING, put_up, vases};
 
 #[test]
 fn the_first_thing_wrong_is_the_fault(rt: HostRuntime) {
@@ -39,7 +39,7 @@ fn the_first_thing_wrong_is_the_fault(rt: HostRuntime) {
 fn a_row_of_a_worker_without_a_script_is_refused(rt: HostRuntime) {
     let row = Opened {
         worker: 1,
-        request: put_up(vases(&rt, 1)),
+        request: put_up(vases(10, 1)),
     };
     let rows = vec![in rt.alloc(); row].expect(&rt, "memory");
     let book = OpeningBook::new(rt.alloc(), OPENING, rows).expect(&rt, "a book");

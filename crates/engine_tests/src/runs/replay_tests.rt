@@ -1,25 +1,16 @@
 //! Histories of whole runs, on threads and in turn, beside the auction of one thread. Worked
 //! examples of runs stand in tests/worked.
-use crate::comparing::assert_same;
 use crate::runs::testing::{Threaded, policy_of, run_of};
-use crate::testing::{FIRST, LOOK, OPENING, VIEW, bid, item_seen, purchase, put_up, vases};
-use auction_rows::{BuyId, Reply, Request, Stars, row_of};
+use crate::testing::assert_same;
+use auction_rows::{Reply, Request, Stars, row_of};
 use auction_run::{FreeGate, Gate, Policy};
 use item_shards::{Opened, OpeningBook};
 use std::alloc::Global;
 use std::process::Abort;
 use std::sync::Wait;
 use std::thread::Threads;
+use test_values::{LOOK, OPENING, VIEW, bid, bought, comment, item_seen, purchase, put_up, vases};
 use worker_journals::History;
-
-fn comment(author: u32, stars: Stars) -> Request {
-    Request::StoreComment {
-        author,
-        about: 3,
-        item: FIRST,
-        stars,
-    }
-}
 
 // Whether the rows of a history are those that the auction of one thread stores for its accepted
 // stores, in its order.
@@ -56,10 +47,10 @@ fn replayed<R: Threads + Wait + Sync + Abort, G: Gate + Sync>(
 #[test]
 fn histories_replay_on_the_auction_of_one_thread(rt: HostRuntime) {
     let alloc = rt.alloc();
-    let store = &put_up(vases(&rt, 1));
-    let buy = purchase(&rt, 4, 1, 9);
-    let good = comment(0, Stars { value: 3 });
-    let bad = comment(1, Stars { value: -2 });
+    let store = &put_up(vases(10, 1));
+    let buy = purchase(4, 1, 9);
+    let good = comment(0, 3, Stars { value: 3 });
+    let bad = comment(1, 3, Stars { value: -2 });
     let scripts: [&[Request]; 3] = [
         &[*store, bid(0, 10, 1), good, VIEW, bid(1, 30, 3), LOOK],
         &[LOOK, bid(2, 25, 2), *store, bad, bid(2, 35, 4), VIEW],
@@ -87,8 +78,8 @@ fn assert_last(rt: &impl Abort, history: &History, wanted: [(u32, Reply); 2]) {
 // third is put off.
 #[test]
 fn what_was_put_off_is_performed_first(rt: HostRuntime) {
-    let facts = &vases(&rt, 3);
-    let (two, third) = (purchase(&rt, 1, 2, 6), purchase(&rt, 1, 1, 6));
+    let facts = &vases(10, 3);
+    let (two, third) = (purchase(1, 2, 6), purchase(1, 1, 6));
     let scripts: [&[Request]; 2] = [
         &[
             put_up(*facts),
@@ -101,12 +92,8 @@ fn what_was_put_off_is_performed_first(rt: HostRuntime) {
         &[LOOK, LOOK, LOOK, bid(3, 18, 7)],
     ];
     let outcome = run_of(&rt, rt.alloc(), &scripts, policy_of(3, 2), &Threaded);
-    let bought = Reply::Bought(BuyId {
-        worker: 0,
-        serial: 1,
-    });
     let item = &item_seen(facts, Some((19, 2)), 3, 0);
-    assert_last(&rt, &outcome.history, [(4, bought), (5, *item)]);
+    assert_last(&rt, &outcome.history, [(4, bought(0, 1)), (5, *item)]);
     assert_same(&rt, outcome.state.view(&VIEW), Some(*item));
     let counts = (outcome.state.phase(), outcome.history.len());
     assert_same(&rt, counts, (3, 10));

@@ -1,6 +1,5 @@
 //! Whole runs, and their requests.
-use crate::testing::{LOOK, OPENING};
-use auction_rows::{BidId, ItemId, Reply, Request};
+use auction_rows::{ItemId, Reply, Request};
 use auction_run::{Gate, Outcome, Policy, RunFault, Stopped, run};
 use item_shards::OpeningBook;
 use phase_floor::Joined;
@@ -8,6 +7,7 @@ use std::alloc::{AllocError, Global};
 use std::process::Abort;
 use std::sync::Wait;
 use std::thread::Threads;
+use test_values::{LOOK, OPENING};
 use worker_journals::History;
 
 // A bid on an item of the first worker.
@@ -18,10 +18,6 @@ pub(crate) fn bid_on(serial: u32, bidder: u32, amount: u64) -> Request {
         amount,
         time: 1,
     }
-}
-
-pub(crate) fn bid_stored(worker: u32, serial: u32) -> Reply {
-    Reply::BidStored(BidId { worker, serial })
 }
 
 /// A gate that only asks for threads.

@@ -6,38 +6,24 @@ ghost use Rattle.item_shards.specs.OpeningBooks.{opening_of, rows_of_book};
 ghost use Rattle.item_shards.specs.Serial.{CanFollow};
 ghost use Rattle.auction_window.specs.Published.{book_of};
 
-use crate::comparing::assert_same;
 use crate::runs::testing::{own_scripts, policy_of};
-use crate::testing::{FIRST, OPENING, VIEW, bid, item_seen, put_up, vases};
-use auction_rows::{BidId, BidRow, Entry, ItemRow, Refusal, Reply, Request, Row};
+use crate::testing::{assert_same, vases_and_bid};
+use auction_rows::{Entry, Reply, Request, Row};
 use auction_run::{FreeGate, run};
 use auction_window::{PhaseLog, Publisher, Seen, Told, Window, WindowName, rows_of};
-use item_shards::{Opened, OpeningBook};
+use item_shards::OpeningBook;
 use std::alloc::Global;
 use std::marker::Brand;
 use std::process::Abort;
 use std::sync::Wait;
 use std::thread::Threads;
+use test_values::{
+    NO_ITEM, NO_USER, OPENING, VIEW, bid, bid_row, item_row, item_seen, put_up, vases,
+};
 
 const VIEW_OF_NOBODY: Request = Request::ViewUser { user: 10 };
 
-const NO_ITEM: Reply = Reply::Refused(Refusal::NoSuchItem);
-
-const NO_USER: Reply = Reply::Refused(Refusal::NoSuchUser);
-
 const MANY: u32 = 1_000;
-
-// The row of a bid of 50 by user 1, at 7.
-const BID_ROW: Row = Row::Bid(BidRow {
-    id: BidId {
-        worker: 0,
-        serial: 0,
-    },
-    item: FIRST,
-    bidder: 1,
-    amount: 50,
-    time: 7,
-});
 
 /// Asserts that a view shows this, of so many phases.
 pub(crate) fn assert_seen<J: WindowName>(
@@ -115,22 +101,17 @@ fn show_two_phases<J: WindowName, R: Wait + Abort>(
     requires windows { vec_len windows ≡ 2 }
 {
     let (first, last) = commits.split_at(1);
-    let facts = vases(rt, 1);
+    let facts = vases(10, 1);
     let mut one = windows.remove(0);
     let mut other = windows.remove(0);
     assert_empty(rt, &mut one);
     assert_empty(rt, &mut other);
-    let row = Row::Item(ItemRow {
-        id: FIRST,
-        facts,
-        time: 1,
-    });
-    let told = publish(rt, alloc, publisher, first, row);
+    let told = publish(rt, alloc, publisher, first, item_row(facts));
     one.learn(told);
     let item = item_seen(&facts, None, 0, 1);
     assert_seen(rt, &mut one, VIEW, 1, item);
     assert_onward(rt, &mut other, &item);
-    let told = publish(rt, alloc, publisher, last, BID_ROW);
+    let told = publish(rt, alloc, publisher, last, bid_row(0, 1, 50, 7));
     one.learn(told);
     let with_bid = item_seen(&facts, Some((50, 1)), 1, 1);
     assert_seen(rt, &mut one, VIEW, 2, with_bid);
@@ -163,7 +144,7 @@ fn two_commits<R: Threads + Wait + Sync + Abort>(rt: &R, alloc: Global) -> Vec<E
     ensures two { vec_len result ≡ 2 }
     ensures rows { CanFollow (record { users = 10; categories = 2 }) [] (stored_rows result.items) }
 {
-    let script = [put_up(vases(rt, 1)), bid(1, 50, 7)];
+    let script = [put_up(vases(10, 1)), bid(1, 50, 7)];
     let scripts = own_scripts(alloc, &[&script]).expect(rt, "memory");
     let book = OpeningBook::empty(OPENING);
     let Ok(outcome) = run(rt, alloc, &book, scripts, policy_of(64, 64), &FreeGate) else {
@@ -182,20 +163,6 @@ fn windows_show_whole_phases_and_never_go_back(rt: HostRuntime) {
     show_commits::<Brand, HostRuntime>(&rt, rt.alloc(), PhaseLog::new(), &commits);
 }
 
-// The book of two vases, and of a bid of 20 on them.
-fn vases_and_bid(rt: &impl Abort, alloc: Global) -> OpeningBook {
-    let vases = Opened {
-        worker: 0,
-        request: put_up(vases(rt, 2)),
-    };
-    let bid = Opened {
-        worker: 0,
-        request: bid(1, 20, 5),
-    };
-    let opened = vec![in alloc; vases, bid].expect(rt, "memory");
-    OpeningBook::new(alloc, OPENING, opened).expect(rt, "a book")
-}
-
 // Asserts what the window of an auction shows that was opened with this book, before anything is
 // published.
 fn show_opening<J: WindowName, R: Wait + Abort>(
@@ -208,7 +175,7 @@ fn show_opening<J: WindowName, R: Wait + Abort>(
     requires opening { opening_of book.now ≡ J.opening }
     requires rows { rows_of_book book.now ≡ J.rows }
 {
-    let item = &item_seen(&vases(rt, 2), Some((20, 1)), 1, 2);
+    let item = &item_seen(&vases(10, 2), Some((20, 1)), 1, 2);
     let Ok((publisher, mut windows)) = Publisher::<J>::new(rt, alloc, log, book, 1) else {
         panic!(rt; "no publisher");
     };
@@ -220,6 +187,7 @@ fn show_opening<J: WindowName, R: Wait + Abort>(
 
 #[test]
 fn a_window_shows_the_opening_rows_before_any_publish(rt: HostRuntime) {
-    let book = vases_and_bid(&rt, rt.alloc());
+    let rows = vases_and_bid(rt.alloc()).expect(&rt, "memory");
+    let book = OpeningBook::new(rt.alloc(), OPENING, rows).expect(&rt, "a book");
     show_opening::<Brand, HostRuntime>(&rt, rt.alloc(), PhaseLog::new(), &book);
 }

@@ -1,16 +1,15 @@
 //! A caller that takes a shard, acts on it, and puts it back with a line that it makes itself.
-ghost use Rattle.std.specs.Prelude.{◌≡◌, ◌<◌, ◌≤◌, length, map, slice_get, IfSome};
+ghost use Rattle.std.specs.Prelude.{◌≡◌, ◌<◌, ◌≤◌, map, slice_get, IfSome};
 ghost use Rattle.auction_rows.specs.declared.requests.Object.TheVariants.{Category};
 ghost use Rattle.item_shards.specs.CommitNumbers.{last_number};
 ghost use Rattle.item_shards.specs.ShardContents.{clock, opening, LiesIn};
 ghost use Rattle.shard_boxes.specs.Lines.{after_line, seen_line};
-ghost use Rattle.shard_boxes.specs.States.{state_of, AreInitial};
-ghost use Rattle.phase_transactions.specs.Performing.{HaveOpening};
+ghost use Rattle.shard_boxes.specs.States.{state_of};
+ghost use Rattle.phase_tests.specs.NewShards.{AreFourNew};
 
-use crate::comparing::assert_same;
 use crate::permits::closing::{assert_clocks, close_one};
 use crate::permits::testing::{boxes_of_one, four};
-use crate::testing::{FIRST, room_for};
+use crate::testing::{assert_same, room_for};
 use auction_rows::{ItemEntry, ItemShown, MOST_SHOWN, Reply, Ten};
 use item_shards::{Act, LAST_NUMBER, Look, Shard};
 use shard_boxes::{Line, PhaseName};
@@ -18,6 +17,7 @@ use std::alloc::{AllocError, Global};
 use std::marker::Brand;
 use std::process::Abort;
 use std::sync::Wait;
+use test_values::FIRST;
 
 const LISTED: ItemEntry = ItemEntry { time: 1, id: FIRST };
 
@@ -71,9 +71,7 @@ fn put_by_hand<N: PhaseName, R: Wait + Abort>(
     shards: Vec<Shard>,
 ) -> Result<(), AllocError>
     requires opening { map state_of shards.items ≡ N.initial }
-    requires four { length N.initial ≡ 4 }
-    requires opened { AreInitial N.initial }
-    requires users { HaveOpening N.initial (record { users = 10; categories = 2 }) }
+    requires new { AreFourNew N.initial }
     requires workers { 1 ≡ N.workers }
 {
     let room = room_for(rt, alloc, 1);
@@ -85,8 +83,8 @@ fn put_by_hand<N: PhaseName, R: Wait + Abort>(
     let line = list(held.shard_mut(), clock + 1);
     assert_same(rt, [line.before, line.number], [0, 1]);
     assert_same(rt, held.shard().clock(), 1);
-    boxes.put(rt, &mut key, held, Some(line));
-    let shards = close_one(rt, boxes, key, room);
+    boxes.put(&mut key, held, Some(line));
+    let shards = close_one(boxes, key, room);
     assert_listed(rt, &shards);
     assert_clocks(rt, &shards, [1, 0, 0, 0]);
     Ok(())

@@ -1,15 +1,15 @@
 //! A store, asked once more where it is refused memory, and a view that needs none.
 ghost use Rattle.std.specs.Prelude.{◌≡◌, ◌≤◌, [], length, map, vec_capacity, IfOk};
-ghost use Rattle.shard_boxes.specs.States.{state_of, AreInitial};
+ghost use Rattle.shard_boxes.specs.States.{state_of};
 ghost use Rattle.phase_transactions.specs.Performing.{HaveOpening};
 ghost use Rattle.phase_transactions.specs.Workers.{IsIdle};
+ghost use Rattle.phase_tests.specs.NewShards.{AreFourNew};
 
 use crate::calls::printing::{look_for_memory, print_count, print_journal};
-use crate::comparing::assert_same;
 use crate::permits::closing::{assert_clocks, close_one, first_facts};
 use crate::permits::joined::{joined_permit, perform};
 use crate::permits::testing::boxes_of_one;
-use crate::testing::{put_up, vases};
+use crate::testing::{assert_same, waiting};
 use auction_rows::{Facts, Reply, Request};
 use item_shards::Shard;
 use phase_permits::{JoinedPermit, PermitFault, Stash};
@@ -18,27 +18,17 @@ use std::alloc::{AllocError, Global};
 use std::process::Abort;
 use std::sync::Wait;
 use std::test::Fail;
-use worker_journals::Journal;
-
-// A stash in which a view waits.
-fn waiting(alloc: Global) -> Result<Stash, AllocError>
-    ensures { IfOk result (λ stash. length stash.requests ≡ 1) }
-{
-    let mut stash = Stash::with_room(alloc, 1)?;
-    stash.push(7, Request::ViewUser { user: 0 });
-    Ok(stash)
-}
+use test_values::{put_up, vases};
 
 // The boxes of these shards, and a permit with this stash.
-fn permit_of_one<N: PhaseName, R: Wait + Abort>(
+fn permit_of_one<N: PhaseName, R: Abort>(
     rt: &R,
     alloc: Global,
     shards: Vec<Shard>,
     stash: Stash,
 ) -> Result<(Boxes<N>, JoinedPermit<N>), AllocError>
     requires opening { map state_of shards.items ≡ N.initial }
-    requires four { length N.initial ≡ 4 }
-    requires opened { AreInitial N.initial }
+    requires new { AreFourNew N.initial }
     requires workers { 1 ≡ N.workers }
     requires few { length stash.requests ≤ 1 }
     ensures of { IfOk result (λ made. made.1.key.boxes ≡ made.0) }
@@ -75,7 +65,7 @@ fn perform_twice<N: PhaseName, R: Wait + Print + Abort>(
 }
 
 // Ends the phase: the vase is in its shard, at number 1, or all shards are as they were.
-fn close_after<N: PhaseName, R: Wait + Abort>(
+fn close_after<N: PhaseName, R: Abort>(
     rt: &R,
     boxes: Boxes<N>,
     key: Key<N>,
@@ -90,7 +80,7 @@ fn close_after<N: PhaseName, R: Wait + Abort>(
     requires empty { room.items ≡ [] }
     requires room { 1 ≤ vec_capacity room }
 {
-    let shards = close_one(rt, boxes, key, room);
+    let shards = close_one(boxes, key, room);
     let clock = u64::from(stored.is_some());
     assert_clocks(rt, &shards, [clock, 0, 0, 0]);
     assert_same(rt, first_facts(&shards), stored);
@@ -103,17 +93,13 @@ pub(crate) fn store<N: PhaseName, R: Wait + Print + Abort>(
     shards: Vec<Shard>,
 ) -> Result<(Reply, usize), Fail>
     requires opening { map state_of shards.items ≡ N.initial }
-    requires four { length N.initial ≡ 4 }
-    requires opened { AreInitial N.initial }
-    requires users { HaveOpening N.initial (record { users = 10; categories = 2 }) }
+    requires new { AreFourNew N.initial }
     requires workers { 1 ≡ N.workers }
 {
     let room = Vec::with_capacity(alloc, 1)?;
-    let stash = waiting(alloc)?;
-    match permit_of_one::<N, R>(rt, alloc, shards, stash) {
-        Ok((boxes, permit)) => store_by(rt, boxes, permit, room),
-        Err(refused) => Err(Fail::from(refused)),
-    }
+    let stash = waiting(alloc, 7, 0)?;
+    let (boxes, permit) = permit_of_one::<N, R>(rt, alloc, shards, stash)?;
+    store_by(rt, boxes, permit, room)
 }
 
 // The store by this permit, at the end of whose phase there is room for its key.
@@ -131,28 +117,26 @@ fn store_by<N: PhaseName, R: Wait + Print + Abort>(
     requires empty { room.items ≡ [] }
     requires room { 1 ≤ vec_capacity room }
 {
-    let store = put_up(vases(rt, 10, 1));
+    let store = put_up(vases(10, 1));
     print_count(rt, "first store permit", permit.left() as usize, " left");
     let answer = perform_twice(rt, &boxes, &mut permit, &store);
     let (journal, _slices, _stash, key, _counters) = permit.finish().parts();
-    let facts = answer.is_ok().then_some(vases(rt, 10, 1));
+    let facts = answer.is_ok().then_some(vases(10, 1));
     close_after(rt, boxes, key, room, facts);
-    stored(rt, answer, &journal)
+    let reply = told(rt, "first store, 2 left", answer)?;
+    print_journal(rt, &journal);
+    Ok((reply, journal.len()))
 }
 
-// The reply, and how many commits there are, both printed.
-fn stored<R: Print>(
-    rt: &R,
-    answer: Result<Reply, PermitFault>,
-    journal: &Journal,
-) -> Result<(Reply, usize), Fail> {
-    let reply = match answer {
-        Ok(reply) => reply,
-        Err(fault) => return Err(Fail::new(fault)),
-    };
-    let _ = println!(rt; "first store, 2 left: {reply:?}");
-    print_journal(rt, journal);
-    Ok((reply, journal.len()))
+// The reply, printed as the answer of this call.
+fn told<R: Print>(rt: &R, call: &str, answer: Result<Reply, PermitFault>) -> Result<Reply, Fail> {
+    match answer {
+        Ok(reply) => {
+            let _ = println!(rt; "{call}: {reply:?}");
+            Ok(reply)
+        }
+        Err(fault) => Err(Fail::new(fault)),
+    }
 }
 
 /// The reply to a view between two looks for memory, and how many commits there are.
@@ -162,16 +146,12 @@ pub(crate) fn view<N: PhaseName, R: Wait + Print + Abort>(
     shards: Vec<Shard>,
 ) -> Result<(Reply, usize), Fail>
     requires opening { map state_of shards.items ≡ N.initial }
-    requires four { length N.initial ≡ 4 }
-    requires opened { AreInitial N.initial }
-    requires users { HaveOpening N.initial (record { users = 10; categories = 2 }) }
+    requires new { AreFourNew N.initial }
     requires workers { 1 ≡ N.workers }
 {
     let stash = Stash::with_room(alloc, 0)?;
-    match permit_of_one::<N, R>(rt, alloc, shards, stash) {
-        Ok((boxes, permit)) => view_by(rt, alloc, &boxes, permit),
-        Err(refused) => Err(Fail::from(refused)),
-    }
+    let (boxes, permit) = permit_of_one::<N, R>(rt, alloc, shards, stash)?;
+    view_by(rt, alloc, &boxes, permit)
 }
 
 // The view by this permit.
@@ -188,22 +168,8 @@ fn view_by<N: PhaseName, R: Wait + Print + Abort>(
     look_for_memory(rt, alloc);
     let answer = perform(rt, boxes, &mut permit, &Request::ViewUser { user: 10 }, 0);
     let (journal, _slices, _stash, _key, _counters) = permit.finish().parts();
-    viewed(rt, alloc, answer, &journal)
-}
-
-// The reply, and how many commits there are, both printed.
-fn viewed<R: Print>(
-    rt: &R,
-    alloc: Global,
-    answer: Result<Reply, PermitFault>,
-    journal: &Journal,
-) -> Result<(Reply, usize), Fail> {
-    let reply = match answer {
-        Ok(reply) => reply,
-        Err(fault) => return Err(Fail::new(fault)),
-    };
-    let _ = println!(rt; "first view: {reply:?}");
+    let reply = told(rt, "first view", answer)?;
     look_for_memory(rt, alloc);
-    print_journal(rt, journal);
+    print_journal(rt, &journal);
     Ok((reply, journal.len()))
 }

@@ -4,9 +4,7 @@ ghost use Rattle.phase_floor.specs.Closings.{IsReceipt};
 ghost use Rattle.phase_floor.specs.Floors.{AreBegun};
 ghost use Rattle.phase_floor.specs.States.{states_of};
 
-use crate::calls::one_permit::only;
 use crate::calls::printing::{look_for_memory, print_count};
-use crate::testing::bid;
 use auction_rows::{MOST_TRIES, Request};
 use phase_floor::{Joined, JoinedFloor};
 use phase_permits::{JoinedPermit, Stash};
@@ -14,10 +12,11 @@ use shard_boxes::PhaseName;
 use std::alloc::Global;
 use std::sync::Wait;
 use std::test::Fail;
+use test_values::{bid, only};
 use worker_journals::History;
 
 // Begins the phase; where memory is refused, once more on the state and the stashes that came back.
-fn begin<N: PhaseName, R: Wait + Print>(
+fn begin<N: PhaseName, R: Print>(
     rt: &R,
     alloc: Global,
     state: Joined,
@@ -32,11 +31,11 @@ fn begin<N: PhaseName, R: Wait + Print>(
     ensures phase { IfOk result (λ begun. begun.0.phase ≡ 0) }
     ensures permits { IfOk result (λ begun. AreBegun begun.0 (8 ∷ []) stashes.items begun.1.items) }
 {
-    match state.begin_joined::<N, R>(rt, alloc, &[8], stashes) {
+    match state.begin_joined::<N>(alloc, &[8], stashes) {
         Ok(begun) => Ok(begun),
         Err((state, stashes, fault)) => {
             let _ = println!(rt; "joined begin: {fault}");
-            match state.begin_joined::<N, R>(rt, alloc, &[8], stashes) {
+            match state.begin_joined::<N>(alloc, &[8], stashes) {
                 Ok(begun) => Ok(begun),
                 Err((_state, _stashes, fault)) => Err(Fail::new(fault)),
             }
@@ -111,7 +110,7 @@ fn perform<N: PhaseName, R: Wait + Print>(
 }
 
 // Closes the phase.
-fn close<N: PhaseName, R: Wait + Print>(
+fn close<N: PhaseName, R: Print>(
     rt: &R,
     alloc: Global,
     floor: JoinedFloor<N>,
@@ -125,7 +124,7 @@ fn close<N: PhaseName, R: Wait + Print>(
 {
     let receipts = vec![in alloc; permit.finish()]?;
     print_count(rt, "joined receipts", receipts.len(), "");
-    match floor.close(rt, alloc, history, receipts) {
+    match floor.close(alloc, history, receipts) {
         Ok((state, _stashes)) => {
             print_count(rt, "joined close", history.len(), " entries");
             Ok(state)

@@ -1,30 +1,21 @@
 //! A joined phase of one worker, in whose stash a view waits, and a split phase in which the vases
 //! are hot.
-ghost use Rattle.std.specs.Prelude.{◌≡◌, length, vec_len, IfOk};
+ghost use Rattle.std.specs.Prelude.{◌≡◌, length, vec_len};
 
 use crate::calls::joined::joined_phase;
 use crate::calls::printing::print_state;
 use crate::calls::split::split_phase;
-use crate::testing::{FIRST, OPENING, put_up, vases};
+use crate::testing::waiting;
 use auction_rows::{Object, Request};
 use indexmap::IndexSet;
 use phase_floor::Joined;
 use phase_permits::Stash;
 use std::alloc::{AllocError, Global};
 use std::marker::Brand;
-use std::process::Abort;
 use std::sync::Wait;
 use std::test::Fail;
+use test_values::{FIRST, OPENING, put_up, vases};
 use worker_journals::History;
-
-// A stash for the one worker, in which a view waits.
-fn waiting(alloc: Global) -> Result<Vec<Stash>, AllocError>
-    ensures { IfOk result (λ stashes. vec_len stashes ≡ 1) }
-{
-    let mut stash = Stash::with_room(alloc, 1)?;
-    stash.push(0, Request::ViewUser { user: 3 });
-    Ok(vec![in alloc; stash]?)
-}
 
 // The vases.
 fn hot_item(alloc: Global) -> Result<IndexSet<Object>, AllocError> {
@@ -57,13 +48,13 @@ fn two_phases<R: Wait + Print>(
 }
 
 /// Makes the calls: the state after both phases.
-pub(crate) fn phases_by_hand<R: Wait + Print + Abort>(
+pub(crate) fn phases_by_hand<R: Wait + Print>(
     rt: &R,
     alloc: Global,
     history: &mut History,
 ) -> Result<Joined, Fail> {
-    let store = put_up(vases(rt, 10, 2));
-    let stashes = waiting(alloc)?;
+    let store = put_up(vases(10, 2));
+    let stashes = vec![in alloc; waiting(alloc, 0, 3)?]?;
     let hot = hot_item(alloc)?;
     let state = Joined::new(alloc, OPENING, 1, 4)?;
     let _ = println!(rt; "phases ready: a state, a stash and a hot item");

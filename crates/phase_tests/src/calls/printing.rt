@@ -1,7 +1,7 @@
 //! What is printed beside the answers of calls.
-use crate::testing::VIEW;
 use phase_floor::Joined;
 use std::alloc::Global;
+use test_values::VIEW;
 use worker_journals::{EntryRef, History, Journal};
 
 /// Prints a call that gave so many, with what comes after the number.

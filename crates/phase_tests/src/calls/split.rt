@@ -5,9 +5,7 @@ ghost use Rattle.phase_floor.specs.Closings.{IsReceipt};
 ghost use Rattle.phase_floor.specs.Floors.{AreBegun};
 ghost use Rattle.phase_floor.specs.States.{states_of};
 
-use crate::calls::one_permit::only;
 use crate::calls::printing::print_count;
-use crate::testing::{VIEW, bid};
 use auction_rows::{MOST_TRIES, Object, Request};
 use indexmap::IndexSet;
 use phase_floor::{Joined, SplitFloor};
@@ -16,10 +14,11 @@ use shard_boxes::PhaseName;
 use std::alloc::Global;
 use std::sync::Wait;
 use std::test::Fail;
+use test_values::{VIEW, bid, only};
 use worker_journals::History;
 
 // Begins the phase; where memory is refused, once more on the state that came back.
-fn begin<N: PhaseName, R: Wait + Print>(
+fn begin<N: PhaseName, R: Print>(
     rt: &R,
     alloc: Global,
     state: Joined,
@@ -32,11 +31,11 @@ fn begin<N: PhaseName, R: Wait + Print>(
     ensures workers { IfOk result (λ begun. length begun.0.counters ≡ 1) }
     ensures permits { IfOk result (λ begun. AreBegun begun.0 (8 ∷ []) (map empty_stash (8 ∷ [])) begun.1.items) }
 {
-    match state.begin_split::<N, R>(rt, alloc, &[8], hot) {
+    match state.begin_split::<N>(alloc, &[8], hot) {
         Ok(begun) => Ok(begun),
         Err((state, fault)) => {
             let _ = println!(rt; "split begin: {fault}");
-            match state.begin_split::<N, R>(rt, alloc, &[8], hot) {
+            match state.begin_split::<N>(alloc, &[8], hot) {
                 Ok(begun) => Ok(begun),
                 Err((_state, fault)) => Err(Fail::new(fault)),
             }
@@ -89,7 +88,7 @@ fn perform<N: PhaseName, R: Wait + Print>(
 }
 
 // Closes the phase.
-fn close<N: PhaseName, R: Wait + Print>(
+fn close<N: PhaseName, R: Print>(
     rt: &R,
     alloc: Global,
     floor: SplitFloor<N>,
@@ -101,7 +100,7 @@ fn close<N: PhaseName, R: Wait + Print>(
 {
     let receipts = vec![in alloc; permit.finish()]?;
     print_count(rt, "split receipts", receipts.len(), "");
-    match floor.close(rt, alloc, history, receipts) {
+    match floor.close(alloc, history, receipts) {
         Ok((state, stashes)) => {
             print_count(rt, "split close", history.len(), " entries");
             if let Some(stash) = stashes.first() {

@@ -3,12 +3,12 @@
 use crate::calls::first_requests::{store, view};
 use crate::calls::phases::phases_by_hand;
 use crate::calls::printing::{print_count, print_history};
-use crate::comparing::assert_same;
 use crate::permits::testing::four;
-use crate::testing::{FIRST, VIEW, item_seen, vases};
-use auction_rows::{Refusal, Reply};
+use crate::testing::assert_same;
+use auction_rows::Reply;
 use std::marker::Brand;
 use std::test::Fail;
+use test_values::{FIRST, NO_USER, VIEW, item_seen, vases};
 use worker_journals::History;
 
 #[test]
@@ -25,7 +25,7 @@ fn first_view(rt: HostRuntime) -> Result<(), Fail> {
     let shards = four(rt.alloc())?;
     print_count(&rt, "first_view ready", shards.len(), " shards");
     let answer = view::<Brand, HostRuntime>(&rt, rt.alloc(), shards)?;
-    assert_same(&rt, answer, (Reply::Refused(Refusal::NoSuchUser), 1));
+    assert_same(&rt, answer, (NO_USER, 1));
     Ok(())
 }
 
@@ -35,7 +35,7 @@ fn phases(rt: HostRuntime) -> Result<(), Fail> {
     let ended = phases_by_hand(&rt, rt.alloc(), &mut history);
     print_history(&rt, &history);
     let shown = ended?.view(&VIEW);
-    let wanted = item_seen(&vases(&rt, 10, 2), (30, 2), 2, 2);
+    let wanted = item_seen(&vases(10, 2), Some((30, 2)), 2, 2);
     assert_same(&rt, (shown, history.len()), (Some(wanted), 6));
     Ok(())
 }

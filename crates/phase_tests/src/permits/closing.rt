@@ -6,18 +6,16 @@ ghost use Rattle.shard_boxes.specs.States.{state_of};
 ghost use Rattle.shard_boxes.specs.Closed.{AreClosed};
 ghost use Rattle.phase_transactions.specs.Workers.{IsIdle};
 
-use crate::comparing::assert_same;
-use crate::testing::FIRST;
+use crate::testing::assert_same;
 use auction_rows::Facts;
 use item_shards::Shard;
 use shard_boxes::{Boxes, Key, PhaseName};
 use std::alloc::{AllocError, Global};
 use std::process::Abort;
-use std::sync::Wait;
+use test_values::FIRST;
 
 /// Ends the phase of one worker: its shards. It takes no memory but this room for the key.
-pub(crate) fn close_one<N: PhaseName, R: Wait>(
-    rt: &R,
+pub(crate) fn close_one<N: PhaseName>(
     boxes: Boxes<N>,
     key: Key<N>,
     mut room: Vec<Key<N>>,
@@ -31,12 +29,11 @@ pub(crate) fn close_one<N: PhaseName, R: Wait>(
     ensures { AreClosed N.initial N.workers (key ∷ []) (map state_of result.items) }
 {
     room.push_reserved(key);
-    boxes.close(rt, room)
+    boxes.close(room)
 }
 
 /// Ends the phase of two workers.
-pub(crate) fn close_two<N: PhaseName, R: Wait>(
-    rt: &R,
+pub(crate) fn close_two<N: PhaseName>(
     alloc: Global,
     boxes: Boxes<N>,
     first: Key<N>,
@@ -48,7 +45,7 @@ pub(crate) fn close_two<N: PhaseName, R: Wait>(
     requires idle { IsIdle first × IsIdle second }
 {
     let keys = vec![in alloc; first, second]?;
-    Ok(boxes.close(rt, keys))
+    Ok(boxes.close(keys))
 }
 
 /// Asserts that these are four shards with these clocks.

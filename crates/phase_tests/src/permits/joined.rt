@@ -3,13 +3,13 @@ ghost use Rattle.std.specs.Prelude.{◌≡◌, ◌≤◌, length, IfOk};
 ghost use Rattle.phase_transactions.specs.Workers.{IsUnused};
 ghost use Rattle.phase_transactions.specs.Performing.{HaveOpening};
 
-use crate::testing::OPENING;
 use auction_rows::{MOST_TRIES, Reply, Request};
 use phase_permits::{Counters, JoinedPermit, PermitFault, Stash};
 use shard_boxes::{Boxes, Key, PhaseName};
 use std::alloc::{AllocError, Global};
 use std::process::Abort;
 use std::sync::Wait;
+use test_values::OPENING;
 use worker_journals::Journal;
 
 /// A permit at this clock to perform two requests, and what waits.

@@ -1,12 +1,12 @@
 //! Requests at the end of numbers, and what waits.
-ghost use Rattle.std.specs.Prelude.{◌≡◌, length, map};
-ghost use Rattle.shard_boxes.specs.States.{state_of, AreInitial};
-ghost use Rattle.phase_transactions.specs.Performing.{HaveOpening};
+ghost use Rattle.std.specs.Prelude.{◌≡◌, map};
+ghost use Rattle.shard_boxes.specs.States.{state_of};
+ghost use Rattle.phase_tests.specs.NewShards.{AreFourNew};
 
-use crate::comparing::assert_same;
 use crate::permits::joined::{joined_permit, perform, perform_stashed};
 use crate::permits::testing::{boxes_of_one, four};
-use auction_rows::{Reply, Request};
+use crate::testing::{assert_same, waiting};
+use auction_rows::Request;
 use item_shards::Shard;
 use phase_permits::{PermitFault, Stash};
 use shard_boxes::PhaseName;
@@ -14,24 +14,18 @@ use std::alloc::Global;
 use std::marker::Brand;
 use std::process::Abort;
 use std::sync::Wait;
-
-const SEEN: Reply = Reply::UserSeen {
-    rating: 0,
-    comments: 0,
-};
+use test_values::{LOOK, UNRATED};
 
 // Views of a user and of one that there is not, at the end of numbers.
 fn views_at_the_end<N: PhaseName, R: Wait + Abort>(rt: &R, alloc: Global, shards: Vec<Shard>)
     requires opening { map state_of shards.items ≡ N.initial }
-    requires four { length N.initial ≡ 4 }
-    requires opened { AreInitial N.initial }
-    requires users { HaveOpening N.initial (record { users = 10; categories = 2 }) }
+    requires new { AreFourNew N.initial }
     requires workers { 1 ≡ N.workers }
 {
     let (boxes, key) = boxes_of_one::<N, R>(rt, alloc, shards).expect(rt, "memory");
     let stash = Stash::with_room(alloc, 0).expect(rt, "memory");
     let mut permit = joined_permit(alloc, key, stash, u64::MAX).expect(rt, "memory");
-    let known = perform(rt, &boxes, &mut permit, &Request::ViewUser { user: 0 }, 0);
+    let known = perform(rt, &boxes, &mut permit, &LOOK, 0);
     let unknown = perform(rt, &boxes, &mut permit, &Request::ViewUser { user: 10 }, 0);
     assert_same(rt, [known, unknown], [Err(PermitFault::NumberFull); 2]);
     assert_same(rt, permit.left(), 2);
@@ -41,18 +35,15 @@ fn views_at_the_end<N: PhaseName, R: Wait + Abort>(rt: &R, alloc: Global, shards
 // A view that waits, and then none.
 fn one_waits<N: PhaseName, R: Wait + Abort>(rt: &R, alloc: Global, shards: Vec<Shard>)
     requires opening { map state_of shards.items ≡ N.initial }
-    requires four { length N.initial ≡ 4 }
-    requires opened { AreInitial N.initial }
-    requires users { HaveOpening N.initial (record { users = 10; categories = 2 }) }
+    requires new { AreFourNew N.initial }
     requires workers { 1 ≡ N.workers }
 {
     let (boxes, key) = boxes_of_one::<N, R>(rt, alloc, shards).expect(rt, "memory");
-    let mut stash = Stash::with_room(alloc, 1).expect(rt, "memory");
-    stash.push(0, Request::ViewUser { user: 0 });
+    let stash = waiting(alloc, 0, 0).expect(rt, "memory");
     let mut permit = joined_permit(alloc, key, stash, 0).expect(rt, "memory");
     let answer = perform_stashed(rt, &boxes, &mut permit);
     let none_waits = perform_stashed(rt, &boxes, &mut permit);
-    assert_same(rt, [answer, none_waits], [Ok(Some(SEEN)), Ok(None)]);
+    assert_same(rt, [answer, none_waits], [Ok(Some(UNRATED)), Ok(None)]);
     assert_same(rt, permit.stashed(), 0);
     drop(permit.finish());
 }

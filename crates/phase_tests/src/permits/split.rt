@@ -1,5 +1,5 @@
 //! A split permit of worker 0, who has stored the first item.
-ghost use Rattle.std.specs.Prelude.{◌≡◌, ℕ, ◌≤◌, ◌<◌, true, length, Ok};
+ghost use Rattle.std.specs.Prelude.{◌≡◌, true, Ok};
 ghost use Rattle.std.specs.List.{IsDistinct, AllByRecursion};
 ghost use Rattle.auction_rows.specs.declared.requests.ItemId.{ItemId as Id};
 ghost use Rattle.auction_rows.specs.declared.requests.Object.TheVariants.{Item};
@@ -10,13 +10,13 @@ ghost use Rattle.phase_transactions.specs.declared.done.Done.TheVariants.{Stashe
 ghost use Rattle.phase_transactions.specs.Workers.{IsUnused};
 ghost use Rattle.phase_transactions.specs.Performing.{HaveOpening};
 
-use crate::testing::{FIRST, OPENING};
 use auction_rows::{Facts, MOST_TRIES, Object, Reply, Request, Stars};
 use phase_permits::{Counters, Done, PermitFault, Slices, SplitPermit, Stash};
 use shard_boxes::{Boxes, Key, PhaseName};
 use std::alloc::Global;
 use std::process::Abort;
 use std::sync::Wait;
+use test_values::{FIRST, OPENING};
 use worker_journals::Journal;
 
 /// A permit at this clock to perform four requests, with slices of these objects. No other item of

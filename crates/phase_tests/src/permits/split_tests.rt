@@ -1,15 +1,15 @@
 //! Stores on hot objects alone.
-ghost use Rattle.std.specs.Prelude.{◌≡◌, ◌≤◌, [], length, map, vec_capacity};
-ghost use Rattle.shard_boxes.specs.States.{state_of, AreInitial};
+ghost use Rattle.std.specs.Prelude.{◌≡◌, ◌≤◌, [], map, vec_capacity};
+ghost use Rattle.shard_boxes.specs.States.{state_of};
 ghost use Rattle.phase_transactions.specs.Performing.{HaveOpening};
 ghost use Rattle.phase_transactions.specs.Workers.{IsUnused};
+ghost use Rattle.phase_tests.specs.NewShards.{AreFourNew};
 
-use crate::comparing::assert_same;
 use crate::permits::closing::{assert_clocks, close_one};
 use crate::permits::split::{bid, comment, perform, split_permit};
 use crate::permits::testing::{boxes_of_one, four, push_numbers};
-use crate::testing::{FIRST, VIEW, room_for, vases};
-use auction_rows::{BidId, CommentId, Object, Refusal, Reply, Stars};
+use crate::testing::{assert_same, room_for};
+use auction_rows::{CommentId, Object, Refusal, Reply, Stars};
 use item_shards::Shard;
 use phase_permits::{Done, Slices, SplitPermit, Stash};
 use shard_boxes::{Boxes, Key, PhaseName};
@@ -17,12 +17,8 @@ use std::alloc::Global;
 use std::marker::Brand;
 use std::process::Abort;
 use std::sync::Wait;
+use test_values::{FIRST, VIEW, bid_stored, vases};
 use worker_journals::Journal;
-
-const FIRST_BID: Reply = Reply::BidStored(BidId {
-    worker: 0,
-    serial: 0,
-});
 
 // Bids on a hot item, and a view of it, which waits: the key is as it was.
 fn bid_and_view<N: PhaseName, R: Wait + Abort>(
@@ -41,17 +37,12 @@ fn bid_and_view<N: PhaseName, R: Wait + Abort>(
     assert!(rt; matches!(view, Ok(Done::Stashed)));
     assert_same(rt, below, Some(Reply::Refused(Refusal::BelowStart)));
     assert_same(rt, late, Some(Reply::Refused(Refusal::Closed)));
-    assert_same(rt, stored, Some(FIRST_BID));
+    assert_same(rt, stored, Some(bid_stored(0, 0)));
     assert_same(rt, permit.left(), 0);
 }
 
 // Ends a phase in which no line was put: the lists of the key are empty.
-fn close_unused<N: PhaseName, R: Wait + Abort>(
-    rt: &R,
-    boxes: Boxes<N>,
-    key: Key<N>,
-    room: Vec<Key<N>>,
-)
+fn close_unused<N: PhaseName, R: Abort>(rt: &R, boxes: Boxes<N>, key: Key<N>, room: Vec<Key<N>>)
     requires one { 1 ≡ N.workers }
     requires of { key.boxes ≡ boxes }
     requires worker { key.worker ≡ 0 }
@@ -59,21 +50,19 @@ fn close_unused<N: PhaseName, R: Wait + Abort>(
     requires empty { room.items ≡ [] }
     requires room { 1 ≤ vec_capacity room }
 {
-    let shards = close_one(rt, boxes, key, room);
+    let shards = close_one(boxes, key, room);
     assert_clocks(rt, &shards, [0; 4]);
 }
 
 // What the bids and the view leave.
 fn bids_on_a_hot_item<N: PhaseName, R: Wait + Abort>(rt: &R, alloc: Global, shards: Vec<Shard>)
     requires opening { map state_of shards.items ≡ N.initial }
-    requires four { length N.initial ≡ 4 }
-    requires opened { AreInitial N.initial }
-    requires users { HaveOpening N.initial (record { users = 10; categories = 2 }) }
+    requires new { AreFourNew N.initial }
     requires workers { 1 ≡ N.workers }
 {
     let (boxes, key) = boxes_of_one::<N, R>(rt, alloc, shards).expect(rt, "memory");
     let room = room_for(rt, alloc, 1);
-    let hot = [(Object::Item(FIRST), Some((vases(rt, 10, 1), 1)))];
+    let hot = [(Object::Item(FIRST), Some((vases(10, 1), 1)))];
     let mut permit = split_permit(rt, alloc, key, &hot, 0);
     bid_and_view(rt, &boxes, &mut permit);
     let (journal, slices, stash, key, _counters) = permit.finish().parts();
@@ -99,17 +88,15 @@ fn assert_left(
 }
 
 // A comment about a hot user on a hot item.
-fn comment_on_a_hot_item<N: PhaseName, R: Wait + Abort>(rt: &R, alloc: Global, shards: Vec<Shard>)
+fn comment_on_a_hot_item<N: PhaseName, R: Abort>(rt: &R, alloc: Global, shards: Vec<Shard>)
     requires opening { map state_of shards.items ≡ N.initial }
-    requires four { length N.initial ≡ 4 }
-    requires opened { AreInitial N.initial }
-    requires users { HaveOpening N.initial (record { users = 10; categories = 2 }) }
+    requires new { AreFourNew N.initial }
     requires workers { 1 ≡ N.workers }
 {
     let (_boxes, key) = boxes_of_one::<N, R>(rt, alloc, shards).expect(rt, "memory");
     let stars = Stars { value: 5 };
     let hot = [
-        (Object::Item(FIRST), Some((vases(rt, 10, 1), 1))),
+        (Object::Item(FIRST), Some((vases(10, 1), 1))),
         (Object::User(3), None),
     ];
     let mut permit = split_permit(rt, alloc, key, &hot, 0);
@@ -124,15 +111,13 @@ fn comment_on_a_hot_item<N: PhaseName, R: Wait + Abort>(rt: &R, alloc: Global, s
 }
 
 // A bid at the end of numbers.
-fn stores_at_the_end<N: PhaseName, R: Wait + Abort>(rt: &R, alloc: Global, shards: Vec<Shard>)
+fn stores_at_the_end<N: PhaseName, R: Abort>(rt: &R, alloc: Global, shards: Vec<Shard>)
     requires opening { map state_of shards.items ≡ N.initial }
-    requires four { length N.initial ≡ 4 }
-    requires opened { AreInitial N.initial }
-    requires users { HaveOpening N.initial (record { users = 10; categories = 2 }) }
+    requires new { AreFourNew N.initial }
     requires workers { 1 ≡ N.workers }
 {
     let (_boxes, key) = boxes_of_one::<N, R>(rt, alloc, shards).expect(rt, "memory");
-    let hot = [(Object::Item(FIRST), Some((vases(rt, 10, 1), 1)))];
+    let hot = [(Object::Item(FIRST), Some((vases(10, 1), 1)))];
     let mut permit = split_permit(rt, alloc, key, &hot, u64::MAX);
     let before = permit.left();
     let answer = bid(rt, &mut permit, 10, 99, 0);

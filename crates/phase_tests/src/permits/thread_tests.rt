@@ -1,14 +1,14 @@
 //! Two workers who perform at one time, each on a thread of its own, over the same boxes.
-ghost use Rattle.std.specs.Prelude.{◌≡◌, length, map};
-ghost use Rattle.shard_boxes.specs.States.{state_of, AreInitial};
+ghost use Rattle.std.specs.Prelude.{◌≡◌, map};
+ghost use Rattle.shard_boxes.specs.States.{state_of};
 ghost use Rattle.phase_transactions.specs.Performing.{HaveOpening};
 ghost use Rattle.phase_transactions.specs.Workers.{IsIdle, IsUnused};
+ghost use Rattle.phase_tests.specs.NewShards.{AreFourNew};
 
-use crate::comparing::assert_same;
 use crate::permits::closing::{assert_clocks, close_two};
 use crate::permits::joined::{joined_permit, perform};
 use crate::permits::testing::{boxes_of_two, four, push_numbers};
-use auction_rows::{Reply, Request};
+use crate::testing::assert_same;
 use item_shards::Shard;
 use phase_permits::Stash;
 use shard_boxes::{Boxes, Key, PhaseName};
@@ -18,17 +18,10 @@ use std::process::Abort;
 use std::sync::Wait;
 use std::thread;
 use std::thread::Threads;
+use test_values::{LOOK, UNRATED};
 use worker_journals::Journal;
 
-// A user of the first shard.
-const LOOK: Request = Request::ViewUser { user: 0 };
-
-const SEEN: Reply = Reply::UserSeen {
-    rating: 0,
-    comments: 0,
-};
-
-// A worker views the user twice: its journal and its key.
+// A worker views a user of the first shard twice: its journal and its key.
 fn views<N: PhaseName, R: Wait + Abort>(
     rt: &R,
     alloc: Global,
@@ -47,7 +40,7 @@ fn views<N: PhaseName, R: Wait + Abort>(
     let first = perform(rt, boxes, &mut permit, &LOOK, 0);
     let second = perform(rt, boxes, &mut permit, &LOOK, 1);
     let (journal, _slices, _stash, key, _counters) = permit.finish().parts();
-    assert_same(rt, [first, second], [Ok(SEEN); 2]);
+    assert_same(rt, [first, second], [Ok(UNRATED); 2]);
     (journal, key)
 }
 
@@ -66,12 +59,10 @@ where
     N: PhaseName + Send + Sync,
     R: Threads + Wait + Sync + Abort,
     requires opening { map state_of shards.items ≡ N.initial }
-    requires four { length N.initial ≡ 4 }
-    requires opened { AreInitial N.initial }
-    requires users { HaveOpening N.initial (record { users = 10; categories = 2 }) }
+    requires new { AreFourNew N.initial }
     requires workers { 2 ≡ N.workers }
 {
-    let (boxes, first, second) = boxes_of_two::<N, R>(rt, alloc, shards).expect(rt, "memory");
+    let (boxes, first, second) = boxes_of_two::<N>(alloc, shards).expect(rt, "memory");
     let (one, other) = thread::join(
         rt,
         || views(rt, alloc, &boxes, first),
@@ -79,7 +70,7 @@ where
     );
     let (one, first) = one;
     let (other, second) = other;
-    let shards = close_two(rt, alloc, boxes, first, second).expect(rt, "memory");
+    let shards = close_two(alloc, boxes, first, second).expect(rt, "memory");
     assert_numbers(rt, alloc, &one, &other);
     assert_clocks(rt, &shards, [4, 0, 0, 0]);
 }

@@ -1,15 +1,14 @@
 //! What the workers of a phase answer where one meets the end of commit numbers: no run is so long.
 ghost use Rattle.std.specs.Prelude.{◌≡◌, ◌∷◌, [], length, map};
-ghost use Rattle.shard_boxes.specs.States.{state_of, AreInitial};
+ghost use Rattle.shard_boxes.specs.States.{state_of};
 ghost use Rattle.phase_transactions.specs.Workers.{IsUnused};
 ghost use Rattle.phase_transactions.specs.Performing.{HaveOpening};
+ghost use Rattle.phase_tests.specs.NewShards.{AreFourNew};
 
-use crate::comparing::assert_same;
 use crate::permits::testing::{boxes_of_one, four};
-use crate::testing::OPENING;
-use auction_rows::Request;
+use crate::testing::{assert_same, waiting};
 use item_shards::Shard;
-use phase_permits::{Counters, JoinedPermit, PermitFault, Stash};
+use phase_permits::{Counters, JoinedPermit, PermitFault};
 use phase_workers::{FreeGate, Round, ServingFault, serve_all};
 use shard_boxes::{Boxes, Key, PhaseName};
 use std::alloc::{AllocError, Global};
@@ -17,6 +16,7 @@ use std::marker::Brand;
 use std::process::Abort;
 use std::sync::Wait;
 use std::thread::Threads;
+use test_values::OPENING;
 use worker_journals::{Journal, Script};
 
 // The fault of a joined phase of one worker, who has no script, whose clock is at the end of
@@ -39,8 +39,7 @@ where
     requires users { HaveOpening N.initial (record { users = 10; categories = 2 }) }
 {
     let journal = Journal::with_room(alloc, 0, 0, 1)?;
-    let mut stash = Stash::with_room(alloc, 1)?;
-    stash.push(0, Request::ViewUser { user: 0 });
+    let stash = waiting(alloc, 0, 0)?;
     let mut permits = Vec::with_capacity(alloc, 1)?;
     let counters = Counters::default();
     let permit = JoinedPermit::new(key, OPENING, counters, journal, stash, 0, u64::MAX);
@@ -64,9 +63,7 @@ where
     N: PhaseName + Send + Sync,
     R: Threads + Wait + Sync + Abort,
     requires opening { map state_of shards.items ≡ N.initial }
-    requires four { length N.initial ≡ 4 }
-    requires opened { AreInitial N.initial }
-    requires users { HaveOpening N.initial (record { users = 10; categories = 2 }) }
+    requires new { AreFourNew N.initial }
     requires workers { 1 ≡ N.workers }
 {
     let (boxes, key) = boxes_of_one::<N, R>(rt, alloc, shards)?;

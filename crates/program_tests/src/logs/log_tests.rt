@@ -1,8 +1,8 @@
 //! What a log has accepted, and what was told, after each call that fails.
 ghost use Rattle.std.specs.Prelude.{false, [], Some};
 
-use crate::comparing::assert_same;
 use crate::logs::mem_file::{MemFile, put_known};
+use crate::testing::assert_same;
 use part_log::{FileLog, Log, LogFault, NoLog, TellFault, Teller, tell_part};
 use std::alloc::Global;
 use std::io;

@@ -2,9 +2,8 @@
 ghost use Rattle.std.specs.Prelude.{[], IfOk};
 ghost use Rattle.phase_floor.specs.Adding.{HasBook, IsStartOf};
 
-use crate::comparing::assert_same;
 use crate::logs::mem_file::MemFile;
-use crate::testing::extend;
+use crate::testing::{assert_same, extend};
 use auction_rows::{Opening, Refusal};
 use auction_text::{Cause, ReadFault};
 use log_opening::{

@@ -1,7 +1,6 @@
 //! Faults to which the built program can't be brought. The others stand in tests/limits.py, ends.py
 //! and refused_memory.py.
-use crate::comparing::assert_same;
-use crate::testing::extend;
+use crate::testing::{assert_same, extend};
 use auction_program::{AddFault, Fault, status, write_fault};
 use auction_rows::{Refusal, Reply};
 use auction_run::RunFault;

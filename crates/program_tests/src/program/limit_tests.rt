@@ -2,42 +2,21 @@
 //! commit 1,000,000 requests in place of 2^31.
 ghost use Rattle.phase_floor.specs.Adding.{HasBook};
 
-use crate::comparing::assert_same;
-use crate::testing::{FIRST, line_of};
+use crate::testing::{assert_same, line_of};
 use auction_program::{Joined, LiveTeller, LoggedInput, NoLog, Options, Teller, serve};
-use auction_rows::{Facts, Name, Opening, Quantity, Request, Stars};
+use auction_rows::{Facts, Opening, Request, Stars};
 use item_shards::Opened;
 use std::alloc::Global;
 use std::process::Abort;
 use std::sync::Wait;
 use std::thread::Threads;
+use test_values::{comment, put_up, vases};
 
 // Of the options of these tests.
 const OPENING: Opening = Opening {
     users: 100,
     categories: 10,
 };
-
-fn item(rt: &impl Abort) -> Request {
-    let facts = Facts {
-        seller: 0,
-        category: 0,
-        name: Name::new(b"Vase").expect(rt, "a name"),
-        start: 10,
-        closes: 1000,
-        quantity: Quantity::new(3).expect(rt, "a quantity"),
-    };
-    Request::StoreItem { facts, time: 1 }
-}
-
-fn comment(rt: &impl Abort) -> Request {
-    Request::StoreComment {
-        author: 1,
-        about: 2,
-        item: FIRST,
-        stars: Stars::new(1).expect(rt, "stars"),
-    }
-}
 
 // An auction of two workers in which nothing is stored.
 fn auction(rt: &impl Abort, alloc: Global) -> Joined
@@ -61,9 +40,13 @@ fn almost_full(rt: &impl Abort, alloc: Global) -> Joined
     ensures { HasBook result }
 {
     let mut auction = auction(rt, alloc);
-    add(rt, &mut auction, item(rt));
+    let facts = Facts {
+        closes: 1000,
+        ..vases(10, 3)
+    };
+    add(rt, &mut auction, put_up(facts));
     for _comment in 0..999_996 {
-        add(rt, &mut auction, comment(rt));
+        add(rt, &mut auction, comment(1, 2, Stars { value: 1 }));
     }
     auction
 }

@@ -1,7 +1,6 @@
 //! The program's library, from words and an input to what is written. Other words and inputs are
 //! tried on the built program, in `tests/`.
-use crate::comparing::assert_same;
-use crate::testing::line_of;
+use crate::testing::{assert_same, line_of};
 use auction_program::{execute, read_options};
 use std::alloc::Global;
 use std::process::Abort;

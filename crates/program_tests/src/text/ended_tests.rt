@@ -1,61 +1,17 @@
 //! What is written of a run that has ended: its rows, and its report.
-use crate::comparing::assert_same;
-use crate::testing::FIRST;
-use auction_rows::{
-    BidId, BidRow, Facts, ItemRow, ItemShown, MOST_SHOWN, Name, Quantity, Reply, Request, Row, Ten,
-};
+use crate::testing::assert_same;
+use auction_rows::{ItemShown, MOST_SHOWN, Reply, Request, Ten};
 use auction_text::{ReportLines, write_report, write_rows};
 use std::alloc::Global;
 use std::process::Abort;
+use test_values::{FIRST, UNRATED, bid, bid_row, bid_stored, item_row, vases};
 use worker_journals::{History, Journal};
-
-// Two vases, and a bid of 20 at 5 by user 1.
-fn opening_rows(rt: &impl Abort) -> [Row; 2] {
-    let facts = Facts {
-        seller: 0,
-        category: 0,
-        name: Name::new(b"Vase").expect(rt, "a name"),
-        start: 10,
-        closes: 100,
-        quantity: Quantity::new(2).expect(rt, "a quantity"),
-    };
-    let item = Row::Item(ItemRow {
-        id: FIRST,
-        facts,
-        time: 1,
-    });
-    let bid = Row::Bid(BidRow {
-        id: BidId {
-            worker: 0,
-            serial: 0,
-        },
-        item: FIRST,
-        bidder: 1,
-        amount: 20,
-        time: 5,
-    });
-    [item, bid]
-}
 
 // A bid of 50 at 6 by user 2, which is stored, and a view.
 fn bid_and_view(rt: &impl Abort, alloc: Global) -> History {
     let mut journal = Journal::with_room(alloc, 0, 0, 2).expect(rt, "memory");
-    let bid = Request::StoreBid {
-        bidder: 2,
-        item: FIRST,
-        amount: 50,
-        time: 6,
-    };
-    let stored = Reply::BidStored(BidId {
-        worker: 0,
-        serial: 1,
-    });
-    journal.push(1, 0, bid, stored);
-    let seen = Reply::UserSeen {
-        rating: 0,
-        comments: 0,
-    };
-    journal.push(2, 1, Request::ViewUser { user: 1 }, seen);
+    journal.push(1, 0, bid(2, 50, 6), bid_stored(0, 1));
+    journal.push(2, 1, Request::ViewUser { user: 1 }, UNRATED);
     let journals = vec![in alloc; journal].expect(rt, "memory");
     let mut history = History::new(alloc);
     history.add_phase(journals).expect(rt, "memory");
@@ -66,8 +22,9 @@ fn bid_and_view(rt: &impl Abort, alloc: Global) -> History {
 fn rows_are_records_that_open_an_auction(rt: HostRuntime) {
     let alloc = rt.alloc();
     let mut text = Vec::new(alloc);
+    let rows = [item_row(vases(10, 2)), bid_row(0, 1, 20, 5)];
     let history = bid_and_view(&rt, alloc);
-    let written = write_rows(alloc, &mut text, &opening_rows(&rt), &history);
+    let written = write_rows(alloc, &mut text, &rows, &history);
     assert_same(&rt, written, Ok(()));
     let wanted = b"0,+item,0,0,\"Vase\",10,100,1,2\n0,+bid,1,0.0,20,5\n0,+bid,2,0.0,50,6\n";
     assert_same(&rt, text.as_slice(), wanted.as_slice());

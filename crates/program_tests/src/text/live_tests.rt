@@ -1,6 +1,5 @@
 //! What an input says that is read line by line, by what its reader gives at a time.
-use crate::comparing::assert_same;
-use crate::testing::extend;
+use crate::testing::{assert_same, extend};
 use crate::text::part_tests::Pieces;
 use auction_program::push_fault_line;
 use auction_text::{
@@ -85,8 +84,8 @@ fn told(rt: &impl Abort, alloc: Global, text: &[u8], at_a_time: usize) -> String
 }
 
 // Asserts what a text says that is given at once.
-fn assert_told(rt: &impl Abort, alloc: Global, text: &[u8], wanted: &str) {
-    let found = told(rt, alloc, text, 100_000);
+fn assert_told(rt: &(impl Abort + Alloc<A = Global>), text: &[u8], wanted: &str) {
+    let found = told(rt, rt.alloc(), text, 100_000);
     assert_same(rt, found.as_str(), wanted);
 }
 
@@ -95,28 +94,30 @@ fn faults_in(rt: &impl Abort, alloc: Global, text: &str) -> String {
     let mut faults = String::new(alloc);
     for line in text.lines() {
         if line.contains("record") {
-            faults.push_str(line).expect(rt, "memory");
-            faults.push_str("\n").expect(rt, "memory");
+            write!(faults, "{line}\n").expect(rt, "memory");
         }
     }
     faults
 }
 
 // Asserts which faults a text has, if it is given so many bytes at a time.
-fn assert_faults(rt: &impl Abort, alloc: Global, text: &[u8], sizes: &[usize], wanted: &str) {
+fn assert_faults(
+    rt: &(impl Abort + Alloc<A = Global>),
+    text: &[u8],
+    sizes: &[usize],
+    wanted: &str,
+) {
     for at_a_time in sizes {
-        let found = told(rt, alloc, text, *at_a_time);
-        let faults = faults_in(rt, alloc, found.as_str());
+        let found = told(rt, rt.alloc(), text, *at_a_time);
+        let faults = faults_in(rt, rt.alloc(), found.as_str());
         assert_same(rt, faults.as_str(), wanted);
     }
 }
 
 #[test]
 fn a_fault_ends_a_part_and_not_the_input(rt: HostRuntime) {
-    let alloc = rt.alloc();
     assert_told(
         &rt,
-        alloc,
         b"0,viewuser,0\n1,nonsense\n1,viewuser,0\n",
         "0 1: 1 0\nSome(1) record 2: unknown kind\n0 1: 0 1\n0 0: 0 0\n",
     );
@@ -124,10 +125,8 @@ fn a_fault_ends_a_part_and_not_the_input(rt: HostRuntime) {
 
 #[test]
 fn an_open_quote_ends_with_its_line(rt: HostRuntime) {
-    let alloc = rt.alloc();
     assert_faults(
         &rt,
-        alloc,
         b"1,item,0,0,\"\n0,viewuser,1\n0,viewuser,\"\n",
         &[1, 2, 7, 100_000],
         "Some(1) record 1: wrong number of fields\nSome(0) record 3: not a number\n",
@@ -136,10 +135,8 @@ fn an_open_quote_ends_with_its_line(rt: HostRuntime) {
 
 #[test]
 fn a_carriage_return_forges_no_line(rt: HostRuntime) {
-    let alloc = rt.alloc();
     assert_faults(
         &rt,
-        alloc,
         b"1,viewuser,0\r0,bid,5,0.0,999,1\n0,viewuser,1\r\n\r\n\n\r\r\n2,viewuser,0\nx\n7",
         &[1, 2, 3, 7, 100_000],
         "Some(1) record 1: wrong number of fields\nNone record 3: no such worker\nNone record 4: not a number\nNone record 5: no such worker\n",
@@ -148,8 +145,7 @@ fn a_carriage_return_forges_no_line(rt: HostRuntime) {
 
 #[test]
 fn a_line_that_is_too_long_is_passed_over(rt: HostRuntime) {
-    let alloc = rt.alloc();
-    let mut text = Vec::new(alloc);
+    let mut text = Vec::new(rt.alloc());
     extend(&rt, &mut text, b"\xEF\xBB\xBF0,viewuser,0\n1,item,0,0,\"");
     for _ in 0..70_000 {
         text.push(b'"').expect(&rt, "memory");
@@ -157,7 +153,6 @@ fn a_line_that_is_too_long_is_passed_over(rt: HostRuntime) {
     extend(&rt, &mut text, b"\n1,viewuser,0\n+");
     assert_faults(
         &rt,
-        alloc,
         text.as_slice(),
         &[999, 100_000],
         "Some(1) record 2: too long\nNone record 4: not a number\n",
@@ -166,10 +161,8 @@ fn a_line_that_is_too_long_is_passed_over(rt: HostRuntime) {
 
 #[test]
 fn rows_may_come_around_a_fault(rt: HostRuntime) {
-    let alloc = rt.alloc();
     assert_told(
         &rt,
-        alloc,
         b"0,+comment,0,1,0.0,1\n0,+comment\n1,+comment,0,1,0.0,1\n0,viewuser,0\n0,+comment,0,1,0.0,1\n",
         "1 0: 0 0\nSome(0) record 2: wrong number of fields\n1 1: 1 0\nSome(0) record 5: row after a request\n0 0: 0 0\n",
     );
@@ -177,15 +170,14 @@ fn rows_may_come_around_a_fault(rt: HostRuntime) {
 
 #[test]
 fn rows_end_a_part_too(rt: HostRuntime) {
-    let alloc = rt.alloc();
-    let mut text = Vec::new(alloc);
+    let mut text = Vec::new(rt.alloc());
     for _ in 0..MOST_ROWS_OF_A_PART + 1 {
         extend(&rt, &mut text, b"0,+comment,0,1,0.0,1\n");
     }
     extend(&rt, &mut text, b"0,viewuser,0\n");
     let wanted = "65536 0: 0 0\n1 1: 1 0\n0 0: 0 0\n";
     for at_a_time in [999, 100_000] {
-        let found = told(&rt, alloc, text.as_slice(), at_a_time);
+        let found = told(&rt, rt.alloc(), text.as_slice(), at_a_time);
         assert_same(&rt, (at_a_time, found.as_str()), (at_a_time, wanted));
     }
 }
@@ -221,8 +213,7 @@ fn an_input_ends_once(rt: HostRuntime) {
 
 #[test]
 fn a_fault_is_answered_with_the_index_of_the_next_request(rt: HostRuntime) {
-    let alloc = rt.alloc();
-    let mut text = Vec::new(alloc);
+    let mut text = Vec::new(rt.alloc());
     for (worker, index, fault) in [
         (0, 0, ReadFault::Line(1, Cause::Kind)),
         (15, 7, ReadFault::Line(1_000_000_000_000, Cause::Long)),

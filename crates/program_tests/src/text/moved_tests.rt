@@ -1,26 +1,24 @@
 //! The texts of a part, whose phases and indexes go on from the parts before.
-use crate::comparing::assert_same;
-use crate::testing::FIRST;
-use auction_rows::{Refusal, Reply, Request};
+use crate::testing::assert_same;
+use auction_rows::{Refusal, Reply};
 use auction_text::{
     Before, TextBlock, WriteFault, write_history, write_history_on, write_replies,
     write_replies_by, write_replies_on,
 };
 use std::alloc::Global;
 use std::process::Abort;
+use test_values::VIEW;
 use worker_journals::{History, Journal, Script};
-
-const SEEN: Request = Request::ViewItem { item: FIRST };
 
 const CLOSED: Reply = Reply::Refused(Refusal::Closed);
 
 // A phase in which workers 0 and 2 are refused: worker 0 twice, its second request first.
 fn one_phase(rt: &impl Abort, alloc: Global) -> History {
     let mut first = Journal::with_room(alloc, 0, 0, 2).expect(rt, "memory");
-    first.push(1, 1, SEEN, CLOSED);
-    first.push(2, 0, SEEN, CLOSED);
+    first.push(1, 1, VIEW, CLOSED);
+    first.push(2, 0, VIEW, CLOSED);
     let mut third = Journal::with_room(alloc, 0, 2, 1).expect(rt, "memory");
-    third.push(3, 0, SEEN, CLOSED);
+    third.push(3, 0, VIEW, CLOSED);
     let journals = vec![in alloc; first, third].expect(rt, "memory");
     let mut history = History::new(alloc);
     history.add_phase(journals).expect(rt, "memory");
@@ -28,7 +26,7 @@ fn one_phase(rt: &impl Abort, alloc: Global) -> History {
 }
 
 fn requests(rt: &impl Abort, alloc: Global, count: usize) -> Script {
-    let requests = vec![in alloc; SEEN; count].expect(rt, "memory");
+    let requests = vec![in alloc; VIEW; count].expect(rt, "memory");
     Script::of(alloc, &requests).expect(rt, "memory")
 }
 
@@ -114,7 +112,7 @@ fn a_count_past_64_bits_is_refused(rt: HostRuntime) {
     let mut history = History::new(alloc);
     for phase in 0..2 {
         let mut journal = Journal::with_room(alloc, phase, 0, 1).expect(&rt, "memory");
-        journal.push(phase, 0, SEEN, CLOSED);
+        journal.push(phase, 0, VIEW, CLOSED);
         let journals = vec![in alloc; journal].expect(&rt, "memory");
         history.add_phase(journals).expect(&rt, "memory");
     }

@@ -1,7 +1,7 @@
 //! Where the parts of an input end, by what its reader gives at a time.
 ghost use Rattle.std.specs.Prelude.{◌≤◌};
 
-use crate::comparing::assert_same;
+use crate::testing::assert_same;
 use auction_text::{Cause, LineFault, LiveEnd, LiveInput, LivePart, ReadFault};
 use std::alloc::Global;
 use std::io;
@@ -60,8 +60,7 @@ fn parts_of(
 
 // Asserts how many requests each part has.
 fn assert_parts(
-    rt: &impl Abort,
-    alloc: Global,
+    rt: &(impl Abort + Alloc<A = Global>),
     pieces: &'static [&'static [u8]],
     most: u32,
     counts: &[usize],
@@ -69,52 +68,42 @@ fn assert_parts(
 )
     requires { 1 ≤ most }
 {
-    let (found, met) = parts_of(rt, alloc, pieces, most);
+    let (found, met) = parts_of(rt, rt.alloc(), pieces, most);
     assert_same(rt, (found.as_slice(), met), (counts, fault));
 }
 
 #[test]
 fn a_part_ends_where_more_would_have_to_be_waited_for(rt: HostRuntime) {
-    let alloc = rt.alloc();
     let halves: &[&[u8]] = &[b"0,viewuser,0\n0,view", b"user,1\n", b"0,viewuser,2"];
-    assert_parts(&rt, alloc, halves, 9, &[1, 1, 1], None);
+    assert_parts(&rt, halves, 9, &[1, 1, 1], None);
     let quoted: &[&[u8]] = &[
         b"0,\"viewuser\",0\r\n0,viewuser,0\r\n",
         b"\r\n0,viewuser,1\r\n",
     ];
-    assert_parts(&rt, alloc, quoted, 9, &[2, 1, 0], None);
+    assert_parts(&rt, quoted, 9, &[2, 1, 0], None);
     let returns: &[&[u8]] = &[b"0,viewuser,0\r", b"0,viewuser,1\r0,viewuser,2\r"];
     let fault = Some(ReadFault::Line(1, Cause::Fields));
-    assert_parts(&rt, alloc, returns, 9, &[0], fault);
+    assert_parts(&rt, returns, 9, &[0], fault);
 }
 
 #[test]
 fn a_part_has_at_most_so_many_requests(rt: HostRuntime) {
-    let alloc = rt.alloc();
     let five: &[&[u8]] = &[
         b"0,viewuser,0\n0,viewuser,0\n0,viewuser,0\n0,viewuser,0\n0,viewuser,0\n",
     ];
-    assert_parts(&rt, alloc, five, 2, &[2, 2, 1, 0], None);
-    assert_parts(&rt, alloc, five, 5, &[5, 0], None);
+    assert_parts(&rt, five, 2, &[2, 2, 1, 0], None);
+    assert_parts(&rt, five, 5, &[5, 0], None);
 }
 
 #[test]
 fn what_stands_before_a_fault_is_read(rt: HostRuntime) {
-    let alloc = rt.alloc();
     let bad: &[&[u8]] = &[b"0,viewuser,0\n0,viewuser,0\nbad\n0,viewuser,0\n"];
     let fault = Some(ReadFault::Line(3, Cause::Number));
-    assert_parts(&rt, alloc, bad, 9, &[2], fault);
-    assert_parts(&rt, alloc, bad, 1, &[1, 1, 0], fault);
+    assert_parts(&rt, bad, 9, &[2], fault);
+    assert_parts(&rt, bad, 1, &[1, 1, 0], fault);
     let late: &[&[u8]] = &[
         b"0,+comment,0,1,0.0,1\n0,viewuser,0\n",
         b"0,+comment,0,1,0.0,1\n",
     ];
-    assert_parts(
-        &rt,
-        alloc,
-        late,
-        9,
-        &[1, 0],
-        Some(ReadFault::Line(3, Cause::Late)),
-    );
+    assert_parts(&rt, late, 9, &[1, 0], Some(ReadFault::Line(3, Cause::Late)));
 }

@@ -1,16 +1,9 @@
 //! The rows and scripts of a whole input.
-use crate::comparing::assert_same;
-use crate::testing::FIRST;
+use crate::testing::assert_same;
 use auction_rows::Request;
 use auction_text::{Cause, ReadFault, read_scripts};
 use std::process::Abort;
-
-const BID: Request = Request::StoreBid {
-    bidder: 3,
-    item: FIRST,
-    amount: 20,
-    time: 5,
-};
+use test_values::{VIEW, VIEW_OF_BIDS, bid};
 
 // Asserts that these are the scripts of two workers.
 fn assert_scripts(
@@ -38,10 +31,10 @@ fn each_worker_has_its_requests_in_their_order(rt: HostRuntime) {
 1,viewcategory,2
 ";
     let input = read_scripts(rt.alloc(), text, 2).expect(&rt, "an input");
-    let first = [BID, Request::ViewItem { item: FIRST }];
+    let first = [bid(3, 20, 5), VIEW];
     let second = [
         Request::ViewUser { user: 4 },
-        Request::ViewBids { item: FIRST },
+        VIEW_OF_BIDS,
         Request::ViewCategory { category: 2 },
     ];
     assert_scripts(&rt, &input.scripts, &first, &second);

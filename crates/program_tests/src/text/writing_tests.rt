@@ -1,13 +1,13 @@
 //! Replies that are written, whole and in part. Each kind of reply stands in tests/worked, and
 //! other writers in tests/ends.py.
-use crate::comparing::assert_same;
-use crate::testing::FIRST;
-use auction_rows::{Refusal, Reply, Request};
+use crate::testing::assert_same;
+use auction_rows::{Refusal, Reply};
 use auction_text::{WriteFault, write_replies};
 use std::alloc::Global;
 use std::io;
 use std::io::{ErrorKind, Write};
 use std::process::Abort;
+use test_values::{FIRST, VIEW};
 use worker_journals::{History, Journal};
 
 // Takes one byte a call, but one call of `write` has an error, and it takes more after it. Its
@@ -73,8 +73,7 @@ const OUTPUT: &[u8] = b"0,0,item 0.0\n0,1,refused 5 Closed\n";
 // A phase of one commit, of worker 0.
 fn add_reply(rt: &impl Abort, alloc: Global, history: &mut History, index: u32, reply: Reply) {
     let mut journal = Journal::with_room(alloc, 0, 0, 1).expect(rt, "memory");
-    let request = Request::ViewItem { item: FIRST };
-    journal.push(1, index, request, reply);
+    journal.push(1, index, VIEW, reply);
     let journals = vec![in alloc; journal].expect(rt, "memory");
     history.add_phase(journals).expect(rt, "memory");
 }

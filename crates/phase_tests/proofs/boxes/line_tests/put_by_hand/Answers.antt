@@ -17,11 +17,11 @@ use Rattle.phase_tests.proofs.boxes.line_tests.put_by_hand.Goals as goal
 pub list-line-requires-clause-here : goal.list-line-requires-clause-here
 list-line-requires-clause-here g c =
     let known = c.take-held.ensures.history in
-    subst (λ s. LiesIn s (Category 0)) (sym c.shard_mut.ensures.value) (ap (shard_of (Category 0)) (known.shards_is ∙ c.requires.four) ∙ sym known.number_is)
+    subst (λ s. LiesIn s (Category 0)) (sym c.shard_mut.ensures.value) (ap (shard_of (Category 0)) (known.shards_is ∙ c.requires.new.four) ∙ sym known.number_is)
 
 pub list-line-requires-clause-known : goal.list-line-requires-clause-known
 list-line-requires-clause-known g c =
-    let start = c.take-held.ensures.history.opening_is ∙ c.requires.users 0 (omega (arith, c.requires.four)) in
+    let start = c.take-held.ensures.history.opening_is ∙ c.requires.new.users 0 (omega (arith, c.requires.new.four)) in
     subst (λ s. 0 < (opening s).categories) (sym c.shard_mut.ensures.value) (omega (arith, ap (λ (o : Opening). o.categories) start))
 
 pub put-requires-clause-may : goal.put-requires-clause-may
@@ -42,9 +42,9 @@ close_one-shards-requires-clause-idle g c =
     let seen = seen_at c.take-held.new.key 0 in
     let line = Some (seen_line (taken_at g.N.PhaseName.initial c.take-held.new.key c.take-held.result.number) c.list-line.result) in
     subst IsIdle (sym (c.put.ensures ∙ (λ i. putting (take.key i) (take.number i) line)))
-    (idle_put key 0 seen line (omega (arith, take.seats, c.requires.four)) (λ s. (c.in_ok-boxes.ensures.unused s).0))
+    (idle_put key 0 seen line (omega (arith, take.seats, c.requires.new.four)) (λ s. (c.in_ok-boxes.ensures.unused s).0))
 
 pub assert_listed-requires : goal.assert_listed-requires
 assert_listed-requires g c =
     subst (λ (shards : List Shard). IfSome (slice_get shards 0) (λ shard. LiesIn shard (Category 0))) (sym c.deref.ensures.value)
-    (first_has (Category 0) refl g.N.PhaseName.initial g.N.PhaseName.workers (c.put.new.key ∷ []) c.close_one-shards.result.items c.requires.four c.close_one-shards.ensures)
+    (first_has (Category 0) refl g.N.PhaseName.initial g.N.PhaseName.workers (c.put.new.key ∷ []) c.close_one-shards.result.items c.requires.new.four c.close_one-shards.ensures)

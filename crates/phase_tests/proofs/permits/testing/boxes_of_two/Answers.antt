@@ -1,10 +1,8 @@
 use Rattle.phase_tests.proofs.permits.KeyLemmas.{two_keys}
 use Rattle.phase_tests.proofs.permits.testing.boxes_of_two.Goals as goal
 
-pub returns-clause-first : goal.returns-clause-first
-returns-clause-first g c =
-    (two_keys c.in-Ok.boxes g.N.PhaseName.workers c.in-Ok.keys.items c.both-first.result.0 c.both-first.result.1 c.both-first.ensures c.requires.workers c.in-Ok.ensures.keys).0
-
-pub returns-clause-second : goal.returns-clause-second
-returns-clause-second g c =
-    (two_keys c.in-Ok.boxes g.N.PhaseName.workers c.in-Ok.keys.items c.both-first.result.0 c.both-first.result.1 c.both-first.ensures c.requires.workers c.in-Ok.ensures.keys).1
+pub returns : goal.returns
+returns g c =
+    let both = c.both-first in
+    let new = two_keys c.in-Ok.boxes g.N.PhaseName.workers c.in-Ok.keys.items both.result.0 both.result.1 both.ensures c.requires.workers c.in-Ok.ensures.keys in
+    record { first = new.0; second = new.1 }

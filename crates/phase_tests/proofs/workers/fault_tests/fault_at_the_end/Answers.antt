@@ -28,9 +28,6 @@ none_is_short = omega arith
 given_none : (left : ℕ) → left ≡ 0 → left ≤ 0 - 0
 given_none left none = omega (arith, none)
 
-one_waits : (before waiting : List (ℕ × Request)) (call : ℕ × Request) → before ≡ [] → waiting ≡ before ++ call ∷ [] → length waiting ≡ 1
-one_waits before waiting call none is = ap length is ∙ ap (λ (calls : List (ℕ × Request)). length (calls ++ call ∷ [])) none
-
 few_tries : (tries waiting left : ℕ) → tries ≡ 0 → waiting ≡ 1 → left ≡ 0 → tries + waiting + left ≤ 1000000000
 few_tries tries waiting left none one empty = omega (arith, none, one, empty)
 
@@ -49,7 +46,7 @@ serve_all-requires-clause-can g c = λ lifetimes within.
       given = given_none permit.left left;
       tries = few_tries permit.tries (length (stashed permit)) permit.left
           (ap (λ (p : WorkerState). p.tries) made)
-          (ap (λ (p : WorkerState). length (stashed p)) made ∙ one_waits _ _ _ c.in_ok-stash.ensures.empty c.push.ensures.added) left;
+          (ap (λ (p : WorkerState). length (stashed p)) made ∙ c.in_ok-stash.ensures) left;
     })
 
 pub serve_all-requires-clause-of : goal.serve_all-requires-clause-of
@@ -66,7 +63,7 @@ serve_all-requires-clause-of g c = λ lifetimes within.
 pub new-permit-requires : goal.new-permit-requires
 new-permit-requires g c =
     let journal = c.in_ok-journal.ensures in
-    let waits = one_waits _ _ _ c.in_ok-stash.ensures.empty c.push.ensures.added in
+    let waits = c.in_ok-stash.ensures in
     let zero = c.default-counters.ensures in
     let none = zero.1.1.1.1 in
     record {

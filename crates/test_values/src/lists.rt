@@ -1,8 +1,8 @@
-//! The permit of a phase of one worker.
+//! Lists whose length is known.
 ghost use Rattle.std.specs.Prelude.{◌≡◌, ◌∷◌, [], vec_len};
 
-/// The one item.
-pub(crate) fn only<T>(mut items: Vec<T>) -> T
+/// The one item of a list.
+pub fn only<T>(mut items: Vec<T>) -> T
     requires { vec_len items ≡ 1 }
     ensures { items.items ≡ result ∷ [] }
 {
