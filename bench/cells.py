@@ -16,11 +16,11 @@ def two(value: float | None) -> str:
 
 
 def ranged(row: Figure | None, unit: float = 1) -> str:
-    """Two digits, with the least and the greatest try if there were several."""
+    """Two digits, with the range of its tries if there were several."""
     if row is None:
         return "-"
-    shown, least, greatest = (two(part / unit) for part in (row.value, row.least, row.greatest))
-    return f"{shown} ({least}–{greatest})" if least != greatest else shown
+    shown, low, high = (two(part / unit) for part in (row.value, row.low, row.high))
+    return f"{shown} ({low}–{high})" if low != high else shown
 
 
 def millions(row: Figure | None) -> str:
@@ -70,9 +70,13 @@ def value(rows: list[Figure], **wanted) -> float | None:
     return found.value if found else None
 
 
+def as_shown(value: float) -> float:
+    return float(two(value).replace(",", ""))
+
+
 def are_apart(one: Figure, other: Figure) -> bool:
-    """Whether the tries of two figures have no value between them that both reach: only then do they differ."""
-    return one.least > other.greatest or other.least > one.greatest
+    """Whether the ranges of two figures, as pages show them, have no value in common: only then do they differ."""
+    return as_shown(one.low) > as_shown(other.high) or as_shown(other.low) > as_shown(one.high)
 
 
 def times(own: Figure | None, one: Figure | None) -> str:
@@ -80,6 +84,15 @@ def times(own: Figure | None, one: Figure | None) -> str:
     return two(own.value / one.value) if own and one else "-"
 
 
+# What a page says where two figures' ranges have a part in common: the tries do not show that the figures differ.
+OVERLAP = "ranges overlap"
+
+
+def times_told(own: Figure, one: Figure) -> str:
+    """A figure as a multiple of another, and whether their ranges overlap."""
+    return times(own, one) + ("" if are_apart(own, one) else f", {OVERLAP}")
+
+
 def times_if_apart(own: Figure | None, one: Figure | None) -> str:
-    """The same, if their tries show that they differ."""
-    return times(own, one) if own and one and are_apart(own, one) else "-"
+    """A figure as a multiple of another, if their tries show that they differ."""
+    return times(own, one) if not own or not one or are_apart(own, one) else "overlap"

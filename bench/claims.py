@@ -1,14 +1,19 @@
-"""Sentences and the table of README.md, and the first sentences of docs/PERFORMANCE.md, made of the figures. Two figures whose tries overlap do not differ."""
+"""Sentences and the table of README.md, and the first table of docs/PERFORMANCE.md, made of the figures. Two figures whose ranges overlap are not shown to
+differ, and the pages say so."""
+import clients
 import plots
-from cells import are_apart, figure, in_words, in_workers, millions, table, times, times_if_apart, values
-from figures import ALONE, AUCTION, IN_C, LOCK, PHASES, SHARDS, UNSPLIT, WHOLE_RATE, Figure
+from cells import OVERLAP, are_apart, figure, in_words, in_workers, millions, table, times, times_if_apart, times_told, two, values
+from figures import ALONE, AUCTION, CLIENTS_RATE, FRONT_LOGGED, IN_C, LOCK, PHASES, SHARDS, UNSPLIT, WHOLE_RATE, Figure
 from measures import BIDDING, ONE_ITEM, SMALL, Policy
 
 # The systems that README.md shows, with their names there.
-SHOWN = {AUCTION: "Fundreivo", UNSPLIT: "Fundreivo, without splitting", PHASES: "plain Rust, the same algorithm", SHARDS: "plain Rust, a lock per shard",
-         ALONE: "plain Rust, no lock", IN_C: "C, in one pass, 1 worker"}
+SHOWN = {system: system for system in (AUCTION, UNSPLIT, PHASES, SHARDS)} | {
+    ALONE: "plain Rust, no lock, one executing thread", IN_C: "C, in one pass, one thread"}
 
 PLAIN, OTHERS = (PHASES, SHARDS, LOCK, ALONE), (SHARDS, LOCK, ALONE)
+
+# The most clients of a server that wait for each reply, and how many rows a log has at most of each worker.
+MOST_CLIENTS, MOST_OF_A_LOG = "100 clients", 2 ** 31
 
 
 def most_workers(rows: list[Figure]) -> int:
@@ -39,65 +44,81 @@ def rates(rows: list[Figure]) -> str:
 
 
 def level(rows: list[Figure]) -> str:
-    """In README.md: on which loads splitting gains nothing, and one thread without locks is no slower."""
-    own, most = whole_commands(rows), most_workers(rows)
-    said = []
-    for system, words in ((UNSPLIT, "splitting shows no gain"), (ALONE, "one executing thread of plain Rust, without locks, is no slower")):
-        compared = against(rows, most, (system,))
-        loads = ["the bidding mix" if one.load == BIDDING.name else one.load for one, other in compared if one.least <= other.greatest]
-        said += [f"{words} on {listed(loads) if len(loads) < len(compared) else 'any of these loads'}"] if loads else []
-    text = "; ".join(said) or "on all these loads splitting gains, and one executing thread of plain Rust is slower"
-    return text[0].upper() + text[1:] if own else ""
+    """In README.md: load by load how many times as fast splitting makes it, and how many times as fast one thread of plain Rust without locks is."""
+    most = most_workers(rows)
+    ways = (("Fundreivo, beside itself without splitting, is", against(rows, most, (UNSPLIT,))),
+            ("One executing thread of plain Rust without locks, beside Fundreivo, is", [(other, own) for own, other in against(rows, most, (ALONE,))]),
+            ("C in one pass, beside Fundreivo, is", [(other, own) for own, other in against(rows, most, (IN_C,), True)]))
+    return ". ".join(judged(words, pairs) for words, pairs in ways if pairs)
+
+
+def judged(words: str, pairs: list[tuple[Figure, Figure]]) -> str:
+    """How many times as fast the first of each two is as the second, and on which loads their ranges overlap."""
+    apart, alike = ([pair for pair in pairs if are_apart(*pair) == wanted] for wanted in (True, False))
+    if not apart:
+        return f"{words} not shown to differ ({OVERLAP})"
+    if not alike:
+        found = [own.value / other.value for own, other in pairs]
+        return f"{words} {' to '.join(dict.fromkeys(map(two, (min(found), max(found)))))} times as fast on these loads"
+    found = [f"{times(*pair)} times{' as fast' * (at == 0)} on {load_in_words(pair[0])}" for at, pair in enumerate(apart)]
+    return f"{words} {listed(found)}; on the other loads {OVERLAP}"
+
+
+def load_in_words(row: Figure) -> str:
+    return "the bidding mix" if row.load == BIDDING.name else row.load
 
 
 def listed(words: list[str]) -> str:
     return " and ".join(filter(None, (", ".join(words[:-1]), words[-1])))
 
 
-def best(own: Figure, rows: list[Figure], systems: tuple[str, ...]) -> Figure | None:
-    """Of some systems the fastest, and rather one whose tries are all faster than a figure's than one with a wider range."""
-    found = [row for row in rows if row.system in systems]
-    return max([row for row in found if row.least > own.greatest] or found, key=lambda row: row.value, default=None)
+def best(rows: list[Figure], systems: tuple[str, ...]) -> Figure | None:
+    """Of some systems the fastest."""
+    return max((row for row in rows if row.system in systems), key=lambda row: row.value, default=None)
 
 
 def by_loads(pairs: list[tuple[Figure, Figure]]) -> str:
     """The first of each two as a multiple of the second, load by load."""
-    return ", ".join(f"{times(own, other) if are_apart(own, other) else 'no difference seen'} ({plots.load_title(own.load)})" for own, other in pairs)
+    return listed([f"{times(*pair)} ({', '.join([load_in_words(pair[0]), *overlapping(*pair)])})" for pair in pairs])
+
+
+def overlapping(own: Figure, other: Figure) -> list[str]:
+    return [] if are_apart(own, other) else [OVERLAP]
 
 
 def against(rows: list[Figure], workers: int, systems: tuple[str, ...], of_any_workers: bool = False) -> list[tuple[Figure, Figure]]:
     """The auction with so many workers beside the fastest of some systems, for each load that has both."""
     own = whole_commands(rows)
     others = own if of_any_workers else values(own, workers=workers)
-    pairs = [(one, best(one, values(others, load=one.load), systems)) for one in values(own, system=AUCTION, workers=workers)]
+    pairs = [(one, best(values(others, load=one.load), systems)) for one in values(own, system=AUCTION, workers=workers)]
     return [(one, other) for one, other in pairs if other]
 
 
 def cost(rows: list[Figure]) -> str:
     """In README.md: whole commands beside the fastest plain Rust, with any number of workers."""
     most = most_workers(rows)
-    pairs = against(rows, most, PLAIN, True)
-    return f"Throughput with {in_workers(most)}, as a multiple of the fastest plain Rust's with any number: {by_loads(pairs)}" if pairs else ""
+    pairs = against(rows, most, (*PLAIN, IN_C), True)
+    return f"Whole commands with {in_workers(most)} reach {by_loads(pairs)} of the throughput of the fastest plain Rust or C" if pairs else ""
 
 
 def gain(rows: list[Figure]) -> str:
-    """In README.md: bids on one item beside the same without splitting, and beside plain Rust, at its best and with a lock for each shard, with any number of
-    workers."""
+    """In README.md: bids on one item with all workers and with one, beside the same without splitting, and beside the fastest plain Rust without phases,
+    with any number of workers; and how many threads each has. All need one shard, so one thread executes what is not split."""
     most = most_workers(rows)
-    ways = (((UNSPLIT,), False), (OTHERS, True), ((SHARDS,), True))
+    alone = figure(whole_commands(rows), system=AUCTION, load=ONE_ITEM.name, workers=1)
+    ways = (((UNSPLIT,), False), (OTHERS, True))
     pairs = [pair for way in ways for pair in against(rows, most, *way) if pair[0].load == ONE_ITEM.name]
-    if len(pairs) < len(ways):
+    if len(pairs) < len(ways) or alone is None:
         return ""
-    (own, unsplit), (_, other), (_, locked) = pairs
-    return (f"{in_words(own.value)} requests per second, without it {beside(own, unsplit)} (all bids on one item, {in_workers(most)}, {options_of(own)}); "
-            f"other ways at best {beside(own, other, SHOWN.get(other.system, other.system))}, with a lock per shard {beside(own, locked)}")
+    (own, unsplit), (_, other) = pairs
+    return (f"Bids on one item, {options_of(own)}, {in_workers(most)}: {in_words(own.value)} requests per second, {beside(own, alone)}; "
+            f"without splitting, on one thread, {beside(own, unsplit)}; fastest plain Rust without phases: {beside(own, other)}")
 
 
 def beside(own: Figure, other: Figure, *words: str) -> str:
-    """Another figure, with words, its workers if they are others, and whether it differs."""
-    workers = () if own.workers == other.workers else (in_workers(other.workers),)
-    alike = () if are_apart(own, other) else ("no difference seen",)
-    said = ", ".join((*words, *workers, *alike))
+    """Another figure, with words, its workers if they are others, and whether ranges overlap. What has no lock executes all scripts on one thread."""
+    workers = () if own.workers == other.workers else (f"{'input of ' * (other.system == ALONE)}{in_workers(other.workers)}",)
+    said = ", ".join((*words, *workers, *overlapping(own, other)))
     return f"{in_words(other.value)} ({said})" if said else in_words(other.value)
 
 
@@ -115,32 +136,42 @@ def usual(rows: list[Figure]) -> str:
     split, unsplit = (figure(own, hot=hot) for hot in (8, 0))
     if not (split and unsplit):
         return ""
-    if not are_apart(split, unsplit):
-        return f"{in_words(split.value)} requests per second, with splitting or without"
-    return f"{in_words(split.value)} requests per second with splitting and {in_words(unsplit.value)} without"
+    return f"{in_words(split.value)} requests per second, without splitting {beside(split, unsplit)}"
+
+
+def lifetime(rows: list[Figure]) -> str:
+    """In README.md: how soon the clients of the front who wait for each reply use up all rows of its log; at 1,000 a second if they were not measured."""
+    found = figure(rows, table="clients", system=FRONT_LOGGED, load=MOST_CLIENTS, measure=CLIENTS_RATE)
+    rate = found.value if found else 1000
+    return f"{two(clients.WORKERS * MOST_OF_A_LOG / rate / 3600)} hours at {two(rate)} writes per second"
+
+
+# Of any number of workers.
+FASTEST = "the fastest plain Rust, any number of workers"
 
 
 def compared(rows: list[Figure]) -> str:
-    """In docs/PERFORMANCE.md: the auction as a multiple of others and of itself with one worker, if the tries show a difference."""
+    """In docs/PERFORMANCE.md: the auction as a multiple of others and of itself with one worker."""
     own, most = whole_commands(rows), most_workers(rows)
     loads, counts = loads_of(own), sorted({1, most})
     beside = [(f"{PHASES}, {in_workers(workers)}", workers, against(rows, workers, (PHASES,))) for workers in counts]
     beside.append(("the fastest plain Rust, 1 worker", 1, against(rows, 1, PLAIN)))
     if most > 1:
         one, all_of_them = ([figure(own, system=AUCTION, load=load, workers=workers) for load in loads] for workers in counts)
-        beside.append(("the fastest plain Rust, any number of workers", most, against(rows, most, PLAIN, True)))
+        beside.append((FASTEST, most, against(rows, most, PLAIN, True)))
         beside.append((f"{IN_C}, 1 worker", most, against(rows, most, (IN_C,), True)))
         beside.append((f"{AUCTION}, 1 worker", most, [pair for pair in zip(all_of_them, one) if all(pair)]))
-    lines = [[words, str(workers), *multiples(pairs, loads)] for words, workers, pairs in beside]
-    heads = ["The auction's throughput, whole command, as a multiple of that of", "the auction's workers", *loads]
+    lines = [[words, str(workers), *multiples(pairs, loads, words == FASTEST)] for words, workers, pairs in beside]
+    heads = [f"{AUCTION}'s throughput, whole command, as a multiple of that of", f"{AUCTION}'s workers", *loads]
     return table(heads, lines) if own else ""
 
 
-def multiples(pairs: list[tuple[Figure, Figure]], loads: list[str]) -> list[str]:
-    found = {own.load: times_if_apart(own, other) for own, other in pairs}
+def multiples(pairs: list[tuple[Figure, Figure]], loads: list[str], are_named: bool) -> list[str]:
+    """The first of each two as a multiple of the second, and how many workers that has if it is to be named."""
+    found = {own.load: times_told(own, other) + f" ({in_words(other.value)}, {in_workers(other.workers)})" * are_named for own, other in pairs}
     return [found.get(load, "-") for load in loads]
 
 
 # The parts of README.md, and those of docs/PERFORMANCE.md that are no tables.
-OF_README = {"rates": rates, "cost": cost, "gain": gain, "usual": usual, "level": level}
+OF_README = {"rates": rates, "cost": cost, "gain": gain, "usual": usual, "level": level, "lifetime": lifetime}
 OF_PERFORMANCE = {"compared": compared}

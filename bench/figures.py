@@ -17,7 +17,7 @@ from measures import (BIDDING, CATEGORIES, FEW_TRIES, LARGE, MOST_SHARDS, ONE_IT
                       Systems, Tries)
 from programs import in_seconds, say
 
-AUCTION, UNSPLIT = "the auction", "the auction, without splitting"
+AUCTION, UNSPLIT = "Fundreivo", "Fundreivo, without splitting"
 PHASES, SHARDS, LOCK = "plain Rust, the same phases", "plain Rust, a lock per shard", "plain Rust, one lock"
 ALONE, IN_C = "plain Rust, no lock", "C, in one pass"
 SQLITE, POSTGRES = "SQLite in memory", "PostgreSQL"
@@ -42,8 +42,8 @@ AT_ONCE, REDIS, REDIS_LOGGED, POSTGRES_LOGGED = "all read first", "Redis, no log
 WAITS = {"microseconds until a reply, median": 0.5, "microseconds until a reply, 99th percentile": 0.99, "microseconds until a reply, 99.9th percentile": 0.999}
 OPENING = "seconds to open a log"
 # Of many clients of a server.
-SERVERS = {"examples/front.py, no log": (clients.Front, False), REDIS: (clients.Redis, False),
-           "examples/front.py, log synced": (clients.Front, True), REDIS_LOGGED: (clients.Redis, True)}
+FRONT, FRONT_LOGGED = "examples/front.py, no log", "examples/front.py, log synced"
+SERVERS = {FRONT: (clients.Front, False), REDIS: (clients.Redis, False), FRONT_LOGGED: (clients.Front, True), REDIS_LOGGED: (clients.Redis, True)}
 CLIENTS_RATE = "requests a second"
 CLIENT_WAITS = ("milliseconds until a reply, median", "milliseconds until a reply, 99th percentile")
 
@@ -80,12 +80,12 @@ class Figure(NamedTuple):
     requests: int
     measure: str
     value: float
-    least: float
-    greatest: float
+    low: float
+    high: float
 
 
 # The columns that are no whole numbers.
-KINDS = {"table": str, "load": str, "system": str, "measure": str, "value": float, "least": float, "greatest": float}
+KINDS = {"table": str, "load": str, "system": str, "measure": str, "value": float, "low": float, "high": float}
 
 
 class Setup(NamedTuple):
@@ -190,11 +190,6 @@ def by_shards(asked: Namespace) -> list[Wanted]:
     return [of_policy(asked, "shards", UNIFORM, Policy(shards=shards), WHOLE_RATE) for shards in counts]
 
 
-def by_threshold(asked: Namespace) -> list[Wanted]:
-    counts = (8, 1024) if asked.fast else (1, 8, 64, 1024)
-    return [of_policy(asked, "threshold", ONE_ITEM, Policy(threshold=threshold), WHOLE_RATE) for threshold in counts]
-
-
 def request_counts(asked: Namespace, load: Load, workers: int, quarters: tuple[int, ...]) -> list[int]:
     """So many quarters of a load's requests, where the auction takes as many of these workers."""
     counts = (asked.requests // 4 * quarter for quarter in quarters)
@@ -208,7 +203,7 @@ def by_requests(asked: Namespace) -> list[Wanted]:
 
 # What the tables want whose figures are measured together: each setup once, in turns with all others.
 TOGETHER = {"workers": by_workers, "executing": executing, "work": of_processors, "skew": by_skew, "quotas": by_quotas, "delay": by_delay,
-            "shards": by_shards, "threshold": by_threshold, "memory": by_requests}
+            "shards": by_shards, "memory": by_requests}
 
 
 def measured(systems: Systems, way: str, key: tuple) -> dict[str, float]:
@@ -267,7 +262,8 @@ def figure_of(one: Wanted, told: dict[tuple, list[dict[str, float]]]) -> Figure:
     rate = EXECUTING if one.measure == EXECUTING else WHOLE_RATE
     tried = [(setup, told[one.way(), setup.key()]) for setup in one.setup.ways()]
     setup, tries = max(tried, key=lambda pair: Tries.of(done[rate] for done in pair[1]).value)
-    found = Tries.of(done[one.measure] for done in tries)
+    found = [done[one.measure] for done in tries]
+    found = min(found) if one.measure in (PROCESSORS, FAULTS) else Tries.of(found)
     requests = min(int(done[REQUESTS]) for done in tries)
     return row_of(one.table, setup.load, setup.policy, one.measure, found, setup.workers, requests, setup.system)
 
@@ -493,4 +489,4 @@ def all_figures(systems: Systems, asked: Namespace) -> list[Figure]:
     names = asked.only or PARTS
     figures = [figure for name in names if name in APART for figure in APART[name](systems, asked)]
     figures += together(systems, asked, [name for name in names if name in TOGETHER])
-    return [figure._replace(**{name: float(f"{getattr(figure, name):.6g}") for name in ("value", "least", "greatest")}) for figure in figures]
+    return [figure._replace(**{name: float(f"{getattr(figure, name):.6g}") for name in ("value", "low", "high")}) for figure in figures]

@@ -33,16 +33,21 @@ PROGRAM, ONE_PASS = "program", "one_pass"
 FEW_TRIES = 3
 
 
+# How many tries have quartiles.
+ENOUGH = 5
+
+
 class Tries(NamedTuple):
-    """Of some tries the median, the least and the greatest."""
+    """Of some tries the median and the quartiles; of a few the least and the greatest in place of these."""
     value: float
-    least: float
-    greatest: float
+    low: float
+    high: float
 
     @staticmethod
     def of(found: Iterable[float]) -> "Tries":
         found = list(found)
-        return Tries(statistics.median(found), min(found), max(found))
+        low, middle, high = statistics.quantiles(found, method="inclusive") if len(found) >= ENOUGH else (min(found), statistics.median(found), max(found))
+        return Tries(middle, low, high)
 
 
 class Load(NamedTuple):

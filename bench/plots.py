@@ -20,7 +20,7 @@ STYLES = {AUCTION: Style("#c1121f", 0, 3), UNSPLIT: Style("#f4978e", 0), PHASES:
 GLOSSES = {AUCTION: "proved, with a history", PHASES: "no history", ALONE: "one thread executes"}
 
 # What the plot by workers shows; the tables have all.
-SHOWN = (AUCTION, UNSPLIT, PHASES, SHARDS)
+SHOWN = (AUCTION, UNSPLIT, PHASES, SHARDS, ALONE)
 
 PROCESSORS = re.compile(r"on (\d+) (?:virtual )?processors")
 
@@ -56,23 +56,23 @@ def entries(names, left, top, apart, columns=2, dashes=None):
 
 
 def curve(across, up, points, style, dashes=""):
-    """Lines between points, each with the bar of its tries where they differ; a point is a place, its value, and the least and greatest."""
+    """Lines between points, each with the bar of its tries where they differ; a point is a place, its value, and its range."""
     drawn = [(across.at(at), up.at(value)) for at, value, *_ in points]
     if drawn:
         yield path(drawn, style.colour, style.width, dashes)
-    for at, value, least, greatest in points:
-        if least < greatest:
-            yield spread(across.at(at), up.at(least), up.at(greatest), style.colour)
+    for at, value, low, high in points:
+        if low < high:
+            yield spread(across.at(at), up.at(low), up.at(high), style.colour)
     yield from (mark(x, y, style.colour, style.corners) for x, y in drawn)
 
 
 def bars_said(rows):
     """What a picture says of its bars, if it has any."""
-    return " Bars: from the minimum to the maximum." if any(row.least < row.greatest for row in rows) else ""
+    return " Bars: ranges of the tries." if any(row.low < row.high for row in rows) else ""
 
 
 def in_millions(row):
-    return [part / 1e6 for part in (row.value, row.least, row.greatest)]
+    return [part / 1e6 for part in (row.value, row.low, row.high)]
 
 
 def by_workers(rows, place):
@@ -84,10 +84,10 @@ def by_workers(rows, place):
     parts = []
     for at, load in enumerate(loads):
         own, left = [row for row in rows if row.load == load], 84 + at * 332
-        tics = steps(max(row.greatest for row in own) / 1e6)
+        tics = steps(max(row.high for row in own) / 1e6)
         across, up = Axis(counts[0] * 0.85, counts[-1] * 1.15, left, left + 280, True), Axis(0, tics[-1], 370, 80)
         parts += frame(across, up, [(count, str(count)) for count in counts], [(tic, f"{tic:g}") for tic in tics],
-                       ("workers (threads)", "millions of requests per second" if at == 0 else ""))
+                       ("workers", "millions of requests per second" if at == 0 else ""))
         parts += [text(left + 140, 62, load_title(load), 14, weight="bold"), *processors(across, up, place)]
         for system in SHOWN:
             parts += curve(across, up, sorted((row.workers, *in_millions(row)) for row in own if row.system == system), STYLES[system])
@@ -111,11 +111,11 @@ def by_skew(rows, place):
     most = max(row.workers for row in rows)
     rows = [row for row in rows if row.measure == WHOLE_RATE and row.workers == most]
     names = list(dict.fromkeys(row.load for row in rows))
-    drawn = {system: [(names.index(row.load), *in_millions(row)) for row in rows if row.system == system] for system in (*SHOWN, ALONE)}
+    drawn = {system: [(names.index(row.load), *in_millions(row)) for row in rows if row.system == system] for system in SHOWN}
     drawn = {system: points for system, points in drawn.items() if points}
     if not drawn:
         return None
-    tics = steps(max(greatest for points in drawn.values() for *_, greatest in points))
+    tics = steps(max(high for points in drawn.values() for *_, high in points))
     across, up = Axis(-0.2, len(names) - 0.8, 84, 1050, False), Axis(0, tics[-1], 400, 60)
     parts = list(frame(across, up, [(at, name.split("exponent ")[-1].replace("bids on ", "")) for at, name in enumerate(names)],
                        [(tic, f"{tic:g}") for tic in tics], ("exponent of Zipf's law (0: all items alike); last, all bids on one item",
@@ -158,17 +158,16 @@ def by_delay(rows, place):
     points = [delay_point(rows, split) for split in quotas_of(rows)] if any(row.measure == EXECUTING for row in rows) else []
     if not points:
         return None
-    across_tics, up_tics = rounds([value for point in points for value in point[1:3]]), steps(max(point[3].greatest for point in points))
+    across_tics, up_tics = rounds([value for point in points for value in point[1:3]]), steps(max(point[3].high for point in points))
     across, up = Axis(across_tics[0], across_tics[-1], 84, 870, True), Axis(0, up_tics[-1], 400, 60)
     parts = list(frame(across, up, [(tic, f"{tic:g}") for tic in across_tics], [(tic, short(tic)) for tic in up_tics],
                        ("milliseconds until a deferred view is answered: median, and a line to the 99th percentile (logarithmic)", "requests per second")))
     style = STYLES[AUCTION]
-    parts.append(path([(across.at(median), up.at(rate.value)) for _, median, _, rate in points], style.colour, 1, "3 4"))
     for split, median, latest, rate in points:
         x, y = across.at(median), up.at(rate.value)
         parts += [line(x, y, across.at(latest), y, style.colour, 1.5), line(across.at(latest), y - 4, across.at(latest), y + 4, style.colour, 1.5)]
-        if rate.least < rate.greatest:
-            parts.append(spread(x, up.at(rate.least), up.at(rate.greatest), style.colour))
+        if rate.low < rate.high:
+            parts.append(spread(x, up.at(rate.low), up.at(rate.high), style.colour))
         parts += [mark(x, y, style.colour, 0), text(x + 8, y + 19, f"--split {split}", 12, "start", INK)]
     parts.append(text(450, 50, f"{rows[0].load}, executing, {rows[0].workers} workers", 12, fill=GREY))
     title = "Throughput against the delay of deferred views (up and left is better)"
@@ -205,7 +204,7 @@ def by_parts(rows, place):
                        ("N, the most requests of a batch (logarithmic); dashed: no such batches", "requests per second (logarithmic)")))
     styles = {"--live N": STYLES[AUCTION], "--live N --log": STYLES[PHASES]}
     for words, points in served.items():
-        parts += curve(across, up, [(most, row.value, row.least, row.greatest) for most, row in points], styles[words])
+        parts += curve(across, up, [(most, row.value, row.low, row.high) for most, row in points], styles[words])
     levels = sorted((system for system in LEVELS if system in rates), key=lambda system: -rates[system].value)
     parts += level_lines(across, up, [(up.at(rates[system].value), system) for system in levels])
     parts += entries([(words, styles[words]) for words in served], 120, 470, 380)
@@ -219,7 +218,8 @@ def level_lines(across, up, levels):
     last = up.end
     for y, system in levels:
         yield path([(across.begin, y), (across.end, y)], LEVELS[system], 1.5, "6 4")
-        yield text(across.end - 6, y - 5 if y - last > 20 else y + 14, LEVEL_NAMES.get(system, system), 11.5, "end", LEVELS[system])
+        x, anchor = (across.begin + 6, "start") if system == AT_ONCE else (across.end - 6, "end")
+        yield text(x, y - 5 if y - last > 20 else y + 14, LEVEL_NAMES.get(system, system), 11.5, anchor, LEVELS[system])
         last = y
 
 

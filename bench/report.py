@@ -61,7 +61,7 @@ def present(rows: list[Figure]) -> list[str]:
     return [system for system in SYSTEMS if values(rows, system=system)]
 
 
-# What the pages call the row below the auction's that has its gain by workers.
+# What the pages call the row below Fundreivo's that has its gain by workers.
 OVER_ONE = "over one worker"
 
 Column = dict[str, str | int]
@@ -85,7 +85,7 @@ def by_workers(rows: list[Figure]) -> str:
     heads = heads_of((column["load"], column["workers"]) for column in columns)
     rates = table(["Millions of requests per second, whole command", *heads], rate_lines(rows, columns))
     lines = [[load, *over_one(rows, [{"load": load, "workers": workers} for workers in counts])] for load in loads]
-    return rates + "\n" + table(["The auction over one worker, by workers", *map(str, counts)], lines)
+    return rates + "\n" + table(["Fundreivo over one worker, by workers", *map(str, counts)], lines)
 
 
 def executing(rows: list[Figure]) -> str:
@@ -140,19 +140,10 @@ def by_delay(rows: list[Figure]) -> str:
     return table(heads, lines) + f"\n{shown_plot('delay')}"
 
 
-def by_option(rows: list[Figure], name: str) -> str:
-    """Rates by the values of an option."""
-    rows = values(rows, table=name, measure=WHOLE_RATE)
-    heads = [f"{rows[0].load.capitalize()}, {in_workers(rows[0].workers)}, `--{name}`", *(str(getattr(row, name)) for row in rows)]
-    return table(heads, [["millions of requests per second", *map(millions, rows)]])
-
-
 def by_shards(rows: list[Figure]) -> str:
-    return by_option(rows, "shards")
-
-
-def by_threshold(rows: list[Figure]) -> str:
-    return by_option(rows, "threshold")
+    rows = values(rows, table="shards", measure=WHOLE_RATE)
+    heads = [f"{rows[0].load.capitalize()}, {in_workers(rows[0].workers)}, `--shards`", *(str(row.shards) for row in rows)]
+    return table(heads, [["millions of requests per second", *map(millions, rows)]])
 
 
 def growth(rows: list[Figure]) -> str:
@@ -164,7 +155,7 @@ def growth(rows: list[Figure]) -> str:
             return ""
         least, most = min(found, key=lambda row: row.requests), max(found, key=lambda row: row.requests)
         grown.append(round((most.value - least.value) * 1e6 / (most.requests - least.requests), -1))
-    return f"The auction's memory grows by about {grown[0]:.0f} bytes per bid and {grown[1]:.0f} per request of the bidding mix.\n"
+    return f"Fundreivo's memory grows by about {grown[0]:.0f} bytes per bid and {grown[1]:.0f} per request of the bidding mix.\n"
 
 
 def memory(rows: list[Figure]) -> str:
@@ -232,8 +223,7 @@ def bound(rows: list[Figure], system: str, workers: int) -> str:
 
 
 def least_try(rows: list[Figure], system: str, workers: int, measure: str) -> str:
-    found = figure(rows, system=system, workers=workers, measure=measure)
-    return two(found.least if found else None)
+    return two(value(rows, system=system, workers=workers, measure=measure))
 
 
 # What the table of a request's work has, by names.
@@ -285,12 +275,12 @@ PLOTS = {"workers": "Requests per second of whole commands by number of workers"
          "memory": "Memory by requests", "delay": "Throughput against the delay of deferred views, by split quota",
          "live": "Throughput by batch size, with a log and without"}
 
-TABLES = {"workers": by_workers, "executing": executing, "skew": by_skew, "quotas": by_quotas, "shards": by_shards, "threshold": by_threshold,
+TABLES = {"workers": by_workers, "executing": executing, "skew": by_skew, "quotas": by_quotas, "shards": by_shards,
           "memory": memory, "checking": checking, "work": work, "instructions": instructions, "windows": windows, "live": live,
           "clients": many_clients}
 
 # Without a figure of one of these measures a table has nothing to show.
-NEEDED = {"workers": WHOLE_RATE, "executing": EXECUTING, "work": PROCESSORS, "skew": WHOLE_RATE, "shards": WHOLE_RATE, "threshold": WHOLE_RATE}
+NEEDED = {"workers": WHOLE_RATE, "executing": EXECUTING, "work": PROCESSORS, "skew": WHOLE_RATE, "shards": WHOLE_RATE}
 
 
 def shown_plot(name: str) -> str:
@@ -308,8 +298,8 @@ def tables(rows: list[Figure]) -> Iterator[tuple[str, str]]:
 
 def tries_told(systems: measures.Systems) -> str:
     turns, few = systems.turns, systems.few_tries()
-    return (f"Whole commands and executing have {turns} tries, in turns of all commands; of these SQLite and PostgreSQL have at most {few}.\n"
-            f"Histories, clients, and replies while requests come have {few}.")
+    return (f"Whole commands and executing have {turns} tries, interleaved with those of all other commands, SQLite and PostgreSQL at most {few}.\n"
+            f"Histories, clients, and replies as requests arrive have {few}.")
 
 
 def heading(asked: Namespace, systems: measures.Systems, when: str, seconds: float) -> str:
@@ -326,8 +316,7 @@ def heading(asked: Namespace, systems: measures.Systems, when: str, seconds: flo
         lines.append("    example_watch --measure")
     lines.append("")
     if systems.server:
-        lines.append(f"PostgreSQL {systems.server_version} executes as many of the first {systems.few():,} requests of each load as it can in "
-                     f"about {asked.seconds:g} s.")
+        lines.append(f"PostgreSQL {systems.server_version} runs for about {asked.seconds:g} s per load, on its first {systems.few():,} requests.")
     if redis_server.is_there() and "redis" not in asked.skip:
         lines.append(f"Redis is {redis_server.version()}.")
     if "sqlite" not in asked.skip:
@@ -371,7 +360,7 @@ def write_figures(path: str, rows: list[Figure]) -> None:
 def read_figures(path: str) -> list[Figure]:
     """The figures of a file; of one try each, where it says nothing of others."""
     with open(path, newline="") as text:
-        lines = ({"least": line["value"], "greatest": line["value"], **line} for line in csv.DictReader(text))
+        lines = ({"low": line["value"], "high": line["value"], **line} for line in csv.DictReader(text))
         return [Figure(**{name: figures.KINDS.get(name, int)(word) for name, word in line.items()}) for line in lines]
 
 

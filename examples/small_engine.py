@@ -100,15 +100,9 @@ def records_of(path):
         yield record
 
 
-def main():
-    words = parser_of(__doc__)
-    words.add_argument("input", metavar="INPUT", help="rows and scripts, as docs/FORMATS.md has them")
-    words.add_argument("seed", metavar="SEED", help="a text that gives the order")
-    words.add_argument("--stale", action="store_true", help="views of items read the second copy")
-    words.add_argument("--users", type=int, default=100, help="users of the auction [default: 100]")
-    words.add_argument("--categories", type=int, default=10, help="categories of the auction [default: 10]")
-    asked = words.parse_args()
-    scripts, auction, picks, done = {}, Auction(asked.users, asked.categories), random.Random(asked.seed), {}
+def opened(asked):
+    """The auction with the rows of an input, and the scripts of its workers."""
+    scripts, auction = {}, Auction(asked.users, asked.categories)
     for worker, kind, *fields in records_of(asked.input):
         if not kind.startswith("+"):
             scripts.setdefault(int(worker), []).append((kind, fields))
@@ -116,6 +110,23 @@ def main():
             end(f"{asked.input}: a row is refused: {reason}")
         else:
             auction.store(int(worker), kind[1:], fields)
+    return auction, scripts
+
+
+def words_of(text):
+    words = parser_of(text)
+    words.add_argument("input", metavar="INPUT", help="rows and scripts, as docs/FORMATS.md has them")
+    words.add_argument("--users", type=int, default=100, help="users of the auction [default: 100]")
+    words.add_argument("--categories", type=int, default=10, help="categories of the auction [default: 10]")
+    return words
+
+
+def main():
+    words = words_of(__doc__)
+    words.add_argument("seed", metavar="SEED", help="a text that gives the order")
+    words.add_argument("--stale", action="store_true", help="views of items read the second copy")
+    asked = words.parse_args()
+    (auction, scripts), picks, done = opened(asked), random.Random(asked.seed), {}
     turns = [worker for worker, script in scripts.items() for _ in script]
     picks.shuffle(turns)
     for number, worker in enumerate(turns):
@@ -127,4 +138,5 @@ def main():
         print(0, number, worker, index, reader.answer(worker, kind, fields))
 
 
-main()
+if __name__ == "__main__":
+    main()

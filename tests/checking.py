@@ -32,7 +32,7 @@ UNREADABLE = "not PHASE NUMBER WORKER INDEX TEXT and a line feed"
 READ_AT_ONCE = 1 << 16
 LARGE = Options(workers=16, joined=4096, split=4096, threshold=64)
 FEW = Options(workers=2, users=10, categories=2)
-SMALL_ENGINE = [sys.executable, "-B", EXAMPLES / "small_engine.py"]
+SMALL_ENGINE, REPLAY = ([sys.executable, "-B", EXAMPLES / name] for name in ("small_engine.py", "replay.py"))
 # The load of docs/CHECKING.md, the seed, and how many lines of the history it shows.
 WALK, WALK_SEED, WALK_LINES = Plan(workers=4, items=10, skew=150, views=50), "2", 4
 
@@ -415,7 +415,7 @@ def load(rng: random.Random, share: float) -> bytes:
 
 
 def small_engine(tester: Tester) -> None:
-    """an engine in another language, without its bug and with it"""
+    """an engine in another language, without its bug and with it, and what examples/replay.py says of its histories and of altered ones"""
     found_stale = 0
     for workers, scripts, path in small_inputs(tester.folder):
         for seed in map(str, range(10)):
@@ -424,7 +424,28 @@ def small_engine(tester: Tester) -> None:
             got = run(tester.command(stale, Options(workers=workers)), scripts)
             tester.tally.check(got.status == (0 if stale == right else 5), f"the stale engine at {seed}: got {got}")
             found_stale += stale != right
+        for what, history in {"right": right, "stale": stale, **altered(right)}.items():
+            replayed(tester, f"a history that is {what}", path, history, run(tester.command(history, Options(workers=workers)), scripts))
     tester.tally.check(found_stale > 0, "the stale engine answers as the right one does")
+
+
+def altered(history: bytes) -> dict[str, bytes]:
+    first, *others = history.splitlines(keepends=True)
+    phase, number, worker, _, text = first.split(b" ", 4)
+    return {
+        "without its last line": b"".join((first, *others[:-1])),
+        "with its first line twice": b"".join((first, first, *others)),
+        "with an index of no request": b" ".join((phase, number, worker, b"1000", text)),
+        "with a line that ends early": history[:-1],
+    }
+
+
+def replayed(tester: Tester, what: str, scripts: Path, history: bytes, wanted: Outcome) -> None:
+    """The unproved referee of the examples gives the verdict that the proved one gave."""
+    path = tester.folder / "replayed.history"
+    path.write_bytes(history)
+    got = run([*REPLAY, scripts, path])
+    tester.tally.check((got.status, got.stdout) == (wanted.status, wanted.stdout), f"examples/replay.py of {what}: {got}, not {wanted}")
 
 
 def small_inputs(folder: Path) -> Iterator[tuple[int, bytes, Path]]:

@@ -139,9 +139,9 @@ def interrupted_calls(tester: Tester) -> None:
 # Threads.
 
 LONG_PHASES = Options(workers=4, joined=1000, split=1000)
-OF_EACH_WORKER = 2000
-# To read the input, and for each of two phases.
-NEEDED = 3 * 3
+OF_EACH_WORKER = 3000
+# To read the input, to join what was read, and for each of three phases.
+NEEDED = 3 * 5
 # With at most so many requests of each worker a phase is short.
 SHORT = 128
 SHORT_PHASES = replace(LONG_PHASES, joined=64, split=64)

@@ -7,7 +7,7 @@ form, it is below the specified one, and the table of docs/DECISIONS.md names th
 """
 
 import re
-from dataclasses import dataclass, field
+from dataclasses import dataclass, field, replace
 from functools import cache
 from itertools import groupby, product
 from typing import Iterator
@@ -238,12 +238,22 @@ def compare(tally: Tally, one: Listed) -> None:
         tally.check(False, f"{one.crate}: `{wanted}` is missing")
     else:
         item, there = found
-        tally.check(wanted.is_met_by(there), f"{item.path.relative_to(TESTS.parent)}: {difference(wanted, there)}")
+        tally.check(any(wanted.is_met_by(each) for each in instances(crates()[one.here_crate], item, there)), f"{item.path.relative_to(TESTS.parent)}: {difference(wanted, there)}")
     if here:
         tally.check(not specified.is_met_by(wanted), f"{one.crate}: `{said.name}` is listed twice in its specified form")
     if one.here:
         names = {said.name, *(f"{said.name}::{Tokens(each).peek()}" for each in specified.members)}
         tally.check(bool(names & names_in_rows()), f"{DECISIONS.name} has a row of `{said.name}` of {one.crate}, as its form is another")
+
+
+def instances(crate: Crate, item: Item, general: Form) -> Iterator[Form]:
+    """A form, and its forms for the types that have a trait of the crate, if a type parameter asks for just that trait."""
+    yield general
+    for impl in crate.impls():
+        of_trait = {of for of, bounds in item.generics.items() if bounds == str(impl.of_trait)}
+        type_ = scope_of(impl, Scope({}, aliases())).of(impl.type)
+        if of_trait:
+            yield replace(general, parameters=tuple((name, type_ if of in of_trait else of) for name, of in general.parameters))
 
 
 def difference(wanted: Form, found: Form) -> str:

@@ -1,6 +1,6 @@
 #!/usr/bin/env python3
-"""Shows that the tools do as they say: bench/tune, whose command has to run, bench/starts, the help of example_watch, loads of applications, bench/applications,
-man pages, and what each script says of wrong words, of what is not there, and of an interruption.
+"""Shows that the tools do as they say: bench/tune, whose command has to run, bench/starts, the help of example_watch, loads of applications, man pages,
+bench/applications, the sentences of bench/claims.py, and what each script says of wrong words, of what is not there, and of an interruption.
 
     tests/tools.py [PROGRAM]
 """
@@ -259,12 +259,44 @@ def figures_of_applications(tally: Tally, _program: Path) -> None:
     tally.check(got.status == 1 and b"/bin/true --workers=1 --requests=4000" in got.stderr.splitlines()[-1], f"bench/applications of no bank: {described(got)}")
 
 
+# Figures of a page, made up: of each load, system and number of workers the median rate and its range. What claims.py makes of them follows.
+MADE_UP = {
+    ("bids on one item", "Fundreivo", 4): (10, 9, 11), ("bids on one item", "Fundreivo", 1): (8, 7, 9.2),
+    ("bids on one item", "Fundreivo, without splitting", 4): (5, 4, 6),
+    ("bids on one item", "plain Rust, no lock", 4): (14, 6, 18), ("bids on one item", "plain Rust, no lock", 2): (13, 12, 14),
+    ("bidding mix", "Fundreivo", 4): (2, 1.5, 2.5), ("bidding mix", "plain Rust, no lock", 4): (5, 4, 6),
+    ("bidding mix", "Fundreivo, without splitting", 4): (2, 1, 3), ("bids on one item", "C, in one pass", 1): (20, 19, 21),
+}
+CLAIMS = """
+import claims
+from figures import Figure, WHOLE_RATE
+rows = [Figure("workers", load, system, workers, 0, 64, 4096, 8, 8, 4 * workers, 480000, WHOLE_RATE, *(1e6 * part for part in rates))
+        for (load, system, workers), rates in {}.items()]
+print(claims.cost(rows), claims.gain(rows), claims.level(rows), sep="\\n")
+"""
+CLAIMED = """\
+Whole commands with 4 workers reach 0.50 (bids on one item) and 0.40 (the bidding mix) of the throughput of the fastest plain Rust or C
+Bids on one item, `--fast`, 4 workers: 10 million requests per second, 8.0 million (1 worker, ranges overlap); without splitting, on one thread, \
+5.0 million; fastest plain Rust without phases: 14 million (ranges overlap)
+Fundreivo, beside itself without splitting, is 2.0 times as fast on bids on one item; on the other loads ranges overlap. One executing thread of plain Rust \
+without locks, beside Fundreivo, is 2.5 times as fast on the bidding mix; on the other loads ranges overlap. C in one pass, beside Fundreivo, is 2.0 times as fast on \
+these loads
+"""
+
+
+def claims_of_figures(tally: Tally, _program: Path) -> None:
+    """what README.md says of made-up figures: the fastest by its value, and where ranges overlap"""
+    got = run([*PYTHON, "-c", CLAIMS.format(MADE_UP)], env=os.environ | {"PYTHONPATH": str(BENCH)})
+    tally.same("bench/claims.py", got, Outcome(0, CLAIMED.encode(), b""))
+
+
 def main() -> None:
     parser = parser_of(__doc__)
     parser.add_argument("program", type=executable, nargs="?", default=str(BUILT))
     program = parser.parse_args().program
     tally = Tally()
-    for check in (tuned, starts, helps_of_windows, loads_of_applications, figures_of_applications, answers, interruptions, builds, man_pages):
+    of_programs = (tuned, starts, helps_of_windows, loads_of_applications, man_pages)
+    for check in (*of_programs, figures_of_applications, claims_of_figures, answers, interruptions, builds):
         passed = tally.passed
         check(tally, program)
         print(f"{tally.passed - passed:6} passed: {check.__doc__}")

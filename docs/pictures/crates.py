@@ -15,7 +15,7 @@ from phases import GROUND, INK, text
 LAYERS = {
     "theory": {"phase_laws": 420},
     "model and records": {"auction_rows": 420, "split_records": 670, "top_records": 670, "item_shards": 690, "request_scripts": 540, "worker_journals": 420, "run_laws": 210, "keyed_laws": 100,
-                          "auction_window": 350, "hot_choice": 510, "example_mean": 880, "record_tests": 790},
+                          "auction_window": 350, "hot_choice": 510, "example_mean": 880, "test_values": 340, "record_tests": 790},
     "engine": {"job_threads": 320, "split_engine": 180, "application_tests": 325, "ruled_cell": 800, "shard_boxes": 690, "auction_shards": 770,
                "worker_slices": 600, "phase_transactions": 600, "phase_permits": 600, "closing_laws": 640, "phase_floor": 630, "phase_workers": 420,
                "run_phases": 560, "auction_run": 560},
@@ -111,9 +111,7 @@ def bands(rows, height):
         tall = len(layer) * ROW + PADDING
         y -= tall
         yield f'<rect x="0" y="{y:g}" width="{WIDTH}" height="{tall:g}" fill="{(GROUND, "white")[number % 2]}"/>'
-        words = name.split(", ") if ", " in name else [name]
-        for at, part in enumerate(words):
-            yield text(14, f"{y + tall / 2 + 5 + 17 * (at - (len(words) - 1) / 2):g}", part + "," * (at + 1 < len(words)), 13, "start", "#555555", "bold")
+        yield text(14, f"{y + 13:g}", name, 13, "start", "#555555", "bold")
 
 
 def legend(y):

@@ -93,7 +93,7 @@ def crashes():
         yield text((synced + until) / 2, CRASH + 3, "all rows of", 12)
         yield text((synced + until) / 2, CRASH + 19, "this part", 12)
         yield line(synced, PROGRAM + 18, synced, CRASH + 28, SHARD, 1.2, "2 3")
-    yield text(150, 376, "At the next start an incomplete last line is removed; the remaining rows restore the auction.", 12, "start", "#555555")
+    yield text(150, 376, "At the next start an incomplete last row is moved to FILE.cut; the other rows restore the auction.", 12, "start", "#555555")
 
 
 def picture():
