@@ -8,7 +8,8 @@ use split_engine::{HistoryFault, Line, check_history, perform};
 use std::alloc::{AllocError, Global};
 use std::test::Fail;
 
-fn line(worker: u32, index: u32, reply: CounterReply) -> Line<CounterReply> {
+/// A line of a history.
+pub(crate) fn line(worker: u32, index: u32, reply: CounterReply) -> Line<CounterReply> {
     Line {
         worker,
         index,

@@ -3,9 +3,11 @@
 use crate::counters::CounterRequest::{Add, Least, Read, Unknown};
 use crate::counters::{CounterReply, CounterRequest, Counters};
 use split_engine::{
-    Entry, Policy, ScriptFault, check_scripts, run, runs_replay_as_one, split_phases_replay,
+    History, Outcome, Policy, ScriptFault, check_scripts, run, runs_replay_as_one,
+    split_phases_replay,
 };
 use std::alloc::{AllocError, Global};
+use std::process::Abort;
 use std::test::Fail;
 
 // A commit without its request.
@@ -13,13 +15,28 @@ type Told = (u32, u32, CounterReply);
 
 fn told(
     alloc: Global,
-    history: &[Entry<CounterRequest, CounterReply>],
+    history: &History<CounterRequest, CounterReply>,
 ) -> Result<Vec<Told>, AllocError> {
     let mut all = Vec::with_capacity(alloc, history.len())?;
-    for entry in history {
-        all.push((entry.worker, entry.index, entry.reply))?;
+    for piece in history.pieces() {
+        for entry in piece {
+            all.push((entry.worker, entry.index, entry.reply))?;
+        }
     }
     Ok(all)
+}
+
+// Asserts the commits of a run, and what its counters show then.
+fn assert_left(
+    rt: &impl Abort,
+    alloc: Global,
+    outcome: &Outcome<Counters>,
+    commits: &[Told],
+    table: &[u64],
+) -> Result<(), AllocError> {
+    assert_eq!(rt; told(alloc, &outcome.history)?.as_slice(), commits);
+    assert_eq!(rt; outcome.table.as_slice(), table);
+    Ok(())
 }
 
 fn policy(rounds: usize, threshold: u32) -> Policy {
@@ -62,11 +79,7 @@ fn three_workers_share_counters(rt: HostRuntime) -> Result<(), Fail> {
         (0, 3, CounterReply::Added),
         (1, 1, CounterReply::Shows(25)),
     ];
-    assert_eq!(rt;
-        told(alloc, &outcome.history)?.as_slice(),
-        wanted.as_slice()
-    );
-    assert_eq!(rt; outcome.table.as_slice(), [26, 25, 1, 4].as_slice());
+    assert_left(&rt, alloc, &outcome, &wanted, &[26, 25, 1, 4])?;
     Ok(())
 }
 
@@ -88,8 +101,8 @@ fn nothing_is_split(rt: HostRuntime) -> Result<(), Fail> {
             policy(rounds, threshold),
         )?;
         let mut shown = Vec::new(alloc);
-        for entry in &outcome.history {
-            if let CounterReply::Shows(count) = entry.reply {
+        for (_, _, reply) in told(alloc, &outcome.history)? {
+            if let CounterReply::Shows(count) = reply {
                 shown.push(count)?;
             }
         }
@@ -123,10 +136,7 @@ fn a_run_goes_on(rt: HostRuntime) -> Result<(), Fail> {
         (1, 0, CounterReply::Added),
         (0, 1, CounterReply::Shows(8)),
     ];
-    assert_eq!(rt;
-        told(alloc, &outcome.history)?.as_slice(),
-        wanted.as_slice()
-    );
+    assert_left(&rt, alloc, &outcome, &wanted, &[9, 8])?;
     let first = vec![in alloc; Read { counter: 0 }, Add { to: (1, 1), by: 1 }]?;
     let second = vec![in alloc; Add { to: (0, 1), by: 10 }]?;
     let outcome = run::<Counters, HostRuntime>(
@@ -141,11 +151,7 @@ fn a_run_goes_on(rt: HostRuntime) -> Result<(), Fail> {
         (1, 0, CounterReply::Added),
         (0, 1, CounterReply::Added),
     ];
-    assert_eq!(rt;
-        told(alloc, &outcome.history)?.as_slice(),
-        wanted.as_slice()
-    );
-    assert_eq!(rt; outcome.table.as_slice(), [19, 20].as_slice());
+    assert_left(&rt, alloc, &outcome, &wanted, &[19, 20])?;
     Ok(())
 }
 
@@ -178,11 +184,7 @@ fn four_counters_and_none(rt: HostRuntime) -> Result<(), Fail> {
         (0, 2, CounterReply::Added),
         (0, 3, CounterReply::Shows(5)),
     ];
-    assert_eq!(rt;
-        told(alloc, &outcome.history)?.as_slice(),
-        wanted.as_slice()
-    );
-    assert_eq!(rt; outcome.table.as_slice(), [16, 13, 5, 6].as_slice());
+    assert_left(&rt, alloc, &outcome, &wanted, &[16, 13, 5, 6])?;
     Ok(())
 }
 

@@ -101,11 +101,13 @@ fn show<R: Threads + Wait + Sync + Print + Alloc<A = Global>>(rt: &R) -> Result<
 
 // The history in the order in which it replays, and what the accounts hold after it.
 fn print_outcome(rt: &impl Print, outcome: &Outcome<Bank>) -> io::Result<()> {
-    for entry in &outcome.history {
-        println!(rt;
-            "worker {}, request {}: {:?}",
-            entry.worker, entry.index, entry.reply
-        )?;
+    for piece in outcome.history.pieces() {
+        for entry in piece {
+            println!(rt;
+                "worker {}, request {}: {:?}",
+                entry.worker, entry.index, entry.reply
+            )?;
+        }
     }
     for (number, account) in outcome.table.iter().enumerate() {
         println!(rt; "account {number}: {}", account.held)?;

@@ -75,11 +75,13 @@ fn show<R: Threads + Wait + Sync + Print + Alloc<A = Global>>(rt: &R) -> Result<
     ]?;
     let scripts = [first, second];
     let outcome = run::<Likes, R>(rt, alloc, tallies, &scripts, POLICY)?;
-    for entry in &outcome.history {
-        println!(rt;
-            "worker {}, request {}: {:?}",
-            entry.worker, entry.index, entry.reply
-        )?;
+    for piece in outcome.history.pieces() {
+        for entry in piece {
+            println!(rt;
+                "worker {}, request {}: {:?}",
+                entry.worker, entry.index, entry.reply
+            )?;
+        }
     }
     Ok(())
 }

@@ -1,5 +1,6 @@
 mod Splits
 mod Works
+mod Pieces
 mod KeptSlices
 mod States
 mod Ends

@@ -68,7 +68,7 @@ fn perform_call<A: Application>(
     requires within { IsWithin A.rules (length so_far.old.table.items) call.now.1 }
     requires fits { (n : ℕ) × (n + MOST_KEYS ≤ most_acts)
         × AllByRecursion (A.fits n) so_far.old.table.items }
-    ensures history { OnOk result (so_far.new.history.items ≡ so_far.old.history.items
+    ensures history { OnOk result (so_far.new.history ≡ so_far.old.history
         ++ commit worker call.now (reply A.rules so_far.old.table.items call.now.1) ∷ []) }
     ensures table { so_far.new.table.items ≡ next A.rules so_far.old.table.items call.now.1 }
     ensures fits { (n : ℕ) → AllByRecursion (A.fits n) so_far.old.table.items →
@@ -96,7 +96,7 @@ fn perform_all<A: Application>(
     requires fits { (n : ℕ) × (n + MOST_KEYS * length calls.now < most_acts)
         × AllByRecursion (A.fits n) so_far.old.table.items }
     ensures performed { OnOk result ((more : List (Commit A.Request A.Reply))
-        × (so_far.new.history.items ≡ so_far.old.history.items ++ more)
+        × (so_far.new.history ≡ so_far.old.history ++ more)
         × HasPerformed A.rules worker calls.now
         so_far.old.table.items so_far.new.table.items more) }
     ensures same { length so_far.new.table.items ≡ length so_far.old.table.items }
@@ -139,14 +139,14 @@ fn take_turn<A: Application>(
 ) -> Result<(), AllocError>
     requires script { IsScript A.rules (length so_far.old.table.items) script.now }
     requires served { HasServed A.rules (length so_far.old.table.items) worker script.now
-        cursor.old so_far.old.history.items }
+        cursor.old so_far.old.history }
     requires fits { (n : ℕ) × (n < most_before)
-        × AllByRecursion (A.fits (n + MOST_KEYS * length so_far.old.history.items)) so_far.old.table.items }
-    requires room { length so_far.old.history.items + length cursor.old.stash.items
+        × AllByRecursion (A.fits (n + MOST_KEYS * length so_far.old.history)) so_far.old.table.items }
+    requires room { length so_far.old.history + length cursor.old.stash.items
         + length script.now ≤ MOST_COMMITS + cursor.old.next }
     ensures turned { OnOk result (HasTurned A.rules A.fits worker script.now
-        so_far.old.table.items so_far.old.history.items
-        so_far.new.table.items so_far.new.history.items cursor.new) }
+        so_far.old.table.items so_far.old.history
+        so_far.new.table.items so_far.new.history cursor.new) }
     ensures ends { OnOk result (most_acts ≤ quota →
         (cursor.new.next ≡ length script.now) × (cursor.new.stash.items ≡ [])) }
 {
@@ -154,6 +154,18 @@ fn take_turn<A: Application>(
     perform_all::<A>(so_far, worker, &cursor.stash)?;
     cursor.stash.clear();
     Ok(())
+}
+
+// How many requests the workers' turns perform.
+fn count_calls<Q>(scripts: &[Vec<Q>], quota: usize, cursors: &[Cursor<Q>]) -> usize {
+    let mut count: usize = 0;
+    for (script, cursor) in scripts.iter().zip(cursors) {
+        let left = script.len().saturating_sub(cursor.next).min(quota);
+        count = count
+            .saturating_add(cursor.stash.len())
+            .saturating_add(left);
+    }
+    count
 }
 
 /// Performs a joined phase: each worker's turn.
@@ -167,16 +179,18 @@ pub(crate) fn joined_phase<A: Application>(
     requires state { (n : ℕ) × (opened : List A.Record) × (n < most_before)
         × AllByRecursion (IsScript A.rules (length opened)) (lists scripts.now)
         × IsRunState A.rules A.fits n opened (lists scripts.now)
-        state.old.so_far.table.items state.old.so_far.history.items state.old.cursors.items }
+        state.old.so_far.table.items state.old.so_far.history state.old.cursors.items }
     ensures ends { OnOk result (most_acts ≤ quota →
         AllFinished (lists scripts.now) state.new.cursors.items) }
     ensures state { (n : ℕ) (opened : List A.Record) → n < most_before →
         AllByRecursion (IsScript A.rules (length opened)) (lists scripts.now) →
         IsRunState A.rules A.fits n opened (lists scripts.now)
-        state.old.so_far.table.items state.old.so_far.history.items state.old.cursors.items →
+        state.old.so_far.table.items state.old.so_far.history state.old.cursors.items →
         OnOk result (IsRunState A.rules A.fits n opened (lists scripts.now)
-        state.new.so_far.table.items state.new.so_far.history.items state.new.cursors.items) }
+        state.new.so_far.table.items state.new.so_far.history state.new.cursors.items) }
 {
+    let calls = count_calls(scripts, quota, &state.cursors);
+    state.so_far.history.open(calls)?;
     for worker in 0..scripts.len() {
         take_turn::<A>(
             &mut state.so_far,

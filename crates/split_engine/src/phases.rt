@@ -13,7 +13,7 @@ ghost use Rattle.split_engine.specs.inner.Assignments.{Assignment, assignment, a
 use crate::application::Application;
 use crate::fault::RunFault;
 use crate::few::MOST_KEYS;
-use crate::slices::Guesses;
+use crate::hints::{Hints, room_after};
 use crate::split::{SplitData, SplitPhase, SplitPlan, SplitTask, begin};
 use crate::state::{Cursor, MOST_COMMITS, Outcome, RunState};
 use job_threads::work_all;
@@ -27,7 +27,7 @@ fn tasks<'a, A: Application>(
     phase: SplitPhase<'a, A>,
     scripts: &'a [Vec<A::Request>],
     cursors: Vec<Cursor<A::Request>>,
-    mut guesses: Vec<Guesses>,
+    mut hints: Vec<Hints>,
 ) -> Result<Vec<SplitTask<'a, A>>, AllocError>
     requires few { length scripts.now < index_end }
     requires quota { MOST_KEYS * phase.plan.quota < most_acts }
@@ -64,7 +64,7 @@ fn tasks<'a, A: Application>(
                 alloc,
                 phase.table.len(),
                 cursor,
-                guesses.pop().unwrap_or(Vec::new(alloc)),
+                hints.pop().unwrap_or(Hints::none(alloc)),
             )?,
         })?;
     }
@@ -76,26 +76,26 @@ fn take_in<A: Application>(state: RunState<A>, own: SplitData<A>) -> Result<RunS
     requires done { (given : Assignment A.Record A.Request)
         × (length given.table ≡ length state.so_far.table.items)
         × HasDone A.rules A.is_small given own.cursor own.journal.items own.slices }
-    requires room { length state.so_far.history.items + length own.journal.items ≤ MOST_COMMITS }
+    requires room { length state.so_far.history + length own.journal.items ≤ MOST_COMMITS }
     requires fits { (n : ℕ) × (n < most_before)
-        × AllByRecursion (A.fits (n + MOST_KEYS * length state.so_far.history.items))
+        × AllByRecursion (A.fits (n + MOST_KEYS * length state.so_far.history))
         state.so_far.table.items }
     ensures table { IfOk result (λ new.
         new.so_far.table.items ≡ merged_all A.rules state.so_far.table.items own.slices) }
     ensures history { IfOk result (λ new.
-        new.so_far.history.items ≡ state.so_far.history.items ++ own.journal.items) }
+        new.so_far.history ≡ state.so_far.history ++ own.journal.items) }
     ensures cursors { IfOk result (λ new.
         new.cursors.items ≡ state.cursors.items ++ own.cursor ∷ []) }
     ensures fits { (n : ℕ) →
-        AllByRecursion (A.fits (n + MOST_KEYS * length state.so_far.history.items))
+        AllByRecursion (A.fits (n + MOST_KEYS * length state.so_far.history))
         state.so_far.table.items →
         IfOk result (λ new.
-        AllByRecursion (A.fits (n + MOST_KEYS * length new.so_far.history.items)) new.so_far.table.items) }
+        AllByRecursion (A.fits (n + MOST_KEYS * length new.so_far.history)) new.so_far.table.items) }
 {
     let RunState {
         so_far,
         mut cursors,
-        mut guesses,
+        mut hints,
     } = state;
     let Outcome {
         mut history,
@@ -103,16 +103,23 @@ fn take_in<A: Application>(state: RunState<A>, own: SplitData<A>) -> Result<RunS
     } = so_far;
     let SplitData {
         cursor,
-        mut journal,
+        journal,
         slices,
     } = own;
-    guesses.push(slices.merge_into(&mut table))?;
-    history.append(&mut journal)?;
+    let commits = room_after(journal.len());
+    let kept = room_after(slices.count());
+    let guesses = slices.merge_into(&mut table);
+    hints.push(Hints {
+        guesses,
+        commits,
+        slices: kept,
+    })?;
+    history.add(journal)?;
     cursors.push(cursor)?;
     Ok(RunState {
         so_far: Outcome { history, table },
         cursors,
-        guesses,
+        hints,
     })
 }
 
@@ -123,9 +130,9 @@ fn take_in_all<A: Application>(
     answers: Vec<Result<SplitData<A>, AllocError>>,
 ) -> Result<RunState<A>, AllocError>
     requires fits { (n : ℕ) × (n < most_before)
-        × AllByRecursion (A.fits (n + MOST_KEYS * length so_far.history.items)) so_far.table.items }
+        × AllByRecursion (A.fits (n + MOST_KEYS * length so_far.history)) so_far.table.items }
     requires done { (given : List (Assignment A.Record A.Request))
-        × (length so_far.history.items + all_left given ≤ MOST_COMMITS)
+        × (length so_far.history + all_left given ≤ MOST_COMMITS)
         × AllByRecursion (λ a. a.cursor.next ≤ length a.script) given
         × AllByRecursion (λ a. a.table ≡ so_far.table.items) given
         × AllZip (λ a answer. IfOk answer (λ own.
@@ -138,14 +145,14 @@ fn take_in_all<A: Application>(
         HasDone A.rules A.is_small a own.cursor own.journal.items own.slices))
         given answers.items →
         IfOk result (λ state. HasClosed A.rules A.is_small A.fits given
-        so_far.table.items so_far.history.items
-        state.so_far.table.items state.so_far.history.items state.cursors.items) }
+        so_far.table.items so_far.history
+        state.so_far.table.items state.so_far.history state.cursors.items) }
 {
     let cursors = Vec::with_capacity(alloc, answers.len())?;
     let mut state = RunState {
         so_far,
         cursors,
-        guesses: Vec::new(alloc),
+        hints: Vec::new(alloc),
     };
     for answer in answers {
         state = take_in::<A>(state, answer?)?;
@@ -164,7 +171,7 @@ fn close<A: Application>(
     requires total { total (lists scripts.now) ≤ MOST_COMMITS }
     requires done { (n : ℕ) × (opened : List A.Record) × (cursors : List (CursorValue A.Request))
         × (n < most_before) × IsRunState A.rules A.fits n opened (lists scripts.now)
-        so_far.table.items so_far.history.items cursors
+        so_far.table.items so_far.history cursors
         × AllZip (λ a answer. IfOk answer (λ own.
         HasDone A.rules A.is_small a own.cursor own.journal.items own.slices))
         (assignments so_far.table.items plan.hot.now plan.quota 0 (lists scripts.now) cursors)
@@ -172,14 +179,14 @@ fn close<A: Application>(
     ensures { (n : ℕ) (opened : List A.Record) (cursors : List (CursorValue A.Request)) →
         AllByRecursion (IsScript A.rules (length opened)) (lists scripts.now) →
         IsRunState A.rules A.fits n opened (lists scripts.now)
-        so_far.table.items so_far.history.items cursors →
+        so_far.table.items so_far.history cursors →
         AllZip (λ a answer. IfOk answer (λ own.
         HasDone A.rules A.is_small a own.cursor own.journal.items own.slices))
         (assignments so_far.table.items plan.entry.hot.now plan.entry.quota 0
         (lists scripts.now) cursors)
         answers.items →
         IfOk result (λ new. IsRunState A.rules A.fits n opened (lists scripts.now)
-        new.so_far.table.items new.so_far.history.items new.cursors.items) }
+        new.so_far.table.items new.so_far.history new.cursors.items) }
 {
     take_in_all::<A>(alloc, so_far, answers)
 }
@@ -206,25 +213,25 @@ where
     requires state { (n : ℕ) × (opened : List A.Record) × (n < most_before)
         × AllByRecursion (IsScript A.rules (length opened)) (lists scripts.now)
         × IsRunState A.rules A.fits n opened (lists scripts.now)
-        state.so_far.table.items state.so_far.history.items state.cursors.items }
+        state.so_far.table.items state.so_far.history state.cursors.items }
     ensures fault { IfErr result (IsRunFault (length scripts.now)) }
     ensures state { (n : ℕ) (opened : List A.Record) → n < most_before →
         AllByRecursion (IsScript A.rules (length opened)) (lists scripts.now) →
         IsRunState A.rules A.fits n opened (lists scripts.now)
-        state.so_far.table.items state.so_far.history.items state.cursors.items →
+        state.so_far.table.items state.so_far.history state.cursors.items →
         IfOk result (λ new. IsRunState A.rules A.fits n opened (lists scripts.now)
-        new.so_far.table.items new.so_far.history.items new.cursors.items) }
+        new.so_far.table.items new.so_far.history new.cursors.items) }
 {
     let RunState {
         so_far,
         cursors,
-        guesses,
+        hints,
     } = state;
     let phase = SplitPhase {
         table: &so_far.table,
         plan,
     };
-    let tasks = tasks::<A>(alloc, phase, scripts, cursors, guesses)?;
+    let tasks = tasks::<A>(alloc, phase, scripts, cursors, hints)?;
     let answers = work_all(rt, alloc, tasks)?;
     Ok(close::<A>(alloc, scripts, plan, so_far, answers)?)
 }

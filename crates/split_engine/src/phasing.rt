@@ -82,17 +82,16 @@ impl Phasing {
         Ok(())
     }
 
-    /// Chooses by the splittable requests from a place of the history on.
+    /// Chooses by the splittable requests of these commits.
     pub(crate) fn choose<A: Application>(
         &mut self,
-        history: &[Entry<A::Request, A::Reply>],
-        from: usize,
+        commits: &[Entry<A::Request, A::Reply>],
     ) -> Result<(), AllocError>
         ensures { length self.new.hot.items ≡ length self.old.hot.items }
     {
         self.forget();
-        for place in from..history.len() {
-            let request = history[place].request;
+        for place in 0..commits.len() {
+            let request = commits[place].request;
             if A::splits(&request) {
                 let keys = A::keys(&request);
                 self.count_keys(&keys)?;

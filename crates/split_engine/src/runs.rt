@@ -9,6 +9,7 @@ ghost use Rattle.split_engine.specs.inner.Phases.{IsRunState, AreFresh, AllFinis
 use crate::application::Application;
 use crate::fault::RunFault;
 use crate::few::MOST_KEYS;
+use crate::history::History;
 use crate::joined::joined_phase;
 use crate::phases::split_phase;
 use crate::phasing::Phasing;
@@ -86,20 +87,19 @@ where
     requires state { (n : ℕ) × (opened : List A.Record) × (n < most_before)
         × AllByRecursion (IsScript A.rules (length opened)) (lists scripts.now)
         × IsRunState A.rules A.fits n opened (lists scripts.now)
-        state.so_far.table.items state.so_far.history.items state.cursors.items }
+        state.so_far.table.items state.so_far.history state.cursors.items }
     ensures hot { length phasing.new.hot.items ≡ length phasing.old.hot.items }
     ensures fault { IfErr result (IsRunFault (length scripts.now)) }
     ensures state { (n : ℕ) (opened : List A.Record) → n < most_before →
         AllByRecursion (IsScript A.rules (length opened)) (lists scripts.now) →
         IsRunState A.rules A.fits n opened (lists scripts.now)
-        state.so_far.table.items state.so_far.history.items state.cursors.items →
+        state.so_far.table.items state.so_far.history state.cursors.items →
         IfOk result (λ new. IsRunState A.rules A.fits n opened (lists scripts.now)
-        new.so_far.table.items new.so_far.history.items new.cursors.items) }
+        new.so_far.table.items new.so_far.history new.cursors.items) }
 {
     let mut state = state;
-    let from = state.so_far.history.len();
     joined_phase::<A>(scripts, phasing.policy.joined_quota, &mut state)?;
-    phasing.choose::<A>(&state.so_far.history, from)?;
+    phasing.choose::<A>(state.so_far.history.last())?;
     let plan = SplitPlan {
         hot: &phasing.hot,
         quota: phasing.policy.split_quota.min(MOST_COMMITS),
@@ -112,25 +112,25 @@ fn finish<A: Application>(scripts: &[Vec<A::Request>], state: RunState<A>) -> Ou
     requires { AllFinished (lists scripts.now) state.cursors.items }
     ensures outcome { (n : ℕ) (opened : List A.Record) →
         IsRunState A.rules A.fits n opened (lists scripts.now)
-        state.so_far.table.items state.so_far.history.items state.cursors.items →
-        IsOutcome A.rules opened (lists scripts.now) result.history.items result.table.items }
+        state.so_far.table.items state.so_far.history state.cursors.items →
+        IsOutcome A.rules opened (lists scripts.now) result.history result.table.items }
     ensures fits { (n : ℕ) (opened : List A.Record) →
         IsRunState A.rules A.fits n opened (lists scripts.now)
-        state.so_far.table.items state.so_far.history.items state.cursors.items →
-        AllByRecursion (A.fits (n + MOST_KEYS * length result.history.items)) result.table.items }
+        state.so_far.table.items state.so_far.history state.cursors.items →
+        AllByRecursion (A.fits (n + MOST_KEYS * length result.history)) result.table.items }
     ensures count { (n : ℕ) (opened : List A.Record) →
         IsRunState A.rules A.fits n opened (lists scripts.now)
-        state.so_far.table.items state.so_far.history.items state.cursors.items →
-        length result.history.items ≡ total (lists scripts.now) }
+        state.so_far.table.items state.so_far.history state.cursors.items →
+        length result.history ≡ total (lists scripts.now) }
     ensures len { (n : ℕ) (opened : List A.Record) →
         IsRunState A.rules A.fits n opened (lists scripts.now)
-        state.so_far.table.items state.so_far.history.items state.cursors.items →
+        state.so_far.table.items state.so_far.history state.cursors.items →
         length result.table.items ≡ length opened }
 {
     let RunState {
         so_far,
         cursors: _,
-        guesses: _,
+        hints: _,
     } = state;
     so_far
 }
@@ -158,12 +158,12 @@ where
     requires scripts { AreScripts A.rules (length table.items) (lists scripts.now) }
     requires fits { (n : ℕ) × (n < most_before) × AllByRecursion (A.fits n) table.items }
     ensures outcome { IfOk result (λ outcome. IsOutcome A.rules table.items (lists scripts.now)
-        outcome.history.items outcome.table.items) }
+        outcome.history outcome.table.items) }
     ensures fits { (n : ℕ) → n < most_before → AllByRecursion (A.fits n) table.items →
         IfOk result (λ outcome.
-        AllByRecursion (A.fits (n + MOST_KEYS * length outcome.history.items)) outcome.table.items) }
+        AllByRecursion (A.fits (n + MOST_KEYS * length outcome.history)) outcome.table.items) }
     ensures count { IfOk result (λ outcome.
-        length outcome.history.items ≡ total (lists scripts.now)) }
+        length outcome.history ≡ total (lists scripts.now)) }
     ensures len { IfOk result (λ outcome. length outcome.table.items ≡ length table.items) }
     ensures fault { IfErr result (IsRunFault (length scripts.now)) }
 {
@@ -171,11 +171,11 @@ where
     let cursors = new_cursors::<A::Request>(alloc, scripts.len())?;
     let mut state = RunState {
         so_far: Outcome {
-            history: Vec::new(alloc),
+            history: History::new(alloc),
             table,
         },
         cursors,
-        guesses: Vec::new(alloc),
+        hints: Vec::new(alloc),
     };
     for _round in 0..policy.rounds {
         if is_finished(scripts, &state.cursors) {

@@ -6,12 +6,9 @@ ghost use Rattle.split_engine.specs.inner.Kept.{AreKept, spread};
 ghost use Rattle.split_engine.specs.Splitting.{after_slice_act, merged_all};
 
 use crate::application::Application;
+use crate::hints::Guesses;
 use std::alloc::{AllocError, Global};
 use std::marker::Model;
-
-/// Of each key of a table, where its slice may stand. Any guess will do, since it is checked there:
-/// so those of a phase serve the next one.
-pub(crate) type Guesses = Vec<usize>;
 
 /// A worker's slices of the records on which it acted, each made when it is first needed. Contracts
 /// see a slice of each record of the table: those that are not kept are empty.
@@ -64,8 +61,14 @@ fn place_of<A: Application>(
 }
 
 impl<A: Application> Slices<A> {
-    /// No slices of so many records. Guesses for as many are used again; others are made anew.
-    pub(crate) fn new(alloc: Global, size: usize, guesses: Guesses) -> Result<Slices<A>, AllocError>
+    /// No slices of so many records, and room for some. Guesses for as many records are used again;
+    /// others are made anew.
+    pub(crate) fn new(
+        alloc: Global,
+        size: usize,
+        guesses: Guesses,
+        room: usize,
+    ) -> Result<Slices<A>, AllocError>
         ensures { IfOk result (λ slices. slices ≡ replicate size A.rules.empty) }
     {
         let guesses = if guesses.len() == size {
@@ -73,11 +76,18 @@ impl<A: Application> Slices<A> {
         } else {
             vec![in alloc; 0usize; size]?
         };
+        let keys = Vec::with_capacity(alloc, room)?;
+        let slices = Vec::with_capacity(alloc, room)?;
         Ok(Slices {
             guesses,
-            keys: Vec::new(alloc),
-            slices: Vec::new(alloc),
+            keys,
+            slices,
         })
+    }
+
+    /// How many of them are kept.
+    pub(crate) fn count(&self) -> usize {
+        self.keys.len()
     }
 
     /// Does an act on the slice of a key.

@@ -10,8 +10,9 @@ ghost use Rattle.split_engine.specs.inner.Assignments.{assignment, CanDo, HasDon
 use crate::application::Application;
 use crate::entry::Entry;
 use crate::few::{Few, MOST_KEYS};
+use crate::hints::Hints;
 use crate::looks::looks_at;
-use crate::slices::{Guesses, Slices};
+use crate::slices::Slices;
 use crate::state::Cursor;
 use job_threads::Job;
 use std::alloc::{AllocError, Global};
@@ -46,15 +47,16 @@ pub(crate) fn begin<A: Application>(
     alloc: Global,
     size: usize,
     cursor: Cursor<A::Request>,
-    guesses: Guesses,
+    hints: Hints,
 ) -> Result<SplitData<A>, AllocError>
     ensures unused { IfOk result (λ own. IsUnused A.rules size own.journal.items own.slices) }
     ensures cursor { IfOk result (λ own. own.cursor ≡ cursor) }
 {
-    let slices = Slices::new(alloc, size, guesses)?;
+    let journal = Vec::with_capacity(alloc, hints.commits)?;
+    let slices = Slices::new(alloc, size, hints.guesses, hints.slices)?;
     Ok(SplitData {
         cursor,
-        journal: Vec::new(alloc),
+        journal,
         slices,
     })
 }

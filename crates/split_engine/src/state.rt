@@ -1,7 +1,7 @@
 //! Where a run stands between two phases.
 use crate::application::Application;
-use crate::entry::Entry;
-use crate::slices::Guesses;
+use crate::hints::Hints;
+use crate::history::History;
 
 /// How many requests the scripts of a run may have together.
 pub const MOST_COMMITS: usize = 536_870_912;
@@ -10,7 +10,7 @@ pub const MOST_COMMITS: usize = 536_870_912;
 #[derive(Drop)]
 pub struct Outcome<A: Application> {
     /// All commits, in the order in which they replay.
-    pub history: Vec<Entry<A::Request, A::Reply>>,
+    pub history: History<A::Request, A::Reply>,
     /// The table after them.
     pub table: Vec<A::Record>,
 }
@@ -28,6 +28,6 @@ pub(crate) struct Cursor<Q> {
 pub(crate) struct RunState<A: Application> {
     pub(crate) so_far: Outcome<A>,
     pub(crate) cursors: Vec<Cursor<A::Request>>,
-    /// What the workers' slices in the last split phase leave for those of the next one.
-    pub(crate) guesses: Vec<Guesses>,
+    /// What workers know of the last split phase, for the next one.
+    pub(crate) hints: Vec<Hints>,
 }

@@ -2,7 +2,8 @@
 //! `tests/library_calls.txt`.
 use crate::counters::CounterRequest::{Add, Read};
 use crate::counters::{CounterReply, Counters};
-use split_engine::{Line, Policy, check_history, run};
+use crate::referee_tests::line;
+use split_engine::{Policy, check_history, run};
 use std::test::Fail;
 
 const POLICY: Policy = Policy {
@@ -32,14 +33,6 @@ fn application(rt: HostRuntime) -> Result<(), Fail> {
     }
 }
 
-fn line(index: u32, reply: CounterReply) -> Line<CounterReply> {
-    Line {
-        worker: 0,
-        index,
-        reply,
-    }
-}
-
 #[test]
 fn lines(rt: HostRuntime) -> Result<(), Fail> {
     let alloc = rt.alloc();
@@ -47,8 +40,8 @@ fn lines(rt: HostRuntime) -> Result<(), Fail> {
     let scripts = [vec![in alloc; add, Read { counter: 0 }]?];
     let mut counters = vec![in alloc; 0u64, 0u64]?;
     let told = [
-        line(0, CounterReply::Added),
-        line(1, CounterReply::Shows(1)),
+        line(0, 0, CounterReply::Added),
+        line(0, 1, CounterReply::Shows(1)),
     ];
     let _ = println!(rt; "lines ready: {} lines", told.len());
     match check_history::<Counters>(alloc, &mut counters, &scripts, &told) {

@@ -8,7 +8,7 @@ pub run-requires-2-clause-fits : goal.run-requires-2-clause-fits
 run-requires-2-clause-fits g c κs =
     let left = c.in_ok-outcome.ensures in
     let opened = subst (AllByRecursion (IsMadeBy 1)) (sym c.in_ok-counters.ensures.items) (omega arith, (omega arith, tt)) in (
-      1 + 4 * length c.in_ok-outcome.outcome.history.items,
+      1 + 4 * length c.in_ok-outcome.outcome.history,
       omega (arith, left.count, c.in_ok-first.ensures.len, c.in_ok-second.ensures.len),
       left.fits 1 (omega arith) opened,
     )

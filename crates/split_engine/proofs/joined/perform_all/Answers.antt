@@ -25,7 +25,7 @@ perform_call-requires-clause-fits g c =
 pub loop-place-init : goal.loop-place-init
 loop-place-init g c = record {
   more = [];
-  history_is = sym (append-nil c.args.so_far.now.history.items);
+  history_is = sym (append-nil c.args.so_far.now.history);
   performed = performed_none g.A.Application.rules c.args.worker c.args.so_far.now.table.items;
   same = refl;
   fits = λ n h. subst (λ m. AllByRecursion (g.A.Application.fits m) c.args.so_far.now.table.items) (omega arith) h;
@@ -42,7 +42,7 @@ loop-place-preserved g c =
     let done = performed_both g.A.Application.rules c.args.worker (take place calls) (call ∷ []) c.args.so_far.now.table.items c.loop-place.so_far.table.items c.perform_call.new.so_far.table.items was.more (e ∷ [])
     was.performed (performed_one g.A.Application.rules c.args.worker c.loop-place.so_far.table.items c.perform_call.new.so_far.table.items call d.table) in record {
       more = was.more ++ e ∷ [];
-      history_is = d.history ∙ ap (λ h. h ++ e ∷ []) was.history_is ∙ append_assoc c.args.so_far.now.history.items was.more (e ∷ []);
+      history_is = d.history ∙ ap (λ h. h ++ e ∷ []) was.history_is ∙ append_assoc c.args.so_far.now.history was.more (e ∷ []);
       performed = subst (λ all. HasPerformed g.A.Application.rules c.args.worker all c.args.so_far.now.table.items c.perform_call.new.so_far.table.items (was.more ++ e ∷ [])) (sym taken) done;
       same = ap length d.table ∙ length-acts g.A.Application.rules c.loop-place.so_far.table.items (acts_at g.A.Application.rules c.loop-place.so_far.table.items call.1) ∙ was.same;
       fits = λ n h.

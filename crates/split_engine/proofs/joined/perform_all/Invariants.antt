@@ -8,7 +8,7 @@ use Rattle.split_engine.proofs.joined.perform_all.Given as goal
 abbrev pub invariant-loop-place : goal.invariant-loop-place
 invariant-loop-place g l = record {
   more : List (Entry g.row.A-Request.Denot g.row.A-Reply.Denot);
-  history_is : l.so_far.history.items ≡ l.fn.so_far.history.items ++ more;
+  history_is : l.so_far.history ≡ l.fn.so_far.history ++ more;
   performed : HasPerformed g.A.Application.rules l.worker (take l.place l.calls) l.fn.so_far.table.items l.so_far.table.items more;
   same : length l.so_far.table.items ≡ length l.fn.so_far.table.items;
   fits : (n : ℕ) → AllByRecursion (g.A.Application.fits n) l.fn.so_far.table.items → AllByRecursion (g.A.Application.fits (n + MOST_KEYS * l.place)) l.so_far.table.items;

@@ -15,7 +15,7 @@ loop-answer-init g c = let s = g.A.Application in record {
     given,
     refl,
     subst (AllZip _ given) (sym c.into_iter-answer-iterator.ensures.into_iter_gives.0) zip,
-    closed_none s.rules s.is_small s.fits c.args.so_far.table.items c.args.so_far.history.items c.in_ok-cursors.cursors.items c.in_ok-cursors.ensures.items,
+    closed_none s.rules s.is_small s.fits c.args.so_far.table.items c.args.so_far.history c.in_ok-cursors.cursors.items c.in_ok-cursors.ensures.items,
   );
 }
 
@@ -61,7 +61,7 @@ loop-answer-preserved g c = let s = g.A.Application in record {
         first.1,
         append_assoc was.0 (first.0 ∷ []) first.1 ∙ ap (λ xs. was.0 ++ xs) (sym first.2) ∙ was.2,
         first.4,
-        closed_more s.rules s.is_small s.fits was.0 c.args.so_far.table.items mid.so_far.table.items new.so_far.table.items c.args.so_far.history.items mid.so_far.history.items new.so_far.history.items
+        closed_more s.rules s.is_small s.fits was.0 c.args.so_far.table.items mid.so_far.table.items new.so_far.table.items c.args.so_far.history mid.so_far.history new.so_far.history
             mid.cursors.items new.cursors.items first.0 done.cursor done.journal.items done.slices was.4 own has
             (done_few s.rules s.is_small first.0 done.cursor done.journal.items done.slices next_in has)
             e.table (ap length e.table ∙ length-merged s.rules s.fits s.slice_fits s.is_small g.met.A.Application.laws mid.so_far.table.items done.slices)
@@ -75,5 +75,5 @@ returns g c given within same zip =
     let was = c.loop-answer.invariant.closed given within same zip in
     let left = c.loop-answer.answer-iterator.rest in
     let none = zip_none _ was.1 left.items (nothing_left left.items _ left.ok.0 c.in-None.ensures.steps.0) was.3 in
-    subst (λ all. HasClosed s.rules s.is_small s.fits all c.args.so_far.table.items c.args.so_far.history.items c.loop-answer.state.so_far.table.items c.loop-answer.state.so_far.history.items c.loop-answer.state.cursors.items)
+    subst (λ all. HasClosed s.rules s.is_small s.fits all c.args.so_far.table.items c.args.so_far.history c.loop-answer.state.so_far.table.items c.loop-answer.state.so_far.history c.loop-answer.state.cursors.items)
     (sym (append-nil was.0) ∙ ap (λ xs. was.0 ++ xs) (sym none) ∙ was.2) was.4

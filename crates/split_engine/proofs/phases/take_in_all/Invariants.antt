@@ -11,5 +11,5 @@ invariant-loop-answer g l = let s = g.A.Application in record {
       (before : List (Assignment g.row.A-Record.Denot g.row.A-Request.Denot)) × (left : List (Assignment g.row.A-Record.Denot g.row.A-Request.Denot))
       × (before ++ left ≡ given)
       × AllZip (λ a answer. IfOk answer (λ own. HasDone s.rules s.is_small a own.cursor own.journal.items own.slices)) left (into_iter_items l.answer-iterator)
-      × HasClosed s.rules s.is_small s.fits before l.fn.so_far.table.items l.fn.so_far.history.items l.state.so_far.table.items l.state.so_far.history.items l.state.cursors.items;
+      × HasClosed s.rules s.is_small s.fits before l.fn.so_far.table.items l.fn.so_far.history l.state.so_far.table.items l.state.so_far.history l.state.cursors.items;
 }

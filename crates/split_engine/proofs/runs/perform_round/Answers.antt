@@ -5,7 +5,7 @@ use Rattle.split_engine.proofs.runs.perform_round.Goals as goal
 pub split_phase-requires-clause-hot : goal.split_phase-requires-clause-hot
 split_phase-requires-clause-hot g c =
     let given = c.requires.state in let new = c.in_ok-joined_phase.ensures.state given.0 given.1 given.2 given.3 given.4 in
-    λ sent lives. ap length c.deref-2.ensures.value ∙ c.in_ok-choose.ensures ∙ c.requires.hot ∙ given.4.size_is ∙ sym new.size_is
+    λ sent lives. ap length c.deref.ensures.value ∙ c.in_ok-choose.ensures ∙ c.requires.hot ∙ given.4.size_is ∙ sym new.size_is
 
 pub split_phase-requires-clause-state : goal.split_phase-requires-clause-state
 split_phase-requires-clause-state g c =

@@ -9,8 +9,8 @@ use Rattle.split_engine.proofs.runs.run.Goals as goal
 
 pub loop-round-init : goal.loop-round-init
 loop-round-init g c = let s = g.A.Application in let e = c.in_ok-cursors.ensures in record {
-  state = λ n few fits. state_at_first s.rules s.fits n c.args.table.items (lists c.args.scripts.now) c.new-2.result.items c.in_ok-cursors.cursors.items
-      (e.0 ∙ sym (length-map c.args.scripts.now (λ v. v.items))) e.1 c.new-2.ensures.items fits;
+  state = λ n few fits. state_at_first s.rules s.fits n c.args.table.items (lists c.args.scripts.now) c.new-2.result c.in_ok-cursors.cursors.items
+      (e.0 ∙ sym (length-map c.args.scripts.now (λ v. v.items))) e.1 c.new-2.ensures fits;
   hot = omega (arith, c.in_ok-phasing.ensures, c.len.ensures, c.args.table.ok.0);
 }
 
@@ -18,7 +18,7 @@ pub is_finished-requires : goal.is_finished-requires
 is_finished-requires g c =
     let s = g.A.Application in let fits = c.requires.fits in let f = c.loop-round.invariant.state fits.0 fits.1 fits.2 in record {
       len = ap length c.deref.ensures.value
-          ∙ have_length s.rules (length c.args.table.items) 0 (lists c.args.scripts.now) c.loop-round.state.cursors.items c.loop-round.state.so_far.history.items f.served
+          ∙ have_length s.rules (length c.args.table.items) 0 (lists c.args.scripts.now) c.loop-round.state.cursors.items c.loop-round.state.so_far.history f.served
           ∙ length-map c.args.scripts.now (λ v. v.items);
     }
 
