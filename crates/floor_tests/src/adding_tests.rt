@@ -1,26 +1,18 @@
 //! Rows that are added to an auction one after the other.
 use crate::testing::assert_same;
 use auction_rows::{Refusal, Request};
-use item_shards::Opened;
 use phase_floor::{AddFault, Joined};
-use test_values::{OPENING, VIEW, bid, bid_row, item_seen, put_up, vases};
+use test_values::{OPENING, VIEW, bid, bid_row, item_seen, opened, put_up, vases};
 
 #[test]
 fn added_rows_are_shown(rt: HostRuntime) {
     let mut state = Joined::new(rt.alloc(), OPENING, 2, 4).expect(&rt, "memory");
     let facts = vases(10, 1);
-    let item = Opened {
-        worker: 0,
-        request: put_up(facts),
-    };
-    let Ok(_row) = state.add(&item) else {
+    let Ok(_row) = state.add(&opened(0, put_up(facts))) else {
         panic!(rt; "the item is not added");
     };
-    let bid = Opened {
-        worker: 1,
-        request: bid(3, 20, 5),
-    };
-    assert_same(&rt, state.add(&bid), Ok(bid_row(1, 3, 20, 5)));
+    let added = state.add(&opened(1, bid(3, 20, 5)));
+    assert_same(&rt, added, Ok(bid_row(1, 3, 20, 5)));
     let seen = item_seen(&facts, Some((20, 3)), 1, 1);
     assert_same(&rt, state.view(&VIEW), Some(seen));
 }
@@ -35,8 +27,7 @@ fn what_is_no_row_is_not_added(rt: HostRuntime) {
         (1, Request::ViewUser { user: 3 }, AddFault::BadRow),
         (2, item, AddFault::BadRow),
     ] {
-        let row = Opened { worker, request };
         let mut state = Joined::new(rt.alloc(), OPENING, 2, 4).expect(&rt, "memory");
-        assert_same(&rt, state.add(&row), Err(fault));
+        assert_same(&rt, state.add(&opened(worker, request)), Err(fault));
     }
 }

@@ -5,10 +5,20 @@ ghost use Rattle.phase_floor.specs.States.{states_of};
 use auction_rows::Object;
 use indexmap::IndexSet;
 use phase_floor::{BeginFault, Joined};
-use phase_permits::Stash;
+use phase_permits::{Kind, Permit, Stash};
 use shard_boxes::PhaseName;
 use std::alloc::Global;
 use test_values::only;
+
+// The quota of the one worker, whose permit is spent.
+fn quota_of<N: PhaseName, K: Kind>(permits: Vec<Permit<N, K>>) -> u32
+    requires { vec_len permits ≡ 1 }
+{
+    let permit = only(permits);
+    let left = permit.left();
+    drop(permit.finish());
+    left
+}
 
 /// The quota with which a joined phase begins, or what came back.
 pub(crate) fn begin_joined<N: PhaseName>(
@@ -26,12 +36,7 @@ pub(crate) fn begin_joined<N: PhaseName>(
     ensures stashes { IfErr result (λ refused. refused.1 ≡ stashes) }
 {
     match state.begin_joined::<N>(alloc, &[quota], stashes) {
-        Ok((_floor, permits)) => {
-            let permit = only(permits);
-            let left = permit.left();
-            drop(permit.finish());
-            Ok(left)
-        }
+        Ok((_floor, permits)) => Ok(quota_of(permits)),
         Err(refused) => Err(refused),
     }
 }
@@ -50,12 +55,7 @@ pub(crate) fn begin_split<N: PhaseName>(
     ensures state { IfErr result (λ refused. refused.0 ≡ state) }
 {
     match state.begin_split::<N>(alloc, &[quota], hot) {
-        Ok((_floor, permits)) => {
-            let permit = only(permits);
-            let left = permit.left();
-            drop(permit.finish());
-            Ok(left)
-        }
+        Ok((_floor, permits)) => Ok(quota_of(permits)),
         Err(refused) => Err(refused),
     }
 }

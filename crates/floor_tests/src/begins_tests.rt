@@ -3,18 +3,18 @@ ghost use Rattle.std.specs.Prelude.{◌≡◌, ◌<◌, ◌≤◌, ◌↔◌, Al
 ghost use Rattle.auction_rows.specs.Book.{worker_of};
 
 use crate::begins::{begin_joined, begin_split};
-use crate::joined::joined_phase;
+use crate::phases::joined_phase;
 use crate::testing::{assert_same, nothing_waits, only_hot};
 use auction_rows::{ItemId, Object, Row};
 use indexmap::IndexSet;
-use item_shards::{Opened, OpeningBook};
+use item_shards::OpeningBook;
 use phase_floor::{BeginFault, Joined};
 use phase_permits::Stash;
 use std::alloc::Global;
 use std::marker::Brand;
 use std::process::Abort;
 use std::sync::Wait;
-use test_values::{LOOK, OPENING, put_up, vases};
+use test_values::{LOOK, OPENING, opened, put_up, vases};
 use worker_journals::History;
 
 const EIGHTH: ItemId = ItemId {
@@ -94,11 +94,7 @@ fn of_three_rows(rt: &impl Abort, alloc: Global) -> Joined
     ensures one { length result.counters ≡ 1 }
     ensures phase { result.phase ≡ 0 }
 {
-    let row = Opened {
-        worker: 0,
-        request: put_up(vases(10, 1)),
-    };
-    let rows = vec![in alloc; row; 3].expect(rt, "memory");
+    let rows = vec![in alloc; opened(0, put_up(vases(10, 1))); 3].expect(rt, "memory");
     let book = OpeningBook::new(alloc, OPENING, rows).expect(rt, "a book");
     assert!(rt; are_of_the_first(book.rows()));
     Joined::resume(alloc, &book, 1, 4).expect(rt, "memory")
@@ -123,8 +119,8 @@ fn begins_anew<R: Wait + Abort>(rt: &R, alloc: Global, state: Joined)
     requires phase { state.phase ≡ 0 }
 {
     let mut history = History::new(alloc);
-    let stashes = nothing_waits(alloc, 1).expect(rt, "memory");
-    let state = joined_phase::<Brand, R>(rt, alloc, state, stashes, &LOOK, &mut history);
+    let script = vec![in alloc; LOOK].expect(rt, "memory");
+    let state = joined_phase::<Brand, R>(rt, alloc, state, &[script], &mut history);
     let (state, _stashes) = refuses_joined(rt, alloc, state, 1_000_000);
     begins_joined(rt, alloc, state.for_next_run(), 1_000_001, 1_000_000);
 }

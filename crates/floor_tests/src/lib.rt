@@ -8,10 +8,8 @@ mod begins;
 #[cfg(test)]
 mod begins_tests;
 #[cfg(test)]
-mod joined;
+mod phases;
 #[cfg(test)]
 mod sixteen_tests;
-#[cfg(test)]
-mod split;
 #[cfg(test)]
 mod testing;

@@ -1,19 +1,16 @@
 //! A joined and a split phase of sixteen workers, who bid on one item.
-ghost use Rattle.std.specs.Prelude.{◌≡◌, length};
-ghost use Rattle.phase_floor.specs.States.{states_of};
+ghost use Rattle.std.specs.Prelude.{◌≡◌};
 
-use crate::joined::joined_phase;
-use crate::split::{BIDS, bid_often};
-use crate::testing::{assert_same, nothing_waits, only_hot, room_for};
-use auction_rows::{BidId, BidShown, Facts, MOST_SHOWN, Object, Opening, Reply, Request, Ten};
+use crate::phases::{joined_phase, split_phase};
+use crate::testing::{assert_same, only_hot};
+use auction_rows::{BidId, BidShown, Facts, Object, Opening, Reply, Request};
 use indexmap::IndexSet;
 use phase_floor::Joined;
-use shard_boxes::PhaseName;
 use std::alloc::Global;
 use std::marker::Brand;
 use std::process::Abort;
 use std::sync::Wait;
-use test_values::{FIRST, VIEW, item_seen, put_up, vases};
+use test_values::{FIRST, VIEW, VIEW_OF_BIDS, bid, item_seen, put_up, ten_of, vases};
 use worker_journals::History;
 
 const WORKERS: u32 = 16;
@@ -23,68 +20,51 @@ const SIXTEEN: Opening = Opening {
     categories: 2,
 };
 
-const VIEW_OF_BIDS: Request = Request::ViewBids { item: FIRST };
-
-// The state after a split phase in which the item is hot and all workers bid on it.
-fn split_phase<N: PhaseName, R: Wait + Abort>(
-    rt: &R,
-    alloc: Global,
-    state: Joined,
-    hot: &IndexSet<Object>,
-    history: &mut History,
-) -> Joined
-    requires shards { states_of state ≡ N.initial }
-    requires workers { length state.counters ≡ N.workers }
-    requires sixteen { N.workers ≡ 16 }
-    requires phase { state.phase ≡ 1 }
-{
-    let room = room_for(rt, alloc, 16);
-    let Ok((floor, permits)) = state.begin_split::<N>(alloc, &[BIDS; 16], hot) else {
-        panic!(rt; "the split phase did not begin");
-    };
-    let receipts = bid_often(rt, &floor, permits, room);
-    let closed = floor.close(alloc, history, receipts);
-    let (state, _stashes) = closed.expect(rt, "a split phase that is closed");
-    state
+// Each worker bids 1,000 times 5 at 7, as the user of its number.
+fn bids_of_each(rt: &impl Abort, alloc: Global) -> Vec<Vec<Request>> {
+    let mut scripts = Vec::new(alloc);
+    for worker in 0..WORKERS {
+        let script = vec![in alloc; bid(worker, 5, 7); 1000].expect(rt, "memory");
+        scripts.push(script).expect(rt, "memory");
+    }
+    scripts
 }
 
-// The state after both.
+// The state after a phase in which the first worker puts the item up, and one in which it is hot
+// and all bid on it.
 fn two_phases<R: Wait + Abort>(
     rt: &R,
     alloc: Global,
     state: Joined,
-    store: &Request,
+    facts: &Facts,
     hot: &IndexSet<Object>,
     history: &mut History,
 ) -> Joined
-    requires sixteen { length state.counters ≡ 16 }
-    requires phase { state.phase ≡ 0 }
+    requires { state.phase ≡ 0 }
 {
-    let stashes = nothing_waits(alloc, WORKERS).expect(rt, "memory");
-    let state = joined_phase::<Brand, R>(rt, alloc, state, stashes, store, history);
-    split_phase::<Brand, R>(rt, alloc, state, hot, history)
+    let store = vec![in alloc; put_up(*facts)].expect(rt, "memory");
+    let state = joined_phase::<Brand, R>(rt, alloc, state, &[store], history);
+    let bids = bids_of_each(rt, alloc);
+    split_phase::<Brand, R>(rt, alloc, state, hot, &bids, history)
 }
 
-// The ten greatest bids: the last of the last worker.
-fn last_bids(rt: &impl Abort) -> Ten<BidShown> {
-    let mut bids = Ten::new();
-    for serial in [999, 998, 997, 996, 995, 994, 993, 992, 991, 990] {
-        assert!(rt; bids.len() < MOST_SHOWN);
-        bids.push(BidShown {
-            amount: 5,
-            time: 7,
-            bidder: 15,
-            id: BidId { worker: 15, serial },
-        });
+// A bid of the last worker, as views show it.
+fn last_bid(serial: u32) -> BidShown {
+    BidShown {
+        amount: 5,
+        time: 7,
+        bidder: 15,
+        id: BidId { worker: 15, serial },
     }
-    bids
 }
 
-// Asserts what views show of the item and of its bids.
+// Asserts what views show of the item and of its bids: the ten greatest are the last ones of the
+// last worker.
 fn assert_shown(rt: &impl Abort, state: &Joined, facts: &Facts) {
     let seen = item_seen(facts, Some((5, 15)), 16_000, 1);
     assert_same(rt, state.view(&VIEW), Some(seen));
-    let bids = Reply::BidsSeen(last_bids(rt));
+    let last = [999, 998, 997, 996, 995, 994, 993, 992, 991, 990].map(last_bid);
+    let bids = Reply::BidsSeen(ten_of(&last));
     assert_same(rt, state.view(&VIEW_OF_BIDS), Some(bids));
 }
 
@@ -92,11 +72,10 @@ fn assert_shown(rt: &impl Abort, state: &Joined, facts: &Facts) {
 fn sixteen_workers_bid_on_one_item(rt: HostRuntime) {
     let alloc = rt.alloc();
     let facts = vases(5, 1);
-    let store = put_up(facts);
     let hot = only_hot(&rt, alloc, Object::Item(FIRST));
     let state = Joined::new(alloc, SIXTEEN, WORKERS, 4).expect(&rt, "memory");
     let mut history = History::new(alloc);
-    let state = two_phases(&rt, alloc, state, &store, &hot, &mut history);
+    let state = two_phases(&rt, alloc, state, &facts, &hot, &mut history);
     assert_shown(&rt, &state, &facts);
     assert_same(&rt, history.len(), 16_001);
 }

@@ -11,5 +11,3 @@ mod shard_tests;
 mod split_tests;
 #[cfg(test)]
 mod testing;
-#[cfg(test)]
-mod two_journals_tests;

@@ -4,12 +4,11 @@ ghost use Rattle.item_shards.specs.ShardContents.{shard_count, shard_number};
 
 use crate::testing::assert_same;
 use auction_rows::{
-    BidEntry, BidId, BidShown, ItemEntry, ItemId, ItemShown, MOST_SHOWN, Refusal, Reply, Stars, Ten,
+    BidEntry, BidId, BidShown, ItemEntry, ItemId, ItemShown, Refusal, Reply, Stars, Ten,
 };
 use item_shards::{Act, CategorySlice, ItemSlice, Shard, UserSlice};
 use split_records::Splittable;
-use std::process::Abort;
-use test_values::{FIRST, OPENING, UNRATED, item_seen, vases};
+use test_values::{FIRST, NO_ITEM, NO_USER, OPENING, UNRATED, item_seen, ten_of, vases};
 
 // The item, its bids, a user and a category, as a shard shows them in which all objects lie.
 fn views(shard: &Shard, user: u32, category: u32) -> [Reply; 4]
@@ -23,10 +22,6 @@ fn views(shard: &Shard, user: u32, category: u32) -> [Reply; 4]
         shard.view_category(category),
     ]
 }
-
-const NO_ITEM: Reply = Reply::Refused(Refusal::NoSuchItem);
-
-const NO_USER: Reply = Reply::Refused(Refusal::NoSuchUser);
 
 const NO_CATEGORY: Reply = Reply::Refused(Refusal::NoSuchCategory);
 
@@ -86,35 +81,25 @@ fn two_items() -> CategorySlice {
     slice
 }
 
-// What two bids show as, the greater first.
-fn bids_seen<R: Abort>(rt: &R) -> Reply {
-    let mut bids = Ten::new();
-    for serial in [2, 1] {
-        assert!(rt; bids.len() < MOST_SHOWN);
-        bids.push(BidShown {
-            amount: 50,
-            time: 7,
-            bidder: serial,
-            id: BidId { worker: 0, serial },
-        });
+// What a bid shows as.
+fn bid_shown(serial: u32) -> BidShown {
+    BidShown {
+        amount: 50,
+        time: 7,
+        bidder: serial,
+        id: BidId { worker: 0, serial },
     }
-    Reply::BidsSeen(bids)
 }
 
-// What two items show as, the later first.
-fn items_seen<R: Abort>(rt: &R) -> Reply {
-    let mut items = Ten::new();
-    for serial in [1, 0] {
-        assert!(rt; items.len() < MOST_SHOWN);
-        items.push(ItemShown {
-            time: u64::from(serial),
-            id: ItemId { worker: 0, serial },
-        });
+// What an item shows as.
+fn item_shown(serial: u32) -> ItemShown {
+    ItemShown {
+        time: u64::from(serial),
+        id: ItemId { worker: 0, serial },
     }
-    Reply::CategorySeen(items)
 }
 
-// Of two equal bids the one with the greater number wins.
+// Of two equal bids the one with the greater number wins. Views show the last item first.
 #[test]
 fn a_shard_shows_the_slices_merged_into_it(rt: HostRuntime) {
     let facts = vases(10, 1);
@@ -129,6 +114,8 @@ fn a_shard_shows_the_slices_merged_into_it(rt: HostRuntime) {
         rating: -2,
         comments: 2,
     };
-    let wanted = [seen, bids_seen(&rt), rated, items_seen(&rt)];
+    let bids = Reply::BidsSeen(ten_of(&[bid_shown(2), bid_shown(1)]));
+    let items = Reply::CategorySeen(ten_of(&[item_shown(1), item_shown(0)]));
+    let wanted = [seen, bids, rated, items];
     assert_same(&rt, views(&shard, 3, 1), wanted);
 }

@@ -6,9 +6,9 @@ mod replies;
 mod requests;
 mod rows;
 
-pub use lists::only;
-pub use replies::{NO_ITEM, NO_USER, UNRATED, bid_stored, bought, item_seen};
+pub use lists::{only, ten_of};
+pub use replies::{NO_ITEM, NO_USER, UNRATED, bid_stored, bought, comment_stored, item_seen};
 pub use requests::{
     FIRST, LOOK, OPENING, VIEW, VIEW_OF_BIDS, bid, comment, purchase, put_up, vases,
 };
-pub use rows::{bid_row, item_row};
+pub use rows::{bid_row, item_row, opened};

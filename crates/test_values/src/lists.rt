@@ -1,5 +1,7 @@
-//! Lists whose length is known.
-ghost use Rattle.std.specs.Prelude.{◌≡◌, ◌∷◌, [], vec_len};
+//! Lists whose length is known, and lists of replies.
+ghost use Rattle.std.specs.Prelude.{◌≡◌, ◌≤◌, ◌∷◌, [], length, vec_len};
+
+use auction_rows::{MOST_SHOWN, Ten};
 
 /// The one item of a list.
 pub fn only<T>(mut items: Vec<T>) -> T
@@ -9,4 +11,16 @@ pub fn only<T>(mut items: Vec<T>) -> T
     let item = items.remove(0);
     items.destroy_empty();
     item
+}
+
+/// A list of these, as replies have them.
+pub fn ten_of<T: Copy>(values: &[T]) -> Ten<T>
+    requires { length values.now ≤ MOST_SHOWN }
+    ensures { result ≡ values.now }
+{
+    let mut list = Ten::new();
+    for value in values {
+        list.push(*value);
+    }
+    list
 }

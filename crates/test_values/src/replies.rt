@@ -1,8 +1,8 @@
 //! Replies.
 ghost use Rattle.std.specs.Prelude.{◌≡◌, option_map};
-ghost use Rattle.auction_rows.specs.declared.replies.Reply.TheVariants.{BidStored, Bought, ItemSeen};
+ghost use Rattle.auction_rows.specs.declared.replies.Reply.TheVariants.{BidStored, Bought, CommentStored, ItemSeen};
 
-use auction_rows::{BidId, BuyId, Facts, Refusal, Reply};
+use auction_rows::{BidId, BuyId, CommentId, Facts, Refusal, Reply};
 
 /// That an item is not stored.
 pub const NO_ITEM: Reply = Reply::Refused(Refusal::NoSuchItem);
@@ -21,6 +21,13 @@ pub fn bid_stored(worker: u32, serial: u32) -> Reply
     ensures { result ≡ BidStored (record { worker = worker; serial = serial }) }
 {
     Reply::BidStored(BidId { worker, serial })
+}
+
+/// The reply to a comment that is stored with this id.
+pub fn comment_stored(worker: u32, serial: u32) -> Reply
+    ensures { result ≡ CommentStored (record { worker = worker; serial = serial }) }
+{
+    Reply::CommentStored(CommentId { worker, serial })
 }
 
 /// The reply to a purchase that is stored with this id.

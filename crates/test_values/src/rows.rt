@@ -1,9 +1,9 @@
-//! Rows.
+//! Rows, and what an auction opens with.
 ghost use Rattle.std.specs.Prelude.{◌≡◌};
 ghost use Rattle.auction_rows.specs.declared.rows.Row.TheVariants.{Item, Bid};
 
 use crate::requests::FIRST;
-use auction_rows::{BidId, BidRow, Facts, ItemRow, Row};
+use auction_rows::{BidId, BidRow, Facts, ItemRow, Opened, Request, Row};
 
 /// The row of the first item, put up at time 1.
 pub fn item_row(facts: Facts) -> Row
@@ -33,4 +33,11 @@ pub fn bid_row(worker: u32, bidder: u32, amount: u64, time: u64) -> Row
         amount,
         time,
     })
+}
+
+/// A store of a worker as one of the rows with which an auction opens.
+pub fn opened(worker: u32, request: Request) -> Opened
+    ensures { result ≡ record { worker = worker; request = request } }
+{
+    Opened { worker, request }
 }

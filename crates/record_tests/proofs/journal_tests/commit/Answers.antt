@@ -2,7 +2,7 @@ use Rattle.std.proofs.Common.{ap, ◌∙◌}
 use Rattle.phase_laws.specs.Numbers.{last_by}
 use Rattle.phase_laws.proofs.NumberLemmas.{last-push}
 use Rattle.worker_journals.specs.Journals.{JournalView, entry_number}
-use Rattle.record_tests.proofs.two_journals_tests.commit.Goals as goal
+use Rattle.record_tests.proofs.journal_tests.commit.Goals as goal
 
 pub push-requires-clause-after : goal.push-requires-clause-after
 push-requires-clause-after g c = c.numbers_come_after.ensures _ _ c.requires.after
