@@ -5,7 +5,7 @@
 #     tests/all.sh --built    only the scripts, on programs and tests that are built
 #
 # The first line tells the commit, whether the tree has changes, the kit, and when; the sums of the programs follow `rt ci`, for tests/package.sh.
-# Five scripts run beside the others; what they said is printed after them.
+# Six scripts run beside the others; what they said is printed after them.
 set -euo pipefail
 cd "$(dirname "$0")/.."
 case "$*" in
@@ -27,7 +27,7 @@ if [ "${1:-}" != --built ]; then
     RT_JOBS=${RT_JOBS:-$lanes} rt ci | tee "$said/rt_ci"
     sha256sum crates/{rubis_auction/out/rubis_auction,rubis_check/out/rubis_check,rubis_load/out/rubis_load}
 fi
-beside="second_opinion tutorial must_be_spent timeline failover"
+beside="second_opinion tutorial must_be_spent timeline failover terminals"
 for script in $beside; do
     python3 -B "tests/$script.py" > "$said/$script" 2>&1 &
 done

@@ -1,4 +1,4 @@
-/* A shim for LD_PRELOAD that cuts, interrupts or refuses reads, writes and threads.
+/* A shim for LD_PRELOAD that cuts, interrupts or refuses reads, writes, threads and the clock.
 
    READ_AT_MOST=n      a read of standard input gives n bytes at most
    READ_FAILS_AT=k     reads of standard input fail after k bytes in all
@@ -10,6 +10,8 @@
    LOG_SYNC_FAILS=n    the nth fdatasync fails
    LOG_CUT_FAILS=n     the nth ftruncate fails
    LOCK_FAILS=1        the file system has no locks
+   CLOCK_FAILS=1       the clock cannot be read
+   CLOCK_ENDS=1        reading the clock ends the program
    INTERRUPTED=n       each nth read, write, fdatasync and ftruncate of any file is interrupted before it does anything  */
 
 #define _GNU_SOURCE
@@ -19,6 +21,7 @@
 #include <stdatomic.h>
 #include <stdlib.h>
 #include <sys/file.h>
+#include <time.h>
 #include <unistd.h>
 
 static long limit(const char *name) {
@@ -113,6 +116,16 @@ int flock(int file, int how) {
         return -1;
     }
     return original(file, how);
+}
+
+int clock_gettime(clockid_t clock, struct timespec *time) {
+    int (*original)(clockid_t, struct timespec *) = dlsym(RTLD_NEXT, "clock_gettime");
+    if (limit("CLOCK_ENDS") > 0) _exit(99);
+    if (limit("CLOCK_FAILS") > 0) {
+        errno = EINVAL;
+        return -1;
+    }
+    return original(clock, time);
 }
 
 int pthread_create(pthread_t *thread, const pthread_attr_t *attributes, void *(*start)(void *), void *argument) {

@@ -3,13 +3,23 @@
 
 use load_program::{Fault, PlanFault, read_plan, status, write_fault, write_load};
 use program_options::program_words;
+use program_progress::{NotedWriter, Progress, Terminals};
 use std::alloc::Global;
 use std::io;
+use std::io::Eprint;
 use std::process::ExitCode;
-use std::rt::Env;
+use std::rt::{Clock, Env};
+
+// The name that a user calls it by.
+const PROGRAM: &str = "rubis_load";
 
 fn main(rt: HostRuntime) -> ExitCode {
-    match perform(&rt) {
+    // Standard input is not read.
+    let terminals = Terminals {
+        input: false,
+        ..Terminals::of(&rt.stdin(), &rt.stdout(), &rt.stderr())
+    };
+    match perform(&rt, terminals) {
         Ok(()) => ExitCode::SUCCESS,
         Err(fault) => {
             // A fault that can't be written still has its status.
@@ -20,9 +30,16 @@ fn main(rt: HostRuntime) -> ExitCode {
 }
 
 // Writes the load that the program's words ask for.
-fn perform<R: Env + Print + Alloc<A = Global>>(rt: &R) -> Result<(), Fault> {
+fn perform<R>(rt: &R, terminals: Terminals) -> Result<(), Fault>
+where
+    R: Env + Print + Eprint + Clock + Alloc<A = Global>,
+{
     let alloc = rt.alloc();
     let words = program_words(rt).map_err(PlanFault::Usage)?;
     let plan = read_plan(alloc, words.as_slice())?;
-    write_load(alloc, &mut io::writer(rt), &plan)
+    let progress = Progress::of(rt, PROGRAM, terminals);
+    let mut writer = NotedWriter::of(&progress, io::writer(rt));
+    let written = write_load(alloc, &mut writer, &plan);
+    progress.end();
+    written
 }

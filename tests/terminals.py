@@ -1,0 +1,330 @@
+#!/usr/bin/env python3
+"""Shows what the built programs say on a terminal beside their output, as docs/FORMATS.md says: what they wait for, and how far they are.
+
+    tests/terminals.py [PROGRAM [CHECKER [GENERATOR]]] [--only CHECK]
+
+Each end of a program is a pseudo terminal or a pipe. What a terminal is told is kept with the times.
+"""
+
+import os
+import re
+import tempfile
+import termios
+import threading
+import time
+from contextlib import contextmanager, suppress
+from dataclasses import dataclass, field
+from pathlib import Path
+from subprocess import PIPE, Popen
+from typing import Iterable, Iterator
+
+from checks import SEEN, VIEW, tell_of
+from load_model import Plan
+from model import Options, expected
+from program import Tally, build_shim, built, executable, parser_of, run
+
+END_OF_INPUT = b"\x04"
+EMPTY_LINE = b"\r\x1b[K"
+AWAITS = "{}: reads rows and scripts from the terminal until Ctrl-D; --help lists the options\n"
+NOTE = re.compile(rb"(\w+): (\d+) (KB|MB) (.*)")
+UNITS = {b"KB": 1_000, b"MB": 1_000_000}
+# So many parts, so far apart, take more than three seconds.
+PARTS, PAUSE = 14, 0.25
+# What a pipe has room for, and more: a slow reader holds its writer up.
+PIPE_ROOM = 1 << 16
+
+
+@dataclass
+class Screen:
+    """What a terminal shows, each write with the seconds since the program began."""
+
+    begun: float
+    writes: list[tuple[float, bytes]] = field(default_factory=list)
+
+    def text(self) -> bytes:
+        return b"".join(text for _, text in self.writes)
+
+    def notes(self) -> list[tuple[float, bytes]]:
+        """The notes, each with the time at which it was there."""
+        return [(at, note) for at, text in self.writes for note in text.split(EMPTY_LINE) if NOTE.fullmatch(note)]
+
+
+@dataclass
+class Ended:
+    """A program that has ended: its status, its output if that was no terminal, and the screen."""
+
+    status: int
+    output: bytes
+    screen: Screen
+
+
+class Tester:
+    def __init__(self, programs: list[Path], folder: Path, tally: Tally):
+        self.auction, self.checker, self.generator = programs
+        self.folder, self.tally = folder, tally
+        self.history = folder / "history"
+        self.history.write_bytes(b"0 0 0 0 " + SEEN)
+
+    def checking(self, history: Path | None = None) -> list:
+        return [self.checker, "--history", history or self.history]
+
+    def shows(self, what: str, ended: Ended, status: int, output: bytes, screen: bytes) -> None:
+        """A program ended with this status and output, and the terminal shows this."""
+        got = (ended.status, ended.output, ended.screen.text())
+        self.tally.check(got == (status, output, screen), f"{what}: got {got}")
+
+    def notes_are_due(self, what: str, screen: Screen, wanted: list[bytes]) -> None:
+        """Notes end in these words, in this order, and of those before the end of an input the nth came after n seconds."""
+        notes = screen.notes()
+        said = [NOTE.fullmatch(note)[4] for _, note in notes]
+        self.tally.check(list(dict.fromkeys(said)) == wanted, f"{what}: notes {said}")
+        regular = [at for (at, _), words in zip(notes, said) if words != b"read, executing"]
+        self.tally.check(all(at >= count for count, at in enumerate(regular, 1)), f"{what}: notes at {regular}")
+        self.tally.check(len(regular) >= 2, f"{what}: notes at {regular}")
+
+    def counts_rise(self, what: str, screen: Screen, words: bytes, most: int) -> None:
+        """The counts of notes that end in these words rise, up to so many bytes."""
+        parsed = [NOTE.fullmatch(note) for _, note in screen.notes()]
+        counts = [int(note[2]) * UNITS[note[3]] for note in parsed if note[4].startswith(words)]
+        self.tally.check(counts == sorted(counts) and 0 < len(counts) and counts[-1] <= most, f"{what}: counts {counts} of {most}")
+
+
+# A program whose ends are terminals or pipes.
+
+
+@contextmanager
+def terminal() -> Iterator[tuple[int, int]]:
+    """A terminal that shows what is written as it is, and not what is typed: the end of the user and that of the program."""
+    user, program = os.openpty()
+    modes = termios.tcgetattr(program)
+    modes[1] &= ~termios.OPOST
+    modes[3] &= ~termios.ECHO
+    termios.tcsetattr(program, termios.TCSANOW, modes)
+    try:
+        yield user, program
+    finally:
+        os.close(user)
+
+
+def perform(command: list, parts: Iterable[bytes], typed=False, shared=False, slow_reader=False, **how) -> Ended:
+    """Runs a command with a terminal as standard error, and also as standard input, where the parts are `typed`, and as output, if it is `shared`."""
+    with terminal() as (user, program):
+        begun = time.monotonic()
+        ends = {"stdin": program if typed else PIPE, "stdout": program if shared else PIPE, "stderr": program} | how
+        with Popen([os.fspath(word) for word in command], start_new_session=True, **ends) as process:
+            os.close(program)
+            screen, output = Screen(begun), []
+            threads = [threading.Thread(target=watch, args=(user, screen))]
+            if not shared:
+                threads.append(threading.Thread(target=take, args=(process.stdout.fileno(), output, slow_reader)))
+            for thread in threads:
+                thread.start()
+            give(user if typed else process.stdin.fileno(), parts)
+            if not typed:
+                process.stdin.close()
+            for thread in threads:
+                thread.join()
+            return Ended(process.wait(), b"".join(output), screen)
+
+
+def watch(user: int, screen: Screen) -> None:
+    """Keeps what a terminal shows until nobody writes to it."""
+    while True:
+        try:
+            text = os.read(user, 1 << 16)
+        except OSError:
+            return
+        if not text:
+            return
+        screen.writes.append((time.monotonic() - screen.begun, text))
+
+
+def take(file: int, output: list[bytes], is_slow: bool) -> None:
+    """Reads a pipe to its end."""
+    while text := os.read(file, PIPE_ROOM):
+        output.append(text)
+        if is_slow:
+            time.sleep(PAUSE)
+
+
+def give(file: int, parts: Iterable[bytes]) -> None:
+    """Writes parts, until nobody reads them."""
+    with suppress(BrokenPipeError):
+        for part in parts:
+            while part:
+                part = part[os.write(file, part) :]
+
+
+def slowly(parts: Iterable[bytes]) -> Iterator[bytes]:
+    for part in parts:
+        time.sleep(PAUSE)
+        yield part
+
+
+# What they wait for.
+
+
+def awaited(tester: Tester) -> None:
+    """rows and scripts from a terminal: one line says what is read, before anything is typed"""
+    log = tester.folder / "log"
+    for words in ([], ["--live", "1"], ["--log", log], ["--live", "1", "--log", log]):
+        log.unlink(missing_ok=True)
+        ended = perform([tester.auction, *words], [VIEW, END_OF_INPUT], typed=True)
+        tester.shows(f"{words} on a terminal", ended, 0, b"0,0," + SEEN, AWAITS.format("rubis_auction").encode())
+    ended = perform(tester.checking(), [VIEW, END_OF_INPUT], typed=True)
+    tester.shows("rubis_check on a terminal", ended, 0, b"the history replays\n", AWAITS.format("rubis_check").encode())
+    for name, command, text in (("rubis_auction", [tester.auction], b"0,0," + SEEN), ("rubis_check", tester.checking(), b"the history replays\n")):
+        ended = perform(command, [VIEW, END_OF_INPUT], typed=True, shared=True)
+        tester.shows(f"{name} with its output on the terminal", ended, 0, b"", AWAITS.format(name).encode() + text)
+    ended = perform([tester.auction], slowly([*[VIEW] * PARTS, END_OF_INPUT]), typed=True)
+    tester.tally.check(ended.screen.text() == AWAITS.format("rubis_auction").encode(), "notes are written over what a user types")
+    tester.tally.check(ended.screen.writes[0][0] < PAUSE * PARTS / 2, "the line came after what was typed")
+
+
+def unawaited(tester: Tester) -> None:
+    """nothing is said if standard input is a pipe, the words have a fault, help is asked for, or nobody sees it"""
+    for command, text in (([tester.auction], b"0,0," + SEEN), (tester.checking(), b"the history replays\n")):
+        tester.shows(f"{command[0].name} with a pipe", perform(command, [VIEW]), 0, text, b"")
+        for word, status in (("--help", 0), ("--nothing", 1)):
+            ended = perform([*command, word], [], typed=True)
+            wanted = run([*command, word])
+            tester.shows(f"{command[0].name} {word}", ended, wanted.status, wanted.stdout, wanted.stderr)
+        with terminal() as (user, program):
+            os.write(user, VIEW + END_OF_INPUT)
+            got = run(command, program)
+            os.close(program)
+        tester.tally.check((got.status, got.stdout, got.stderr) == (0, text, b""), f"{command[0].name} on a terminal, its errors in a pipe: {got}")
+    missing = tester.folder / "missing"
+    wanted = run(tester.checking(missing))
+    tester.shows("no such history", perform(tester.checking(missing), [], typed=True), 2, b"", wanted.stderr)
+    log = tester.folder / "folder"
+    log.mkdir()
+    wanted = run([tester.auction, "--log", log])
+    tester.shows("no log", perform([tester.auction, "--log", log], [], typed=True), 5, b"", wanted.stderr)
+
+
+# How far they are.
+
+
+def slow_inputs(tester: Tester) -> None:
+    """slow input: notes of the bytes read, at most once a second, and none is left; a short input has none"""
+    data = VIEW * 100
+    replies = expected(data * PARTS, Options()).stdout
+    log = tester.folder / "slow"
+    for words in ([], ["--log", log]):
+        ended = perform([tester.auction, *words], slowly([data] * PARTS))
+        tester.tally.check((ended.status, ended.output) == (0, replies), f"{words}: the replies to a slow input")
+        tester.notes_are_due(f"{words}, slow input", ended.screen, [b"read", b"read, executing"])
+        tester.counts_rise(f"{words}, slow input", ended.screen, b"read", len(data) * PARTS)
+        tester.tally.check(ended.screen.text().endswith(EMPTY_LINE), f"{words}: a note is left")
+    last = ended.screen.notes()[-1][1]
+    tester.tally.check(last == b"rubis_auction: %d KB read, executing" % (len(data) * PARTS // 1000), f"the last note: {last}")
+    tester.shows("a short input", perform([tester.auction], [data]), 0, expected(data, Options()).stdout, b"")
+
+
+def slow_histories(tester: Tester) -> None:
+    """a slow input and a slow history of rubis_check: notes of both, and the verdict on the same terminal after them"""
+    views = PARTS * 100
+    scripts, history = [VIEW * 100] * PARTS, [b"".join(b"0 0 0 %d %s" % (part * 100 + at, SEEN) for at in range(100)) for part in range(PARTS)]
+    fifo = tester.folder / "fifo"
+    os.mkfifo(fifo)
+    for shared in (False, True):
+        given = threading.Event()
+        giver = threading.Thread(target=give_slowly, args=(fifo, history, given))
+        giver.start()
+        ended = perform(tester.checking(fifo), then(slowly(scripts), given), shared=shared)
+        giver.join()
+        what, text = f"a slow check, shared {shared}", b"the history replays\n"
+        tester.tally.check(ended.status == 0 and ended.screen.text().endswith(EMPTY_LINE + text if shared else EMPTY_LINE), f"{what}: {ended}")
+        tester.tally.check(ended.output == (b"" if shared else text), f"{what}: {ended.output}")
+        tester.notes_are_due(what, ended.screen, [b"of the input read", b"of the history read"])
+        tester.counts_rise(what, ended.screen, b"of the input read", len(VIEW) * views)
+        tester.counts_rise(what, ended.screen, b"of the history read", len(b"".join(history)))
+
+
+def then(parts: Iterable[bytes], given: threading.Event) -> Iterator[bytes]:
+    yield from parts
+    given.set()
+
+
+def give_slowly(path: Path, parts: list[bytes], first: threading.Event) -> None:
+    """Writes parts to a file after something else was given."""
+    file = os.open(path, os.O_WRONLY)
+    first.wait()
+    give(file, slowly(parts))
+    os.close(file)
+
+
+def slow_readers(tester: Tester) -> None:
+    """output that is read slowly: notes of the bytes written, and the same bytes, also where a long text is made before it is written"""
+    plan = Plan(requests=60_000)
+    load = run([tester.generator, *plan.words()]).stdout
+    ended = perform([tester.generator, *plan.words()], [], slow_reader=True)
+    tester.tally.check((ended.status, ended.output) == (0, load), "a load that is read slowly")
+    tester.notes_are_due("a load", ended.screen, [b"written"])
+    tester.counts_rise("a load", ended.screen, b"written", len(load))
+    rows = b"".join(b"0,+item,0,0,Vase,10,100,%d\n" % at for at in range(30_000))
+    for options, data in ((Options(), VIEW * 30_000), (Options(workers=2), (VIEW + b"1,viewuser,0\n") * 15_000), (Options(rows=True), rows)):
+        wanted = run([tester.auction, *options.words()], data).stdout
+        ended = perform([tester.auction, *options.words()], [data], slow_reader=True)
+        tester.tally.check((ended.status, ended.output) == (0, wanted), f"{options.words()}: output that is read slowly")
+        tester.notes_are_due(f"{options.words()}, a slow reader", ended.screen, [b"written"])
+        tester.counts_rise(f"{options.words()}, a slow reader", ended.screen, b"written", len(wanted))
+        tester.tally.check(ended.screen.text().endswith(EMPTY_LINE), f"{options.words()}: a note is left")
+
+
+def shared_terminals(tester: Tester) -> None:
+    """output on the terminal of the notes: they end before its first byte, and so does the note before a fault"""
+    data = VIEW * PARTS
+    ended = perform([tester.auction], slowly([VIEW] * PARTS), shared=True)
+    shown = ended.screen.text()
+    tester.tally.check(len(ended.screen.notes()) > 1 and shown.endswith(EMPTY_LINE + expected(data, Options()).stdout), f"replies on the terminal: {shown}")
+    ended = perform([tester.auction], slowly([*[VIEW] * PARTS, b"0,jump,1\n"]))
+    shown, fault = ended.screen.text(), b"rubis_auction: record %d: unknown kind\n" % (PARTS + 1)
+    tester.tally.check((ended.status, ended.output) == (2, b"") and shown.endswith(EMPTY_LINE + fault), f"a fault after notes: {ended}")
+    plan = Plan(requests=200_000)
+    ended = perform([tester.generator, *plan.words()], [], shared=True)
+    tester.tally.check(EMPTY_LINE not in ended.screen.text(), "notes between the lines of a load")
+
+
+def live_replies(tester: Tester) -> None:
+    """no notes with --live"""
+    ended = perform([tester.auction, "--live", "1"], slowly([VIEW] * PARTS))
+    tester.shows("slow input with --live", ended, 0, b"".join(b"0,%d,%s" % (at, SEEN) for at in range(PARTS)), b"")
+
+
+def clocks(tester: Tester) -> None:
+    """a clock that cannot be read: no notes; and it is not read if standard error is no terminal"""
+    shim = build_shim("refused_calls", tester.folder)
+    if shim is None:
+        return tester.tally.skip(clocks.__doc__, "there is no C compiler")
+    environment = os.environ | {"LD_PRELOAD": str(shim)}
+    ended = perform([tester.auction], slowly([VIEW] * PARTS), env=environment | {"CLOCK_FAILS": "1"})
+    tester.shows("no clock", ended, 0, expected(VIEW * PARTS, Options()).stdout, b"")
+    for command, data in (([tester.auction], VIEW), (tester.checking(), VIEW), ([tester.generator], b"")):
+        got = run(command, data, env=environment | {"CLOCK_ENDS": "1"})
+        tester.tally.same(f"{command[0].name} without a terminal", got, run(command, data))
+        ended = perform(command, [data], env=environment | {"CLOCK_ENDS": "1"})
+        tester.tally.check(ended.status != 0, f"the clock is seen to be read: {command[0].name} on a terminal")
+
+
+CHECKS = (awaited, unawaited, slow_inputs, slow_histories, slow_readers, shared_terminals, live_replies, clocks)
+
+
+def main() -> None:
+    words = parser_of(__doc__)
+    for name in ("rubis_auction", "rubis_check", "rubis_load"):
+        words.add_argument({"rubis_auction": "program", "rubis_check": "checker", "rubis_load": "generator"}[name], nargs="?", type=executable, default=str(built(name)))
+    words.add_argument("--only", choices=[check.__name__ for check in CHECKS], help="only this check")
+    asked = words.parse_args()
+    tally = Tally()
+    with tempfile.TemporaryDirectory() as folder:
+        tester = Tester([asked.program, asked.checker, asked.generator], Path(folder), tally)
+        for check in CHECKS:
+            if asked.only in (None, check.__name__):
+                tell_of(check, tester)
+    tally.finish()
+
+
+if __name__ == "__main__":
+    main()
