@@ -14,15 +14,15 @@ from phases import GROUND, INK, text
 # From the lowest to the highest, each crate with its place across.
 LAYERS = {
     "theory": {"phase_laws": 420},
-    "model and records": {"auction_rows": 420, "split_records": 670, "top_records": 670, "item_shards": 690, "request_scripts": 540, "worker_journals": 420, "run_laws": 210, "keyed_laws": 100,
+    "model and records": {"auction_rows": 420, "split_records": 670, "top_records": 670, "item_shards": 690, "request_scripts": 540, "worker_journals": 420, "run_laws": 210,
                           "auction_window": 350, "hot_choice": 510, "example_mean": 880, "test_values": 340, "record_tests": 790},
-    "engine": {"job_threads": 320, "split_engine": 180, "application_tests": 325, "ruled_cell": 800, "shard_boxes": 690, "auction_shards": 770,
-               "worker_slices": 600, "phase_transactions": 600, "phase_permits": 600, "closing_laws": 640, "phase_floor": 630, "phase_workers": 420,
+    "engine": {"job_threads": 320, "split_engine": 180, "application_tests": 325, "ruled_cell": 800, "shard_boxes": 690,
+               "auction_shards": 770, "worker_slices": 600, "phase_transactions": 600, "phase_permits": 600, "closing_laws": 640, "phase_floor": 630, "phase_workers": 420,
                "run_phases": 560, "auction_run": 560},
     "texts": {"program_options": 420, "zipf_draws": 560, "record_reading": 880, "auction_reading": 810, "live_reading": 960, "auction_text": 880, "part_log": 860,
               "log_opening": 700, "history_check": 230},
-    "programs": {"application_loads": 90, "program_opening": 680, "program_serving": 700, "auction_program": 680, "load_program": 985, "check_program": 300, "rubis_auction": 640,
-                 "rubis_load": 985, "rubis_check": 300},
+    "programs": {"application_loads": 90, "program_progress": 490, "program_opening": 680, "program_serving": 700, "auction_program": 680, "load_program": 985,
+                 "check_program": 300, "rubis_auction": 640, "rubis_load": 985, "rubis_check": 300},
     "examples and tests": {"example_bank": 66, "example_likes": 182, "example_vase": 297, "example_phases": 410, "engine_tests": 525, "phase_tests": 630,
                            "floor_tests": 735, "program_tests": 845, "example_watch": 965},
 }
