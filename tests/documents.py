@@ -39,10 +39,8 @@ PICTURES = DOCUMENTS / "pictures"
 DRAWN = {"contended.svg": ("examples/timeline.py", "examples/contended.history", "examples/contended.report")}
 # The pages of users, and how many words they and the first of them may have.
 OF_USERS = ("README", "docs/GUARANTEES", "docs/EXAMPLE", "docs/PERFORMANCE", "docs/FORMATS", "docs/TUTORIAL", "docs/WINDOWS", "docs/CHECKING", "docs/LOADS",
-            "docs/OUTGROWING", "docs/SERVING", "CONTRIBUTING", "CHANGELOG", "tests/README")
+            "docs/OUTGROWING", "docs/SERVING", "docs/APPLICATIONS")
 MOST_WORDS, MOST_OF_THE_FIRST = 16_000, 1_200
-# Who writes an application reads this page and none of those above.
-OF_APPLICATIONS, MOST_OF_APPLICATIONS = "docs/APPLICATIONS", 2_800
 # A page tells how many lines of code a script has: those with more than a comment, a docstring or what lays code out.
 LINES = (DOCUMENTS / "SERVING.md", re.compile(r"(\d+) lines of Python code"), ROOT / "examples" / "front.py")
 NO_CODE = {tokenize.COMMENT, tokenize.NL, tokenize.NEWLINE, tokenize.INDENT, tokenize.DEDENT, tokenize.ENDMARKER}
@@ -237,9 +235,7 @@ def pictures(tally: Tally) -> None:
 def lengths(tally: Tally) -> None:
     """lengths of the pages of users"""
     # Marks of tables and lists are no words.
-    words = {page: len(re.findall(r"\S*\w\S*", (ROOT / f"{page}.md").read_text())) for page in (*OF_USERS, OF_APPLICATIONS)}
-    alone = words.pop(OF_APPLICATIONS)
-    tally.check(alone <= MOST_OF_APPLICATIONS, f"{OF_APPLICATIONS} has {alone} words, of at most {MOST_OF_APPLICATIONS}")
+    words = {page: len(re.findall(r"\S*\w\S*", (ROOT / f"{page}.md").read_text())) for page in OF_USERS}
     tally.check(words[OF_USERS[0]] <= MOST_OF_THE_FIRST, f"{OF_USERS[0]} has {words[OF_USERS[0]]} words, of at most {MOST_OF_THE_FIRST}")
     tally.check(sum(words.values()) <= MOST_WORDS, f"the pages of users have {sum(words.values())} words, of at most {MOST_WORDS}")
 
