@@ -3,14 +3,14 @@ differ, and the pages say so."""
 import clients
 import plots
 from cells import OVERLAP, are_apart, figure, in_words, in_workers, millions, table, times, times_if_apart, times_told, two, values
-from figures import ALONE, AUCTION, CLIENTS_RATE, FRONT_LOGGED, IN_C, LOCK, PHASES, SHARDS, UNSPLIT, WHOLE_RATE, Figure
-from measures import BIDDING, ONE_ITEM, SMALL, Policy
+from figures import ALONE, AUCTION, CLIENTS_RATE, EXECUTING, FRONT_LOGGED, IN_C, LOCK, PHASES, SHARDS, UNSPLIT, WHOLE_RATE, Figure
+from measures import BIDDING, Policy
 
 # The systems that README.md shows, with their names there.
 SHOWN = {system: system for system in (AUCTION, UNSPLIT, PHASES, SHARDS)} | {
     ALONE: "plain Rust, no lock, one executing thread", IN_C: "C, in one pass, one thread"}
 
-PLAIN, OTHERS = (PHASES, SHARDS, LOCK, ALONE), (SHARDS, LOCK, ALONE)
+PLAIN = (PHASES, SHARDS, LOCK, ALONE)
 
 # The most clients of a server that wait for each reply, and how many rows a log has at most of each worker.
 MOST_CLIENTS, MOST_OF_A_LOG = "100 clients", 2 ** 31
@@ -23,6 +23,10 @@ def most_workers(rows: list[Figure]) -> int:
 
 def whole_commands(rows: list[Figure]) -> list[Figure]:
     return values(rows, table="workers", measure=WHOLE_RATE)
+
+
+def executing(rows: list[Figure]) -> list[Figure]:
+    return values(rows, table="executing", measure=EXECUTING)
 
 
 def loads_of(rows: list[Figure]) -> list[str]:
@@ -39,29 +43,36 @@ def rates(rows: list[Figure]) -> str:
         found = [figure(own, system=system, load=load, workers=1 if system == IN_C else most) for load in loads]
         lines.append([SHOWN[system], *map(millions, found)])
         if system == AUCTION:
-            lines.append(["over one worker", *(times_if_apart(row, figure(own, system=system, load=load, workers=1)) for row, load in zip(found, loads))])
+            lines.append(speed_ups(values(own, system=system), loads))
     return table([f"Millions of requests per second, whole command, {in_workers(most)}", *map(plots.load_title, loads)], lines)
 
 
+def speed_ups(own: list[Figure], loads: list[str]) -> list[str]:
+    """How many times as fast each number of workers is as one, load by load."""
+    counts = sorted({row.workers for row in own} - {1})
+    over_one = {load: [times_if_apart(figure(own, load=load, workers=workers), figure(own, load=load, workers=1)) for workers in counts] for load in loads}
+    return [f"speed-up over 1 worker: of {', '.join(map(str, counts))}", *(", ".join(over_one[load]) for load in loads)]
+
+
 def level(rows: list[Figure]) -> str:
-    """In README.md: load by load how many times as fast splitting makes it, and how many times as fast one thread of plain Rust without locks is."""
+    """In README.md: load by load how many times as fast plain Rust and C are."""
     most = most_workers(rows)
-    ways = (("Fundreivo, beside itself without splitting, is", against(rows, most, (UNSPLIT,))),
-            ("One executing thread of plain Rust without locks, beside Fundreivo, is", [(other, own) for own, other in against(rows, most, (ALONE,))]),
-            ("C in one pass, beside Fundreivo, is", [(other, own) for own, other in against(rows, most, (IN_C,), True)]))
-    return ". ".join(judged(words, pairs) for words, pairs in ways if pairs)
+    ways = (("The fastest plain Rust is", against(whole_commands(rows), most, PLAIN, True)),
+            ("Without reading and writing it is", against(executing(rows), most, PLAIN, True)),
+            ("C in one pass is", against(whole_commands(rows), most, (IN_C,), True)))
+    return ". ".join(judged(words, [(other, own) for own, other in pairs]) for words, pairs in ways if pairs)
 
 
 def judged(words: str, pairs: list[tuple[Figure, Figure]]) -> str:
     """How many times as fast the first of each two is as the second, and on which loads their ranges overlap."""
     apart, alike = ([pair for pair in pairs if are_apart(*pair) == wanted] for wanted in (True, False))
     if not apart:
-        return f"{words} not shown to differ ({OVERLAP})"
+        return f"{words} not shown to be faster or slower ({OVERLAP})"
     if not alike:
         found = [own.value / other.value for own, other in pairs]
-        return f"{words} {' to '.join(dict.fromkeys(map(two, (min(found), max(found)))))} times as fast on these loads"
+        return f"{words} {' to '.join(dict.fromkeys(map(two, (min(found), max(found)))))} times as fast"
     found = [f"{times(*pair)} times{' as fast' * (at == 0)} on {load_in_words(pair[0])}" for at, pair in enumerate(apart)]
-    return f"{words} {listed(found)}; on the other loads {OVERLAP}"
+    return f"{words} {listed(found)}; on the other loads no difference is shown"
 
 
 def load_in_words(row: Figure) -> str:
@@ -88,38 +99,23 @@ def overlapping(own: Figure, other: Figure) -> list[str]:
 
 def against(rows: list[Figure], workers: int, systems: tuple[str, ...], of_any_workers: bool = False) -> list[tuple[Figure, Figure]]:
     """The auction with so many workers beside the fastest of some systems, for each load that has both."""
-    own = whole_commands(rows)
-    others = own if of_any_workers else values(own, workers=workers)
-    pairs = [(one, best(values(others, load=one.load), systems)) for one in values(own, system=AUCTION, workers=workers)]
+    others = rows if of_any_workers else values(rows, workers=workers)
+    pairs = [(one, best(values(others, load=one.load), systems)) for one in values(rows, system=AUCTION, workers=workers)]
     return [(one, other) for one, other in pairs if other]
 
 
 def cost(rows: list[Figure]) -> str:
     """In README.md: whole commands beside the fastest plain Rust, with any number of workers."""
     most = most_workers(rows)
-    pairs = against(rows, most, (*PLAIN, IN_C), True)
+    pairs = against(whole_commands(rows), most, (*PLAIN, IN_C), True)
     return f"Whole commands with {in_workers(most)} reach {by_loads(pairs)} of the throughput of the fastest plain Rust or C" if pairs else ""
 
 
 def gain(rows: list[Figure]) -> str:
-    """In README.md: bids on one item with all workers and with one, beside the same without splitting, and beside the fastest plain Rust without phases,
-    with any number of workers; and how many threads each has. All need one shard, so one thread executes what is not split."""
+    """In README.md: what splitting is worth, load by load."""
     most = most_workers(rows)
-    alone = figure(whole_commands(rows), system=AUCTION, load=ONE_ITEM.name, workers=1)
-    ways = (((UNSPLIT,), False), (OTHERS, True))
-    pairs = [pair for way in ways for pair in against(rows, most, *way) if pair[0].load == ONE_ITEM.name]
-    if len(pairs) < len(ways) or alone is None:
-        return ""
-    (own, unsplit), (_, other) = pairs
-    return (f"Bids on one item, {options_of(own)}, {in_workers(most)}: {in_words(own.value)} requests per second, {beside(own, alone)}; "
-            f"without splitting, on one thread, {beside(own, unsplit)}; fastest plain Rust without phases: {beside(own, other)}")
-
-
-def beside(own: Figure, other: Figure, *words: str) -> str:
-    """Another figure, with words, its workers if they are others, and whether ranges overlap. What has no lock executes all scripts on one thread."""
-    workers = () if own.workers == other.workers else (f"{'input of ' * (other.system == ALONE)}{in_workers(other.workers)}",)
-    said = ", ".join((*words, *workers, *overlapping(own, other)))
-    return f"{in_words(other.value)} ({said})" if said else in_words(other.value)
+    pairs = against(whole_commands(rows), most, (UNSPLIT,))
+    return judged(f"With {options_of(pairs[0][0])} and {in_workers(most)}, splitting makes whole commands", pairs) if pairs else ""
 
 
 def options_of(row: Figure) -> str:
@@ -128,15 +124,6 @@ def options_of(row: Figure) -> str:
     if (row.shards, row.joined, row.split) == (fast.shards, *fast.quotas):
         return "`--fast`"
     return f"`--shards {row.shards} --joined {row.joined} --split {row.split}`"
-
-
-def usual(rows: list[Figure]) -> str:
-    """In README.md: what the program's own quotas make of bids on one item."""
-    own = values(rows, table="quotas", load=ONE_ITEM.name, joined=SMALL[0], split=SMALL[1], workers=most_workers(rows), measure=WHOLE_RATE)
-    split, unsplit = (figure(own, hot=hot) for hot in (8, 0))
-    if not (split and unsplit):
-        return ""
-    return f"{in_words(split.value)} requests per second, without splitting {beside(split, unsplit)}"
 
 
 def lifetime(rows: list[Figure]) -> str:
@@ -154,12 +141,12 @@ def compared(rows: list[Figure]) -> str:
     """In docs/PERFORMANCE.md: the auction as a multiple of others and of itself with one worker."""
     own, most = whole_commands(rows), most_workers(rows)
     loads, counts = loads_of(own), sorted({1, most})
-    beside = [(f"{PHASES}, {in_workers(workers)}", workers, against(rows, workers, (PHASES,))) for workers in counts]
-    beside.append(("the fastest plain Rust, 1 worker", 1, against(rows, 1, PLAIN)))
+    beside = [(f"{PHASES}, {in_workers(workers)}", workers, against(own, workers, (PHASES,))) for workers in counts]
+    beside.append(("the fastest plain Rust, 1 worker", 1, against(own, 1, PLAIN)))
     if most > 1:
         one, all_of_them = ([figure(own, system=AUCTION, load=load, workers=workers) for load in loads] for workers in counts)
-        beside.append((FASTEST, most, against(rows, most, PLAIN, True)))
-        beside.append((f"{IN_C}, 1 worker", most, against(rows, most, (IN_C,), True)))
+        beside.append((FASTEST, most, against(own, most, PLAIN, True)))
+        beside.append((f"{IN_C}, 1 worker", most, against(own, most, (IN_C,), True)))
         beside.append((f"{AUCTION}, 1 worker", most, [pair for pair in zip(all_of_them, one) if all(pair)]))
     lines = [[words, str(workers), *multiples(pairs, loads, words == FASTEST)] for words, workers, pairs in beside]
     heads = [f"{AUCTION}'s throughput, whole command, as a multiple of that of", f"{AUCTION}'s workers", *loads]
@@ -173,5 +160,5 @@ def multiples(pairs: list[tuple[Figure, Figure]], loads: list[str], are_named: b
 
 
 # The parts of README.md, and those of docs/PERFORMANCE.md that are no tables.
-OF_README = {"rates": rates, "cost": cost, "gain": gain, "usual": usual, "level": level, "lifetime": lifetime}
+OF_README = {"rates": rates, "cost": cost, "gain": gain, "level": level, "lifetime": lifetime}
 OF_PERFORMANCE = {"compared": compared}
