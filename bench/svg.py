@@ -1,9 +1,23 @@
-"""Axes, lines and points as SVG."""
+"""Axes, lines, points and boxes as SVG, in colours for a light and a dark theme."""
 import math
+import re
 from html import escape
 from typing import NamedTuple
 
-INK, GREY, GRID = "#222222", "#666666", "#dddddd"
+WHITE, SAND, TINT, GRID = "#ffffff", "#f6f1ea", "#f9dcd8", "#dddddd"
+INK, GREY, EDGE = "#222222", "#595959", "#8f877b"
+RED, ROSE, BLUE, NAVY, BROWN, GREEN, VIOLET, UMBER = "#b3261e", "#d9675c", "#3d6e91", "#1d3557", "#a65a12", "#386641", "#7a2fe0", "#7f5539"
+
+# Each colour, and what it is in a dark theme: the ground is dark, and so are the words in boxes, which are bright.
+DARK = {
+    WHITE: "#0d1117", SAND: "#1d2026", TINT: "#4a2220", GRID: "#30363d", INK: "#e6e6e6", GREY: "#a0a6ae", EDGE: "#777d86", RED: "#ff7b72", ROSE: "#b8574f",
+    BLUE: "#6cb0e0", NAVY: "#c5d6ee", BROWN: "#e3a15c", GREEN: "#7cc48a", VIOLET: "#bc94ff", UMBER: "#d3a684",
+}
+# What others are drawn on, and what only guides the eye. All else is to be seen on each of the former that its picture has.
+GROUNDS, FAINT = (WHITE, SAND, TINT), (GRID,)
+
+# The smallest words of a picture of the usual width: of nine pixels or more where 400 are as wide as a page.
+WIDTH, SMALL = 600, 13.5
 
 
 class Axis(NamedTuple):
@@ -45,7 +59,7 @@ def short(value):
     return f"{value:g}"
 
 
-def text(x, y, words, size=13, anchor="middle", fill=INK, weight="normal", turn=0):
+def text(x, y, words, size=SMALL, anchor="middle", fill=INK, weight="normal", turn=0):
     turned = f' transform="rotate({turn} {x:g} {y:g})"' if turn else ""
     return f'<text x="{x:g}" y="{y:g}" font-size="{size}" text-anchor="{anchor}" fill="{fill}" font-weight="{weight}"{turned}>{escape(words)}</text>'
 
@@ -70,28 +84,50 @@ def mark(x, y, colour, corners):
     return f'<polygon points="{places}" fill="{colour}"/>'
 
 
+def box(x, y, width, height, fill, corner=0.0, stroke="", thick=2.0):
+    edge = f' stroke="{stroke}" stroke-width="{thick:g}"' if stroke else ""
+    return f'<rect x="{x:g}" y="{y:g}" width="{width:g}" height="{height:g}" rx="{corner:g}" fill="{fill}"{edge}/>'
+
+
+def circle(x, y, fill, radius=8):
+    return f'<circle cx="{x:g}" cy="{y:g}" r="{radius:g}" fill="{fill}" stroke="{INK}" stroke-width="2"/>'
+
+
 def spread(x, low, high, colour):
     """A bar from the least of some tries to the greatest."""
     return line(x, low, x, high, colour, 1.5) + "".join(line(x - 4, y, x + 4, y, colour, 1.5) for y in (low, high))
 
 
 def frame(across, up, tics_across, tics_up, labels):
-    """Grid, axes and tics, each tic a value and its words; and what the axes are called."""
+    """Grid, axes and tics, each tic a value and its words; and what the axes are called, the one below perhaps in lines."""
     for value, words in tics_up:
         yield line(across.begin, up.at(value), across.end, up.at(value))
-        yield text(across.begin - 8, up.at(value) + 4, words, 12, "end")
+        yield text(across.begin - 8, up.at(value) + 5, words, anchor="end")
     for value, words in tics_across:
         yield line(across.at(value), up.begin, across.at(value), up.end)
-        yield text(across.at(value), up.begin + 18, words, 12)
+        yield text(across.at(value), up.begin + 20, words)
     yield line(across.begin, up.begin, across.end, up.begin, INK)
     yield line(across.begin, up.begin, across.begin, up.end, INK)
-    yield text((across.begin + across.end) / 2, up.begin + 40, labels[0])
+    for at, words in enumerate(labels[0].split("\n")):
+        yield text((across.begin + across.end) / 2, up.begin + 40 + at * 19, words)
     if labels[1]:
-        yield text(across.begin - 52, (up.begin + up.end) / 2, labels[1], turn=-90)
+        yield text(across.begin - 54, (up.begin + up.end) / 2, labels[1], turn=-90)
+
+
+def heading(title, under=""):
+    return [text(WIDTH / 2, 28, title, 16, weight="bold"), *([text(WIDTH / 2, 49, under, fill=GREY)] if under else [])]
+
+
+def themes(parts):
+    """A style that gives each colour of some parts the one that it is in a dark theme."""
+    used = sorted(set(re.findall(r'\b(fill|stroke)="(#\w+)"', "".join(parts))))
+    rules = [f'[{where}="{colour}"] {{ {where}: {DARK[colour]} }}' for where, colour in used]
+    return "\n".join(["<style>", "@media (prefers-color-scheme: dark) {", *rules, "}", "</style>"])
 
 
 def picture(width, height, title, description, parts):
-    head = (f'<svg xmlns="http://www.w3.org/2000/svg" viewBox="0 0 {width} {height}" width="{width}" height="{height}" '
+    head = (f'<svg xmlns="http://www.w3.org/2000/svg" viewBox="0 0 {width:g} {height:g}" width="{width:g}" height="{height:g}" '
             f'font-family="Helvetica, Arial, DejaVu Sans, sans-serif" role="img" aria-labelledby="title description">')
+    drawn = [f'<rect width="{width:g}" height="{height:g}" fill="{WHITE}"/>', *parts]
     return "\n".join([head, f'<title id="title">{escape(title)}</title>', f'<desc id="description">{escape(description)}</desc>',
-                      f'<rect width="{width}" height="{height}" fill="white"/>', text(width / 2, 30, title, 16, weight="bold"), *parts, "</svg>"]) + "\n"
+                      themes(drawn), *drawn, "</svg>"]) + "\n"
