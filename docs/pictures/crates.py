@@ -9,7 +9,8 @@ import re
 import sys
 from pathlib import Path
 
-from phases import GROUND, INK, text
+sys.path.append(str(Path(__file__).resolve().parents[2] / "bench"))
+from svg import BLUE, EDGE, GREY, RED, SAND, WHITE, box, picture, text
 
 # From the lowest to the highest, each crate with its place across.
 LAYERS = {
@@ -27,7 +28,7 @@ LAYERS = {
                            "floor_tests": 735, "program_tests": 845, "example_watch": 965},
 }
 MODEL = "auction_rows"
-KNOWS, KNOWS_NOT = "#b3261e", "#3d6e91"
+KNOWS, KNOWS_NOT = RED, BLUE
 WIDTH, BOX, ROW, PADDING = 1060, 26, 50, 16
 
 CRATES = Path(__file__).resolve().parents[2] / "crates.txt"
@@ -94,15 +95,14 @@ def edges(uses, at):
         for used in direct(uses, name):
             (x, y), (to, down) = at[name], at[used]
             yield (f'<path d="M{x:.1f},{y + BOX / 2:.1f} C{x:.1f},{y + ROW * 0.55:.1f} {to:.1f},{down - ROW * 0.55:.1f} {to:.1f},{down - BOX / 2:.1f}" '
-                   f'fill="none" stroke="#b9b1a6" stroke-width="1.2"/>')
+                   f'fill="none" stroke="{EDGE}" stroke-width="1.2"/>')
 
 
 def boxes(uses, at):
     for name, (x, y) in at.items():
         colour = KNOWS if name == MODEL or MODEL in below(uses, name) else KNOWS_NOT
-        yield (f'<rect x="{x - width(name) / 2:.1f}" y="{y - BOX / 2:g}" width="{width(name):.1f}" height="{BOX}" rx="4" fill="white" stroke="{colour}" '
-               f'stroke-width="1.6"/>')
-        yield text(f"{x:.1f}", f"{y + 4:g}", name, 12.5)
+        yield box(x - width(name) / 2, y - BOX / 2, width(name), BOX, WHITE, 4, colour, 1.6)
+        yield text(x, y + 4, name, 12.5)
 
 
 def bands(rows, height):
@@ -110,32 +110,29 @@ def bands(rows, height):
     for number, (name, layer) in enumerate(zip(LAYERS, rows)):
         tall = len(layer) * ROW + PADDING
         y -= tall
-        yield f'<rect x="0" y="{y:g}" width="{WIDTH}" height="{tall:g}" fill="{(GROUND, "white")[number % 2]}"/>'
-        yield text(14, f"{y + 13:g}", name, 13, "start", "#555555", "bold")
+        yield box(0, y, WIDTH, tall, (SAND, WHITE)[number % 2])
+        yield text(14, y + 13, name, 13, "start", GREY, "bold")
 
 
 def legend(y):
     for x, colour, words in ((14, KNOWS, "knows auctions"), (160, KNOWS_NOT, "does not")):
-        yield f'<rect x="{x}" y="{y - 12}" width="22" height="15" rx="3" fill="white" stroke="{colour}" stroke-width="1.6"/>'
+        yield box(x, y - 12, 22, 15, WHITE, 3, colour, 1.6)
         yield text(x + 30, y, words, 12.5, "start")
-    yield text(270, y, "A line leads from a crate down to one that it uses; what the latter uses in turn, the former may use too.", 12.5, "start", "#555555")
+    yield text(270, y, "A line leads from a crate down to one that it uses; what the latter uses in turn, the former may use too.", 12.5, "start", GREY)
 
 
-def picture():
+def drawn():
     uses = crates()
     rows = rows_of(uses, layers(uses))
     at, height = places(rows)
     title = "The crates of Fundreivo in layers"
     about = "; ".join(f"{name}: {', '.join(names)}" for name, names in reversed(LAYERS.items()))
-    head = (f'<svg xmlns="http://www.w3.org/2000/svg" viewBox="0 0 {WIDTH} {height + 100:g}" width="{WIDTH}" height="{height + 100:g}" '
-            f'font-family="Helvetica, Arial, DejaVu Sans, sans-serif" role="img" aria-labelledby="title description">')
-    return "\n".join([head, f'<title id="title">{title}</title>', f'<desc id="description">From the highest layer to the lowest. {about}.</desc>',
-                      f'<rect width="{WIDTH}" height="{height + 100:g}" fill="white"/>', text(WIDTH / 2, 36, title, 16, fill=INK, weight="bold"),
-                      *bands(rows, height), *edges(uses, at), *boxes(uses, at), *legend(height + 86), "</svg>"]) + "\n"
+    parts = [text(WIDTH / 2, 36, title, 16, weight="bold"), *bands(rows, height), *edges(uses, at), *boxes(uses, at), *legend(height + 86)]
+    return picture(WIDTH, height + 100, title, f"From the highest layer to the lowest. {about}.", parts)
 
 
 if __name__ == "__main__":
     if sys.argv[1:] == ["--print"]:
-        sys.stdout.write(picture())
+        sys.stdout.write(drawn())
     else:
-        Path(__file__).with_suffix(".svg").write_text(picture())
+        Path(__file__).with_suffix(".svg").write_text(drawn())

@@ -7,104 +7,107 @@
 import sys
 from pathlib import Path
 
-from phases import GREY, GROUND, INK, OTHER, SHARD, SLICE, line, text
+sys.path.append(str(Path(__file__).resolve().parents[2] / "bench"))
+from svg import BLUE, GREY, INK, RED, SAND, TINT, WHITE, box, line, picture, text
 
-WIDTH, HEIGHT = 1000, 400
-CLIENT, PROGRAM, LOG, CRASH = 84, 168, 252, 316
-# Where each part begins, its steps with their widths, and where the picture ends.
-PARTS = ((150, "first part: 3 requests"), (560, "second part: 5 requests that arrived meanwhile"))
-STEPS = (("read", 60, OTHER), ("run", 90, OTHER), ("log", 140, SHARD), ("reply", 70, OTHER))
-GAP, END = 6, 984
+WIDTH, HEIGHT = 560, 690
+# The middles of the lanes, how wide the boxes of two of them are, and what a crash leaves.
+CLIENT, PROGRAM, LOG, BOX, ROW = 48, 206, 336, 84, 100
+CRASH, END = 398, 552
+# Where each part begins, its steps with their heights, and where the second one ends.
+PARTS = ((112, "first part: 3 requests"), (396, "second part: 5 requests sent meanwhile"))
+STEPS = (("read", 34, BLUE), ("run", 50, BLUE), ("log", 84, RED), ("reply", 34, BLUE))
+GAP, LAST = 5, 634
+# How long after its beginning the log is given rows, and how long until they are synced.
+APPENDED, SYNCED = 16, 68
 
 TITLE = "How a part is processed"
 DESCRIPTION = (
-    "Time runs to the right, in three lanes: client, program and log. The client sends three requests. The program reads them as a part, runs it, adds its rows to "
+    "Time runs down, in three lanes: client, program and log. The client sends three requests. The program reads them as a part, runs it, adds its rows to "
     "the log and waits for the sync, and then writes the replies. What the client sent meanwhile is the second part. A crash before the sync of a part ends "
     "leaves none, some or all of its rows, and nobody was answered; a crash after it leaves all of them."
 )
 
 
-def box(x, width, words, fill):
-    yield f'<rect x="{x}" y="{PROGRAM - 17}" width="{width}" height="34" rx="4" fill="{fill}"/>'
-    yield text(x + width / 2, PROGRAM + 5, words, 13.5, fill="white", weight="bold")
+def arrow(x1, x2, y, colour):
+    way = 1 if x2 > x1 else -1
+    yield line(x1, y, x2 - 6 * way, y, colour, 2)
+    yield f'<polygon points="{x2 - 9 * way},{y - 5} {x2 - 9 * way},{y + 5} {x2},{y}" fill="{colour}"/>'
 
 
-def arrow(x1, y1, x2, y2, colour, dashes=""):
-    yield line(x1, y1, x2, y2, colour, 2, dashes)
-    way = 1 if y2 > y1 else -1
-    yield f'<polygon points="{x2 - 5},{y2 - 9 * way} {x2 + 5},{y2 - 9 * way} {x2},{y2}" fill="{colour}"/>'
-
-
-def requests(x, count):
-    """Records on the client's lane."""
+def requests(y, count):
+    """Records on the client's lane, the last of them at a height."""
     for at in range(count):
-        yield f'<rect x="{x + at * 15}" y="{CLIENT - 9}" width="11" height="18" rx="2" fill="{INK}"/>'
+        yield box(CLIENT - 10, y - 5 - at * 13, 20, 9, INK, 2)
 
 
-def ends(begin):
+def steps(begin):
     """Where each step of a part begins, and where the last one ends."""
     places = [begin]
-    for _, width, _ in STEPS:
-        places.append(places[-1] + width + GAP)
+    for _, height, _ in STEPS:
+        places.append(places[-1] + height + GAP)
     return places
 
 
 def frame():
-    yield f'<rect width="{WIDTH}" height="{HEIGHT}" fill="white"/>'
-    yield text(WIDTH / 2, 30, TITLE, 16, weight="bold")
-    for lane, words in ((CLIENT, "client"), (PROGRAM, "program"), (LOG, "log on disk")):
-        yield text(14, lane + 4, words, anchor="start")
-        yield line(110, lane, END, lane, "#e3e3e3", 1)
-    yield text(14, CRASH + 4, "a crash", anchor="start")
-    yield text(14, CRASH + 20, "leaves", anchor="start")
+    yield text(WIDTH / 2, 28, TITLE, 16, weight="bold")
+    for x, words in ((CLIENT, "client"), (PROGRAM, "program"), (LOG, "log on disk"), ((CRASH + END) / 2, "a crash leaves")):
+        yield text(x, 60, words, 13, weight="bold")
+    for lane in (CLIENT, PROGRAM, LOG):
+        for (begin, _), end in zip(PARTS, (PARTS[1][0] - 30, LAST)):
+            yield line(lane, begin - (40 if lane == CLIENT else 8), lane, end)
+    for begin, words in PARTS:
+        yield text(CLIENT + 24, begin - 14, words, 13, "start", GREY, "bold")
 
 
-def part(begin, words):
-    read, run, log, reply, end = ends(begin)
-    for (name, width, fill), x in zip(STEPS, (read, run, log, reply)):
-        yield from box(x, width, name, fill)
-    yield text((read + end) / 2, 58, words, 13, weight="bold", fill="#555555")
-    yield from arrow(read + 14, CLIENT + 10, read + 14, PROGRAM - 18, INK)
-    yield from arrow(log + 14, PROGRAM + 17, log + 14, LOG - 10, SHARD)
-    yield f'<rect x="{log + 8}" y="{LOG - 9}" width="112" height="18" rx="3" fill="{SLICE}"/>'
-    yield text(log + 64, LOG + 4, "append, sync", 12)
-    yield from arrow(log + 114, LOG - 9, log + 114, PROGRAM + 18, SHARD)
-    yield from arrow(reply + 35, PROGRAM - 17, reply + 35, CLIENT + 10, OTHER)
-    yield text(reply + 43, CLIENT + 38, "replies", 12, "start", OTHER)
+def part(begin):
+    read, _, log, reply, _ = places = steps(begin)
+    for (name, height, fill), y in zip(STEPS, places):
+        yield box(PROGRAM - BOX / 2, y, BOX, height, fill, 4)
+        yield text(PROGRAM, y + height / 2 + 5, name, 14, fill=WHITE, weight="bold")
+    yield from arrow(CLIENT, PROGRAM - BOX / 2, read + 17, INK)
+    yield box(LOG - ROW / 2, log + APPENDED - 8, ROW, SYNCED - APPENDED + 16, TINT, 3)
+    yield text(LOG, log + 38, "append,", 13)
+    yield text(LOG, log + 56, "sync", 13)
+    yield from arrow(PROGRAM + BOX / 2, LOG - ROW / 2, log + APPENDED, RED)
+    yield from arrow(LOG - ROW / 2, PROGRAM + BOX / 2, log + SYNCED, RED)
+    yield from arrow(PROGRAM - BOX / 2, CLIENT, reply + 17, BLUE)
+    yield text((CLIENT + PROGRAM - BOX / 2) / 2 + 4, reply + 10, "replies", 13, fill=BLUE)
 
 
 def clients():
     (first, _), (second, _) = PARTS
-    yield from requests(first - 22, 3)
-    yield from requests(ends(first)[2] + 20, 5)
+    yield from requests(first + 17, 3)
+    waiting = steps(first)[2] + 40
+    yield from requests(waiting, 5)
     # They wait in the pipe until the part before is answered.
-    yield line(ends(first)[2] + 95, CLIENT, second + 14, CLIENT, GREY, 1.5, "3 4")
-    yield line(second + 14, CLIENT, second + 14, CLIENT + 12, INK, 2)
+    yield line(CLIENT, waiting + 6, CLIENT, second + 17, GREY, 1.5, "3 4")
 
 
 def crashes():
     for at, (begin, _) in enumerate(PARTS):
-        read, _, log, _, end = ends(begin)
-        synced, until = log + 114, min([end + 38, *(later for later, _ in PARTS[at + 1 :])])
-        yield f'<rect x="{read}" y="{CRASH - 14}" width="{synced - read}" height="42" fill="{GROUND}"/>'
-        yield text((read + synced) / 2, CRASH + 3, "none, some or all rows of this part:", 12)
-        yield text((read + synced) / 2, CRASH + 19, "no reply was sent", 12)
-        yield f'<rect x="{synced}" y="{CRASH - 14}" width="{until - synced}" height="42" fill="{SLICE}"/>'
-        yield text((synced + until) / 2, CRASH + 3, "all rows of", 12)
-        yield text((synced + until) / 2, CRASH + 19, "this part", 12)
-        yield line(synced, PROGRAM + 18, synced, CRASH + 28, SHARD, 1.2, "2 3")
-    yield text(150, 376, "At the next start an incomplete last row is moved to FILE.cut; the other rows restore the auction.", 12, "start", "#555555")
+        log = steps(begin)[2]
+        synced, until = log + SYNCED, LAST if at else PARTS[1][0]
+        yield from left(begin, synced, SAND, ("none, some or all", "rows of this part;", "no reply was sent"))
+        yield from left(synced, until, TINT, ("all rows of", "this part"))
+        yield line(LOG + ROW / 2, synced, END, synced, RED, 1.5, "2 3")
 
 
-def picture():
-    parts = [*frame(), *(drawn for begin, words in PARTS for drawn in part(begin, words)), *clients(), *crashes()]
-    head = (f'<svg xmlns="http://www.w3.org/2000/svg" viewBox="0 0 {WIDTH} {HEIGHT}" width="{WIDTH}" height="{HEIGHT}" '
-            f'font-family="Helvetica, Arial, DejaVu Sans, sans-serif" role="img" aria-labelledby="title description">')
-    return "\n".join([head, f'<title id="title">{TITLE}</title>', f'<desc id="description">{DESCRIPTION}</desc>', *parts, "</svg>"]) + "\n"
+def left(begin, end, fill, words):
+    """What a crash leaves between two moments."""
+    yield box(CRASH, begin, END - CRASH, end - begin, fill)
+    for at, part_of in enumerate(words):
+        yield text((CRASH + END) / 2, (begin + end) / 2 + 5 + 19 * (at - (len(words) - 1) / 2), part_of, 13)
+
+
+def notes():
+    yield text(14, HEIGHT - 34, "At the next start an incomplete last row is moved to FILE.cut;", 13, "start", GREY)
+    yield text(14, HEIGHT - 14, "the other rows restore the auction.", 13, "start", GREY)
 
 
 if __name__ == "__main__":
+    parts = [*frame(), *crashes(), *(drawn for begin, _ in PARTS for drawn in part(begin)), *clients(), *notes()]
     if sys.argv[1:] == ["--print"]:
-        sys.stdout.write(picture())
+        sys.stdout.write(picture(WIDTH, HEIGHT, TITLE, DESCRIPTION, parts))
     else:
-        Path(__file__).with_suffix(".svg").write_text(picture())
+        Path(__file__).with_suffix(".svg").write_text(picture(WIDTH, HEIGHT, TITLE, DESCRIPTION, parts))
