@@ -23,9 +23,12 @@ from command_line import parser_of
 LEFT, RIGHT, TOP = 92, 16, 84
 USUAL_WIDTH, WIDEST, NARROWEST, LEAST_OF_A_PHASE = 1000, 92, 10, 104
 # Narrower boxes have no words.
-WITH_WORDS = 60
-GREY, INK, LINE, SPLIT_GROUND = "#8a8a8a", "#222222", "#e3e3e3", "#f6f1ea"
-COLOURS = {"write": "#b3261e", "view": "#3d6e91", "refused": GREY}
+WITH_WORDS = 66
+GROUND, SPLIT_GROUND, LINE, INK, GREY = "#ffffff", "#f6f1ea", "#dddddd", "#222222", "#595959"
+COLOURS = {"write": "#b3261e", "view": "#3d6e91", "refused": "#6b6b6b"}
+# Each colour of a picture, and what it is in a dark theme: words in boxes are dark there, and boxes bright.
+DARK = {GROUND: "#0d1117", SPLIT_GROUND: "#1d2026", LINE: "#30363d", INK: "#e6e6e6", GREY: "#a0a6ae", "#b3261e": "#ff7b72", "#3d6e91": "#6cb0e0",
+        "#6b6b6b": "#9aa0a8"}
 ORDER = "The serial order is by phase, number and worker."
 WRITES = {"item", "bid", "comment", "buynow"}
 # The template of a page and its scripts.
@@ -145,7 +148,7 @@ def chosen_phases(run, first, most):
     return chosen
 
 
-def text(x, y, words, size=13, anchor="middle", fill=INK, weight="normal"):
+def text(x, y, words, size=15, anchor="middle", fill=INK, weight="normal"):
     return f'<text x="{x:g}" y="{y:g}" font-size="{size}" text-anchor="{anchor}" fill="{fill}" font-weight="{weight}">{escape(words)}</text>'
 
 
@@ -154,9 +157,16 @@ def line(x1, y1, x2, y2, stroke=LINE, dashes=""):
     return f'<line x1="{x1:g}" y1="{y1:g}" x2="{x2:g}" y2="{y2:g}" stroke="{stroke}"{dashed}/>'
 
 
+def themes(parts):
+    """A style that gives each colour of some parts the one that it is in a dark theme."""
+    used = sorted(set(re.findall(r'\b(fill|stroke)="(#\w+)"', "".join(parts))))
+    rules = [f'[{where}="{colour}"] {{ {where}: {DARK[colour]} }}' for where, colour in used]
+    return "\n".join(["<style>", "@media (prefers-color-scheme: dark) {", *rules, "}", "</style>"])
+
+
 def hot_words(objects, width):
     """The objects that find room, and how many more there are."""
-    room = max(1, int(width / 6.6) - 5)
+    room = max(1, int(width / 7.7) - 5)
     shown = list(objects)
     while len(shown) > 1 and len(" ".join(shown)) + 4 * (len(shown) < len(objects)) > room:
         shown.pop()
@@ -166,9 +176,9 @@ def hot_words(objects, width):
 
 class Picture:
     def __init__(self, run, phases, name):
-        self.run, self.phases, self.name, self.parts = run, phases, name, []
+        self.run, self.phases, self.name = run, phases, name
         self.workers = sorted({entry.worker for entry in run.entries})
-        self.apart = 54 if len(self.workers) <= 8 else 40
+        self.apart = 60 if len(self.workers) <= 8 else 50
         own, late = ({phase: [] for phase in phases} for _ in range(2))
         for entry in run.entries:
             asked = run.asked[entry.worker, entry.index]
@@ -179,7 +189,7 @@ class Picture:
         self.places = {phase: columns_of(own[phase], late[phase]) for phase in phases}
         count = sum(len(set(places.values())) for places in self.places.values())
         self.column = min(WIDEST, max(NARROWEST, (USUAL_WIDTH - LEFT - RIGHT) / max(1, count)))
-        self.box = min(30, self.apart - 14)
+        self.box = 36
         self.foot = TOP + self.apart * len(self.workers)
         self.at, self.bounds, x = {}, {}, LEFT
         for phase in phases:
@@ -202,11 +212,11 @@ class Picture:
                 yield f'<rect x="{begin:g}" y="{TOP - 14}" width="{end - begin:g}" height="{self.foot - TOP + 36}" fill="{SPLIT_GROUND}"/>'
             yield text((begin + end) / 2, 40, f"{phase}: {kind}", 15, weight="bold")
             if phase in self.run.hot:
-                yield text((begin + end) / 2, 59, hot_words(self.run.hot[phase], end - begin), 12, fill="#555555")
+                yield text((begin + end) / 2, 59, hot_words(self.run.hot[phase], end - begin), 14, fill=GREY)
         for x in sorted({x for pair in self.bounds.values() for x in pair}):
-            yield line(x, 26, x, self.foot + 22, "#c9c0b4")
-        yield text(14, 40, "phase", anchor="start", fill="#555555")
-        yield text(14, self.foot + 14, "number", anchor="start", fill="#555555")
+            yield line(x, 26, x, self.foot + 22)
+        yield text(14, 40, "phase", anchor="start", fill=GREY)
+        yield text(14, self.foot + 14, "number", anchor="start", fill=GREY)
         for worker in self.workers:
             yield text(14, self.lane(worker) + 4, f"worker {worker}", anchor="start")
             yield line(LEFT, self.lane(worker), max(x for pair in self.bounds.values() for x in pair), self.lane(worker))
@@ -218,8 +228,8 @@ class Picture:
             for entry in sorted(self.places[phase], key=lambda entry: entry.number):
                 x = self.at.get((entry, True))
                 if x is not None and entry.phase == phase and x >= room:
-                    yield text(x, self.foot + 14, str(entry.number), 11, fill="#555555")
-                    room = x + 6 + 7 * len(str(entry.number))
+                    yield text(x, self.foot + 14, str(entry.number), 13, fill=GREY)
+                    room = x + 7 + 8 * len(str(entry.number))
 
     def boxes(self):
         for (entry, committed), x in self.at.items():
@@ -230,14 +240,14 @@ class Picture:
                 yield from self.deferred(entry, x)
 
     def entry(self, entry, x):
-        width, lane = self.column - min(6, self.column / 5), self.lane(entry.worker)
-        late = ' stroke="#222222" stroke-width="2"' if self.run.is_late(entry) else ""
+        width, lane = self.column - min(4, self.column / 5), self.lane(entry.worker)
+        late = f' stroke="{INK}" stroke-width="2"' if self.run.is_late(entry) else ""
         yield (f'<g><title>{escape(" ".join(map(str, entry)))}</title><rect x="{x - width / 2:g}" y="{lane - self.box / 2:g}" width="{width:g}" '
                f'height="{self.box}" rx="3" fill="{COLOURS[entry.kind()]}"{late}/>')
         if self.column >= WITH_WORDS:
-            words, most = entry.words(), int(width / 6)
-            yield text(x, lane - 1, words if len(words) <= most else words[:most - 1] + "…", 11, fill="white")
-            yield text(x, lane + 11, f"index {entry.index}", 9.5, fill="white")
+            words, most = entry.words(), int(width / 7)
+            yield text(x, lane - 2, words if len(words) <= most else words[:most - 1] + "…", 12, fill=GROUND)
+            yield text(x, lane + 13, f"index {entry.index}", 12, fill=GROUND)
         yield "</g>"
 
     def deferred(self, entry, x):
@@ -248,22 +258,23 @@ class Picture:
         yield line(x, lane + radius, x, under, INK, "2 3") + line(x, under, answered, under, INK, "2 3")
         if (entry, True) in self.at:
             yield line(answered, under, answered, lane + self.box / 2, INK, "2 3")
-        yield (f'<g><title>index {entry.index} of worker {entry.worker}, deferred</title><circle cx="{x:g}" cy="{lane:g}" r="{radius:g}" fill="white" '
+        yield (f'<g><title>index {entry.index} of worker {entry.worker}, deferred</title><circle cx="{x:g}" cy="{lane:g}" r="{radius:g}" fill="{GROUND}" '
                f'stroke="{INK}" stroke-width="2"/>')
         if self.column >= WITH_WORDS:
-            yield text(x, lane + 4, str(entry.index), 10)
+            yield text(x, lane + 4, str(entry.index), 12)
         yield "</g>"
 
     def legend(self):
         y, x = self.foot + 48, 14
         for colour, words in ((COLOURS["write"], "write"), (COLOURS["view"], "view"), (COLOURS["refused"], "refused")):
-            yield f'<rect x="{x}" y="{y - 9}" width="18" height="14" rx="3" fill="{colour}"/>' + text(x + 25, y + 3, words, anchor="start")
-            x += 48 + 7 * len(words)
-        yield f'<circle cx="{x + 8}" cy="{y - 2}" r="7" fill="white" stroke="{INK}" stroke-width="2"/>'
-        yield text(x + 23, y + 3, "deferred: no number yet", anchor="start")
-        yield f'<rect x="{x + 204}" y="{y - 9}" width="18" height="14" rx="3" fill="white" stroke="{INK}" stroke-width="2"/>'
-        yield text(x + 229, y + 3, "its reply, in a later phase", anchor="start")
-        yield text(14, y + 26, self.said(), 12, "start", "#555555")
+            yield f'<rect x="{x}" y="{y - 9}" width="18" height="14" rx="3" fill="{colour}"/>' + text(x + 26, y + 3, words, anchor="start")
+            x += 56 + 8 * len(words)
+        y += 27
+        yield f'<circle cx="23" cy="{y - 2}" r="7" fill="{GROUND}" stroke="{INK}" stroke-width="2"/>'
+        yield text(40, y + 3, "deferred: no number yet", anchor="start")
+        yield f'<rect x="262" y="{y - 9}" width="18" height="14" rx="3" fill="{GROUND}" stroke="{INK}" stroke-width="2"/>'
+        yield text(288, y + 3, "its reply, in a later phase", anchor="start")
+        yield text(14, y + 30, self.said(), 14, "start", GREY)
 
     def said(self):
         own = {entry.phase for entry in self.run.entries}
@@ -272,15 +283,15 @@ class Picture:
         return ORDER
 
     def svg(self):
-        height = self.foot + 88
+        height = self.foot + 118
         title = f"Timeline of {self.name}"
         about = (f"{len(self.workers)} lanes, one for each worker, and {len(self.phases)} phases from left to right. Boxes are lines of the history, by their "
                  f"numbers; {sum(not committed for _, committed in self.at)} deferred requests are circles, each with a dashed line to its reply.")
         head = (f'<svg xmlns="http://www.w3.org/2000/svg" viewBox="0 0 {self.width:g} {height}" width="{self.width:g}" height="{height}" '
                 f'font-family="Helvetica, Arial, DejaVu Sans, sans-serif" role="img" aria-labelledby="title description">')
+        parts = [f'<rect width="{self.width:g}" height="{height}" fill="{GROUND}"/>', *self.frame(), *self.numbers(), *self.boxes(), *self.legend()]
         return "\n".join([head, f'<title id="title">{escape(title)}</title>', f'<desc id="description">{escape(about)}</desc>',
-                          f'<rect width="{self.width:g}" height="{height}" fill="white"/>',
-                          *self.frame(), *self.numbers(), *self.boxes(), *self.legend(), "</svg>"]) + "\n"
+                          themes(parts), *parts, "</svg>"]) + "\n"
 
 
 class Verdict(NamedTuple):

@@ -8,7 +8,7 @@ import sys
 from pathlib import Path
 
 sys.path.append(str(Path(__file__).resolve().parents[2] / "bench"))
-from svg import BLUE, GREY, GRID, INK, RED, ROSE, SAND, WHITE, box, circle, line, picture, text
+from svg import BLUE, GREY, INK, RED, ROSE, SAND, WHITE, box, circle, line, picture, text
 
 LEFT, WIDTH, HEIGHT = 14, 560, 546
 LANES = (96, 136, 176, 216)
