@@ -6,8 +6,8 @@ from typing import NamedTuple
 from figures import (ALONE, AT_ONCE, AUCTION, DELAY, EXECUTING, LATEST, MOST_OF_PARTS, PHASES, POSTGRES_LOGGED, REDIS, REDIS_LOGGED, SHARDS, UNSPLIT,
                      WHOLE_RATE, live_words)
 from measures import BIDDING
-from svg import (BLUE, BROWN, GREEN, GREY, INK, NAVY, RED, ROSE, UMBER, VIOLET, WIDTH, Axis, decades, frame, heading, line, mark, path, picture, rounds, short,
-                 spread, steps, text)
+from svg import (BLUE, BROWN, GREEN, GREY, NAVY, RED, ROSE, UMBER, VIOLET, WIDTH, Axis, decades, frame, heading, line, mark, path, picture, rounds, short, spread,
+                 steps, text)
 
 
 class Style(NamedTuple):
@@ -90,6 +90,9 @@ def in_millions(row):
     return [part / 1e6 for part in (row.value, row.low, row.high)]
 
 
+# A title, and what stands below it.
+BY_WORKERS = ("Throughput of whole commands by number of workers", "millions of requests per second (higher is better; scales differ)")
+
 # How large the axes of a panel are, and how far apart panels are, two in a line.
 ACROSS, UP, APART, BELOW = 248, 190, 296, 292
 
@@ -126,9 +129,6 @@ def by_workers(rows, place):
     about = f"A panel for each of {', '.join(loads)}; a line for each system. figures.csv has the figures.{bars_said(rows)}"
     last, end = foot(bottom + 76, place, bars_said(rows))
     return picture(WIDTH, end, f"{BY_WORKERS[0]} (higher is better; each panel has a scale of its own)", about, parts + last)
-
-
-BY_WORKERS = ("Throughput of whole commands by number of workers", "millions of requests per second (higher is better; scales differ)")
 
 
 def processors(across, up, place):

@@ -2,8 +2,8 @@
 """Shows that the documents speak of what there is: a name in backticks is in the code, a path and a link lead to a file, in commands too, each block of code of
 docs/TUTORIAL.md and docs/APPLICATIONS.md is in the file named above it, each definition that the pages of definitions (docs/DEFINITIONS.md,
 docs/ENGINE_DEFINITIONS.md) quote is, except for layout, that of the file named above it, each name in a table with a column of files is in a file beside it, each
-crate and each law has its place, what bench/run and bench/applications wrote has the figures of their tables, each picture is what its script draws, and the pages
-of users and the front are not too long.
+crate and each law has its place, what bench/run and bench/applications wrote has the figures of their tables, each picture is what its script draws and can be
+seen in a light and a dark theme, and the pages of users and the front are not too long.
 
     tests/documents.py
 """
@@ -18,6 +18,7 @@ from textwrap import indent
 from typing import Iterator
 
 from program import DOCUMENTS, TESTS, Tally, described, run
+from themes import LEAST, faults, smallest
 
 ROOT = TESTS.parent
 CODE = {".rt", ".rs", ".antt", ".py", ".c", ".sh", ".sql", ".txt", ".edit"}
@@ -35,6 +36,8 @@ SHOWN = {
 # Where each crate has its place, and each law in one of these.
 MAP, PROVED = DOCUMENTS / "ARCHITECTURE.md", DOCUMENTS / "PROVED.md"
 PICTURES = DOCUMENTS / "pictures"
+# Those too wide for a phone.
+WIDE = {"crates.svg", "contended.svg"}
 # Pictures that are drawn of examples.
 DRAWN = {"contended.svg": ("examples/timeline.py", "examples/contended.history", "examples/contended.report")}
 # The pages of users, and how many words they and the first of them may have.
@@ -232,6 +235,15 @@ def pictures(tally: Tally) -> None:
         tally.check(path.name in drawn, f"{path.name} has a script")
 
 
+def themes(tally: Tally) -> None:
+    """colours of pictures, in a light and a dark theme, and the smallest words of those that a phone shows"""
+    for path in DOCUMENTS.rglob("*.svg"):
+        picture = path.read_text()
+        wrong = list(faults(picture))
+        tally.check(not wrong, f"{path.name}: {'; '.join(wrong)}")
+        tally.check(path.name in WIDE or smallest(picture) >= LEAST, f"{path.name}: the smallest words have {smallest(picture):.1f} pixels, and need {LEAST}")
+
+
 def lengths(tally: Tally) -> None:
     """lengths of the pages of users"""
     # Marks of tables and lists are no words.
@@ -259,7 +271,7 @@ def lines_of_code(script: Path) -> int:
 def main() -> None:
     tally = Tally()
     of_names = (names_and_paths, paths_in_commands, links, crates, laws, files_of_specs)
-    of_what_is_shown = (blocks_of_code, shown_files, quoted_definitions, tables, figures, pictures, lengths, lines_of_scripts)
+    of_what_is_shown = (blocks_of_code, shown_files, quoted_definitions, tables, figures, pictures, themes, lengths, lines_of_scripts)
     for check in (*of_names, *of_what_is_shown):
         passed = tally.passed
         check(tally)

@@ -19,6 +19,7 @@ from xml.etree import ElementTree
 
 from browser import Browser, Document, Element
 from program import BUILT, EXAMPLES, TESTS, Tally, built, described, executable, parser_of, run
+from themes import contrast, faults
 
 TIMELINE = EXAMPLES / "timeline.py"
 CONTENDED = (EXAMPLES / "contended.history").read_bytes()
@@ -145,9 +146,11 @@ def reached(index: int) -> int:
 
 
 def drawn(tally: Tally, history: bytes, words: list) -> tuple[dict[str, float], dict[str, float]]:
-    """What the boxes and what the circles of a timeline say, each with where its middle is."""
+    """What the boxes and what the circles of a timeline say, each with where its middle is; all of it is to be seen in both themes."""
     got = run([TIMELINE, *words], history)
     tally.check(got.status == 0 and not got.stderr, f"timeline.py {words}: {described(got)}")
+    wrong = list(faults(got.stdout.decode() or "<svg/>"))
+    tally.check(not wrong, f"timeline.py {words}: {'; '.join(wrong)}")
     boxes, circles = {}, {}
     for title, shape, *_ in ElementTree.fromstring(got.stdout or b"<svg/>").iter(f"{SVG}g"):
         if shape.tag == f"{SVG}rect":
@@ -200,18 +203,6 @@ def readable_by_all(make: Maker, _) -> None:
             for one, other in pairs:
                 ratio = contrast(colours[one], colours[other])
                 make.tally.check(ratio >= least, f"{theme}: {one} on {other} has a contrast of {ratio:.2f}, and needs {least}")
-
-
-def contrast(one: str, other: str) -> float:
-    """The contrast ratio of WCAG 2."""
-    light, dark = sorted((luminance(one), luminance(other)), reverse=True)
-    return (light + 0.05) / (dark + 0.05)
-
-
-def luminance(colour: str) -> float:
-    parts = [int(colour[at : at + 2], 16) / 255 for at in (0, 2, 4)]
-    red, green, blue = (part / 12.92 if part <= 0.04045 else ((part + 0.055) / 1.055) ** 2.4 for part in parts)
-    return 0.2126 * red + 0.7152 * green + 0.0722 * blue
 
 
 def changed(number: int, old: str, new: str) -> list[str]:
