@@ -88,6 +88,11 @@ def was_running(session: int) -> bool:
     return True
 
 
+def is_asleep(process: int) -> bool:
+    """Whether a child that was not waited for yet sleeps, as Linux tells behind its name: S if it does, R if it runs or could."""
+    return Path(f"/proc/{process}/stat").read_text().rpartition(") ")[2].startswith("S")
+
+
 def build_shim(name: str, folder: Path) -> Path | None:
     """Compiles a shim for LD_PRELOAD from tests/NAME.c, where there is a compiler."""
     compiler = next(filter(None, map(shutil.which, ("cc", "gcc", "clang"))), None)

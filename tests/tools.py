@@ -20,7 +20,7 @@ from typing import BinaryIO
 
 import helps
 from model import Outcome
-from program import BUILT, DOCUMENTS, EXAMPLES, SECONDS, TESTS, Tally, built, described, executable, parser_of, run
+from program import BUILT, DOCUMENTS, EXAMPLES, SECONDS, TESTS, Tally, built, described, executable, is_asleep, parser_of, run
 
 BENCH, PYTHON = TESTS.parent / "bench", [sys.executable, "-B"]
 RUN, TUNE, STARTS, APPLICATIONS = (BENCH / name for name in ("run", "tune", "starts", "applications"))
@@ -154,6 +154,7 @@ def interruptions(tally: Tally, _: Path) -> None:
             # A shell may have told its children to ignore interruptions.
             with Popen([*PYTHON, script, *words], stdout=PIPE, stderr=PIPE, preexec_fn=lambda: signal.signal(signal.SIGINT, signal.SIG_DFL)) as process:
                 with writer(pipe, process):
+                    wait_asleep(process)
                     process.send_signal(signal.SIGINT)
                     stdout, stderr = told_by(process)
             wanted = Outcome(-signal.SIGINT, b"", f"{script.name}: interrupted\n".encode())
@@ -176,6 +177,13 @@ def writer(pipe: str, process: Popen) -> BinaryIO:
             return os.fdopen(os.open(pipe, os.O_WRONLY | os.O_NONBLOCK), "wb")
         time.sleep(0.01)
     return open(os.devnull, "wb")
+
+
+def wait_asleep(process: Popen) -> None:
+    """Waits until a process sleeps, as it does once it reads an empty pipe: Python sees a signal late that comes between its last look and the call."""
+    until = time.monotonic() + SECONDS
+    while process.poll() is None and not is_asleep(process.pid) and time.monotonic() < until:
+        time.sleep(0.01)
 
 
 def builds(tally: Tally, program: Path) -> None:
