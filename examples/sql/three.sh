@@ -11,21 +11,31 @@
 #     three.sh sync FOLDER           from now on each does again
 #     three.sh stop FOLDER           stops them
 #
+# start, promote and rejoin end once the standbys have what the primary has written, so that a commit may wait for any of them; or they say which one follows
+# nobody.
+#
 # They listen to this machine only, and let in whoever asks. PostgreSQL does not run as root, who therefore runs it as the user postgres. It has to be version
 # 13 or later.
 set -euo pipefail
 
 USAGE="three.sh start|address|kill|promote|rejoin|async|sync|stop FOLDER [PORT]"
 ANY_ONE="ANY 1 (s0, s1, s2)"
+# A checkpoint keeps so much for standbys that have not received it yet. What it removes they cannot get any more, so they would follow nobody.
+KEPT=128MB
+# Of what a primary sends, also those that have not found it yet.
+RECEIVERS="SELECT count(*) FROM pg_stat_activity WHERE backend_type = 'walreceiver'"
+# So many seconds a server has to do what is waited for.
+PATIENCE=120
 SETTINGS="listen_addresses = '127.0.0.1'
 unix_socket_directories = ''
 synchronous_standby_names = '$ANY_ONE'
 wal_retrieve_retry_interval = '100ms'
+wal_keep_size = '$KEPT'
 dynamic_shared_memory_type = mmap"
 command=${1:?$USAGE} folder=$(realpath -m "${2:?$USAGE}")
 # Debian has only the clients in PATH.
 for bin in /usr/lib/postgresql/*/bin; do PATH=$bin:$PATH; done
-export PGCONNECT_TIMEOUT=10
+export PGCONNECT_TIMEOUT=10 PGCTLTIMEOUT=$PATIENCE
 cd /
 
 fail() {
@@ -62,6 +72,24 @@ source_of() {
 add_standby() {
     as_owner pg_basebackup -D "$folder/$1" -d "$(source_of "$1" "$2")" -R -X stream -c fast --no-sync
     start_server "$1"
+    await_standby "$1" "$2"
+}
+
+# Waits until a standby has what the primary has written, and is sent what it writes from now on: commits count only on such a one.
+await_standby() {
+    local written
+    written=$(ask "$2" "SELECT pg_current_wal_flush_lsn()")
+    await "$2" "SELECT count(*) > 0 FROM pg_stat_replication WHERE application_name = 's$1' AND state = 'streaming' AND flush_lsn >= '$written'" t \
+        "server $1 does not follow server $2; $folder/log.$1 says why"
+}
+
+# Waits until a server has this answer to a question, or fails.
+await() {
+    local end=$((SECONDS + PATIENCE))
+    until [ "$(ask "$1" "$2")" = "$3" ]; do
+        [ $SECONDS -lt $end ] || fail "$4"
+        sleep 0.02
+    done
 }
 
 set_on() {
@@ -97,13 +125,18 @@ promote() {
         set_on "$standby" primary_conninfo ""
     done
     for standby in $standbys; do
-        until [ "$(ask "$standby" "SELECT count(*) FROM pg_stat_wal_receiver")" = 0 ]; do sleep 0.02; done
+        await "$standby" "$RECEIVERS" 0 "server $standby does not leave the old primary"
     done
     new=$(for standby in $standbys; do echo "$(received "$standby") $standby"; done | sort -n | tail -n 1 | cut -d ' ' -f 2)
-    [ "$(ask "$new" "SELECT pg_promote()")" = t ] || fail "server $new is not promoted"
+    [ "$(ask "$new" "SELECT pg_promote(true, $PATIENCE)")" = t ] || fail "server $new is not promoted"
     for standby in $standbys; do
-        [ "$standby" = "$new" ] || set_on "$standby" primary_conninfo "$(source_of "$standby" "$new")"
+        [ "$standby" = "$new" ] || follow "$standby" "$new"
     done
+}
+
+follow() {
+    set_on "$1" primary_conninfo "$(source_of "$1" "$2")"
+    await_standby "$1" "$2"
 }
 
 # How far a standby's copy goes, in bytes.
