@@ -20,13 +20,12 @@ from concurrent.futures import Future, ThreadPoolExecutor
 from contextlib import contextmanager
 from dataclasses import replace
 from pathlib import Path
-from subprocess import PIPE, run as run_tool
 from typing import Callable, Iterator
 
 import postgres
 from load_model import Plan, load_of
 from model import Outcome
-from postgres import ACCEPTED, HOLD, MARKET, NUMBERED, SQL, Kept, compared, found, program_views, rows_after, wait_for
+from postgres import ACCEPTED, HOLD, MARKET, NUMBERED, SQL, Kept, compared, found, program_views, rows_after, said_by, wait_for
 from program import Tally, described, run, servers_folder, two_programs
 
 FAILOVERS = 5
@@ -49,10 +48,7 @@ class Servers:
         self.folder = folder
 
     def three(self, command: str, *words: str) -> str:
-        ran = run_tool([SQL / "three.sh", command, self.folder / "servers", *words], stdout=PIPE, stderr=PIPE, text=True)
-        if ran.returncode:
-            raise SystemExit(f"three.sh {command}: {ran.stdout}{ran.stderr}")
-        return ran.stdout.strip()
+        return said_by(f"three.sh {command}", [SQL / "three.sh", command, self.folder / "servers", *words]).strip()
 
     def start(self) -> None:
         self.three("start", str(first_free_port()))
@@ -61,7 +57,7 @@ class Servers:
     def ask(self, text: str, role: str = "read-write") -> list[str]:
         """What the primary says, or the first server of another role."""
         words = ["psql", "-d", f"{self.address} target_session_attrs={role}", "-qAtX", "-v", "ON_ERROR_STOP=1"]
-        return run_tool(words, input=text, stdout=PIPE, check=True, text=True).stdout.splitlines()
+        return said_by(f"psql, asked {text!r}", words, text).splitlines()
 
     def fail_over(self, data: bytes, moment: int, kill: Callable[[Future], None]) -> Outcome:
         """The history of an input that a new auction executes. The primary is killed after so many requests; from half of them on one standby hears nothing."""

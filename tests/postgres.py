@@ -18,6 +18,7 @@ import re
 import shutil
 import sys
 import tempfile
+import time
 from collections import defaultdict
 from concurrent.futures import Future, ThreadPoolExecutor
 from dataclasses import replace
@@ -28,7 +29,7 @@ from typing import Iterator, NamedTuple
 from inputs import PROFILES, Text
 from load_model import Plan, load_of
 from model import Options, Outcome, open_auction
-from program import EXAMPLES, Tally, described, run, two_programs
+from program import EXAMPLES, SECONDS, Tally, described, run, two_programs
 from records import BYTE_ORDER_MARK, Fault
 
 SQL = EXAMPLES / "sql"
@@ -59,6 +60,11 @@ DO $$ BEGIN
     END LOOP;
 END $$;
 """
+# What sessions wait for, and which standbys there are.
+SEEN_WAITING = """\
+SELECT state, wait_event, left(query, 80), count(*) FROM pg_stat_activity WHERE backend_type = 'client backend' GROUP BY 1, 2, 3;
+SELECT application_name, state, sync_state, flush_lsn, pg_current_wal_lsn() FROM pg_stat_replication;
+"""
 HAVE_NUMBERS, IS_HELD = "pg_sequences WHERE sequencename = 'commits' AND last_value >= {}", "pg_stat_activity WHERE wait_event = 'SyncRep'"
 
 
@@ -85,10 +91,7 @@ class Server:
 
     def call(self, tool: str, *words, text: str = "") -> str:
         path = self.tools / tool if (self.tools / tool).exists() else tool
-        ran = run_tool([*self.leave, path, *words], input=text, stdout=PIPE, stderr=PIPE, text=True, cwd="/")
-        if ran.returncode:
-            raise SystemExit(f"{tool}: {ran.stdout}{ran.stderr}")
-        return ran.stdout
+        return said_by(f"{tool}, given {text!r}", [*self.leave, path, *words], text, cwd="/")
 
     def ask(self, text: str) -> list[str]:
         asked = self.call("psql", "-h", self.folder, "-U", "auction", "-d", "postgres", "-qAtX", "-v", "ON_ERROR_STOP=1", text=text)
@@ -112,6 +115,14 @@ class Server:
         self.clear()
         place = {"PGHOST": str(self.folder), "PGUSER": "auction", "PGDATABASE": "postgres"}
         return run([sys.executable, "-B", SQL / "perform.py", *MARKET, *asked], data, env=os.environ | place)
+
+
+def said_by(what: str, command: list, text: str = "", **how) -> str:
+    """What a tool prints. One that fails or hangs ends the script, which says which one it was."""
+    got = run(command, text.encode(), **how)
+    if got.status:
+        raise SystemExit(f"{what}: {described(got)}")
+    return got.stdout.decode()
 
 
 class Kept(NamedTuple):
@@ -214,10 +225,11 @@ def histories(server: Server, program: Path, checker: Path, rng: random.Random, 
 
 
 def wait_for(server, moment: int, performed: Future) -> None:
-    """Waits until so many requests have numbers, or perform.py has ended."""
-    awaited = AWAITED.format(HAVE_NUMBERS.format(moment))
-    while not performed.done() and int(server.ask(awaited + NUMBERED)[0]) < moment:
-        pass
+    """Waits until so many requests have numbers, or perform.py has ended. If they have none for too long, the script ends, and says what is waited for."""
+    awaited, end = AWAITED.format(HAVE_NUMBERS.format(moment)), time.monotonic() + SECONDS / 2
+    while not performed.done() and (count := int(server.ask(awaited + NUMBERED)[0])) < moment:
+        if time.monotonic() > end:
+            raise SystemExit(f"{count} requests have numbers after {SECONDS / 2:.0f} seconds, not {moment}: {server.ask(SEEN_WAITING)}")
 
 
 def broken_connections(server: Server, program: Path, checker: Path, rng: random.Random, tally: Tally) -> None:
