@@ -6,8 +6,12 @@
 Each end of a program is a pseudo terminal or a pipe. What a terminal is told is kept with the times.
 """
 
+import fcntl
 import os
 import re
+import select
+import stat
+import sys
 import tempfile
 import termios
 import threading
@@ -21,12 +25,13 @@ from typing import Iterable, Iterator
 from checks import SEEN, VIEW, tell_of
 from load_model import Plan
 from model import Options, expected
-from program import Tally, build_shim, built, executable, parser_of, run
+from program import SECONDS, Tally, build_shim, built, executable, parser_of, run
 
 END_OF_INPUT = b"\x04"
 EMPTY_LINE = b"\r\x1b[K"
 AWAITS = "{}: reads rows and scripts from the terminal until Ctrl-D; --help lists the options\n"
 NOTE = re.compile(rb"(\w+): (\d+) (KB|MB) (.*)")
+OF_READING = (b"read", b"read, executing")
 UNITS = {b"KB": 1_000, b"MB": 1_000_000}
 # So many parts, so far apart, take more than three seconds.
 PARTS, PAUSE = 14, 0.25
@@ -38,7 +43,7 @@ PIPE_ROOM = 1 << 16
 class Screen:
     """What a terminal shows, each write with the seconds since the program began."""
 
-    begun: float
+    begun: float = field(default_factory=time.monotonic)
     writes: list[tuple[float, bytes]] = field(default_factory=list)
 
     def text(self) -> bytes:
@@ -51,10 +56,11 @@ class Screen:
 
 @dataclass
 class Ended:
-    """A program that has ended: its status, its output if that was no terminal, and the screen."""
+    """A program that has ended: its status, its output if that was no terminal, after how many seconds that began, and the screen."""
 
     status: int
     output: bytes
+    output_began: float
     screen: Screen
 
 
@@ -73,11 +79,13 @@ class Tester:
         got = (ended.status, ended.output, ended.screen.text())
         self.tally.check(got == (status, output, screen), f"{what}: got {got}")
 
-    def notes_are_due(self, what: str, screen: Screen, wanted: list[bytes]) -> None:
+    def notes_are_due(self, what: str, ended: Ended, wanted: list[bytes]) -> None:
         """Notes end in these words, in this order, and of those before the end of an input the nth came after n seconds."""
-        notes = screen.notes()
+        notes = ended.screen.notes()
         said = [NOTE.fullmatch(note)[4] for _, note in notes]
-        self.tally.check(list(dict.fromkeys(said)) == wanted, f"{what}: notes {said}")
+        # A busy machine may take a second to read a short input: then notes of that are due, too.
+        also = OF_READING if ended.output_began >= 1 else ()
+        self.tally.check([words for words in dict.fromkeys(said) if words in wanted or words not in also] == wanted, f"{what}: notes {said}")
         regular = [at for (at, _), words in zip(notes, said) if words != b"read, executing"]
         self.tally.check(all(at >= count for count, at in enumerate(regular, 1)), f"{what}: notes at {regular}")
         self.tally.check(len(regular) >= 2, f"{what}: notes at {regular}")
@@ -106,14 +114,14 @@ def terminal() -> Iterator[tuple[int, int]]:
         os.close(user)
 
 
-def perform(command: list, parts: Iterable[bytes], typed=False, shared=False, slow_reader=False, **how) -> Ended:
+def perform(command: list, parts: Iterable[bytes], typed=False, shared=False, slow_reader=False, screen=None, **how) -> Ended:
     """Runs a command with a terminal as standard error, and also as standard input, where the parts are `typed`, and as output, if it is `shared`."""
     with terminal() as (user, program):
-        begun = time.monotonic()
+        screen = screen or Screen()
         ends = {"stdin": program if typed else PIPE, "stdout": program if shared else PIPE, "stderr": program} | how
         with Popen([os.fspath(word) for word in command], start_new_session=True, **ends) as process:
             os.close(program)
-            screen, output = Screen(begun), []
+            output: list[tuple[float, bytes]] = []
             threads = [threading.Thread(target=watch, args=(user, screen))]
             if not shared:
                 threads.append(threading.Thread(target=take, args=(process.stdout.fileno(), output, slow_reader)))
@@ -124,7 +132,8 @@ def perform(command: list, parts: Iterable[bytes], typed=False, shared=False, sl
                 process.stdin.close()
             for thread in threads:
                 thread.join()
-            return Ended(process.wait(), b"".join(output), screen)
+            began = output[0][0] - screen.begun if output else 0
+            return Ended(process.wait(), b"".join(text for _, text in output), began, screen)
 
 
 def watch(user: int, screen: Screen) -> None:
@@ -139,23 +148,38 @@ def watch(user: int, screen: Screen) -> None:
         screen.writes.append((time.monotonic() - screen.begun, text))
 
 
-def take(file: int, output: list[bytes], is_slow: bool) -> None:
-    """Reads a pipe to its end."""
+def take(file: int, output: list[tuple[float, bytes]], is_slow: bool) -> None:
+    """Reads a pipe to its end, and notes when."""
     while text := os.read(file, PIPE_ROOM):
-        output.append(text)
+        output.append((time.monotonic(), text))
         if is_slow:
             time.sleep(PAUSE)
 
 
 def give(file: int, parts: Iterable[bytes]) -> None:
-    """Writes parts, until nobody reads them."""
+    """Writes parts, each once a pipe has given all that came before, until nobody reads them."""
     with suppress(BrokenPipeError):
         for part in parts:
             while part:
                 part = part[os.write(file, part) :]
+            wait_taken(file)
+
+
+def wait_taken(file: int) -> None:
+    """Waits until a pipe is empty, or nobody reads it."""
+    readers = select.poll()
+    readers.register(file, 0)
+    while stat.S_ISFIFO(os.fstat(file).st_mode) and held_by(file) and not readers.poll(0):
+        time.sleep(0.01)
+
+
+def held_by(pipe: int) -> int:
+    """How many bytes a pipe holds."""
+    return int.from_bytes(fcntl.ioctl(pipe, termios.FIONREAD, bytes(4)), sys.byteorder)
 
 
 def slowly(parts: Iterable[bytes]) -> Iterator[bytes]:
+    """Parts with pauses before each: a program that has one of them, however late, has the next one a pause later."""
     for part in parts:
         time.sleep(PAUSE)
         yield part
@@ -176,9 +200,19 @@ def awaited(tester: Tester) -> None:
     for name, command, text in (("rubis_auction", [tester.auction], b"0,0," + SEEN), ("rubis_check", tester.checking(), b"the history replays\n")):
         ended = perform(command, [VIEW, END_OF_INPUT], typed=True, shared=True)
         tester.shows(f"{name} with its output on the terminal", ended, 0, b"", AWAITS.format(name).encode() + text)
-    ended = perform([tester.auction], slowly([*[VIEW] * PARTS, END_OF_INPUT]), typed=True)
-    tester.tally.check(ended.screen.text() == AWAITS.format("rubis_auction").encode(), "notes are written over what a user types")
-    tester.tally.check(ended.screen.writes[0][0] < PAUSE * PARTS / 2, "the line came after what was typed")
+    screen, told, line = Screen(), [], AWAITS.format("rubis_auction").encode()
+    ended = perform([tester.auction], once_told(line, screen, told, slowly([*[VIEW] * PARTS, END_OF_INPUT])), typed=True, screen=screen)
+    tester.tally.check(ended.screen.text() == line, "notes are written over what a user types")
+    tester.tally.check(told == [line], f"what a terminal shows before anything is typed: {told}")
+
+
+def once_told(line: bytes, screen: Screen, told: list[bytes], parts: Iterable[bytes]) -> Iterator[bytes]:
+    """Parts that come once a screen shows a line, or does not for too long. What it shows then is told."""
+    until = time.monotonic() + SECONDS
+    while line not in screen.text() and time.monotonic() < until:
+        time.sleep(0.01)
+    told.append(screen.text())
+    yield from parts
 
 
 def unawaited(tester: Tester) -> None:
@@ -214,7 +248,7 @@ def slow_inputs(tester: Tester) -> None:
     for words in ([], ["--log", log]):
         ended = perform([tester.auction, *words], slowly([data] * PARTS))
         tester.tally.check((ended.status, ended.output) == (0, replies), f"{words}: the replies to a slow input")
-        tester.notes_are_due(f"{words}, slow input", ended.screen, [b"read", b"read, executing"])
+        tester.notes_are_due(f"{words}, slow input", ended, [b"read", b"read, executing"])
         tester.counts_rise(f"{words}, slow input", ended.screen, b"read", len(data) * PARTS)
         tester.tally.check(ended.screen.text().endswith(EMPTY_LINE), f"{words}: a note is left")
     last = ended.screen.notes()[-1][1]
@@ -237,7 +271,7 @@ def slow_histories(tester: Tester) -> None:
         what, text = f"a slow check, shared {shared}", b"the history replays\n"
         tester.tally.check(ended.status == 0 and ended.screen.text().endswith(EMPTY_LINE + text if shared else EMPTY_LINE), f"{what}: {ended}")
         tester.tally.check(ended.output == (b"" if shared else text), f"{what}: {ended.output}")
-        tester.notes_are_due(what, ended.screen, [b"of the input read", b"of the history read"])
+        tester.notes_are_due(what, ended, [b"of the input read", b"of the history read"])
         tester.counts_rise(what, ended.screen, b"of the input read", len(VIEW) * views)
         tester.counts_rise(what, ended.screen, b"of the history read", len(b"".join(history)))
 
@@ -261,14 +295,14 @@ def slow_readers(tester: Tester) -> None:
     load = run([tester.generator, *plan.words()]).stdout
     ended = perform([tester.generator, *plan.words()], [], slow_reader=True)
     tester.tally.check((ended.status, ended.output) == (0, load), "a load that is read slowly")
-    tester.notes_are_due("a load", ended.screen, [b"written"])
+    tester.notes_are_due("a load", ended, [b"written"])
     tester.counts_rise("a load", ended.screen, b"written", len(load))
     rows = b"".join(b"0,+item,0,0,Vase,10,100,%d\n" % at for at in range(30_000))
     for options, data in ((Options(), VIEW * 30_000), (Options(workers=2), (VIEW + b"1,viewuser,0\n") * 15_000), (Options(rows=True), rows)):
         wanted = run([tester.auction, *options.words()], data).stdout
         ended = perform([tester.auction, *options.words()], [data], slow_reader=True)
         tester.tally.check((ended.status, ended.output) == (0, wanted), f"{options.words()}: output that is read slowly")
-        tester.notes_are_due(f"{options.words()}, a slow reader", ended.screen, [b"written"])
+        tester.notes_are_due(f"{options.words()}, a slow reader", ended, [b"written"])
         tester.counts_rise(f"{options.words()}, a slow reader", ended.screen, b"written", len(wanted))
         tester.tally.check(ended.screen.text().endswith(EMPTY_LINE), f"{options.words()}: a note is left")
 
