@@ -25,7 +25,7 @@ from typing import Callable, Iterator
 
 from checks import Tester, tell_of
 from model import Outcome
-from program import BUILT, EXAMPLES, Tally, built, described, executable, in_little_memory, parser_of, run, run_typed
+from program import BUILT, EXAMPLES, Tally, built, described, executable, in_little_memory, is_asleep, parser_of, run, run_typed
 from sessions import FIRST, ITEMS, PLAIN, SECONDS, Auction, Era, Refused, fault_of, in_use, requests, rows_of, wait_until
 
 SEEN = "user rating=0 comments=0"
@@ -215,7 +215,6 @@ def sockets(tester: Tester) -> None:
         return tester.tally.skip(sockets.__doc__, "socat is not installed")
     place, log = tester.folder / "socket", tester.folder / "socket.rows"
     with subprocess.Popen(["socat", f"UNIX-LISTEN:{place},fork", f"EXEC:{tester.program} --live 1000 --log {log}"], stderr=subprocess.DEVNULL) as server:
-        wait_until(place.exists)
         with connected(place) as first:
             tester.tally.check(first("0,item,0,0,Vase,10,100,1") == "0,0,item 0.0", "the first reply through a socket")
             with connected(place) as second:
@@ -231,7 +230,8 @@ def sockets(tester: Tester) -> None:
 def connected(place: Path) -> Iterator[Callable[[str], str]]:
     """A client of a socket: what it sends a line to for its reply, which is empty if the other side is closed."""
     with socket.socket(socket.AF_UNIX) as client:
-        client.connect(str(place))
+        # A server that is starting is not there, or does not listen yet.
+        wait_until(lambda: client.connect_ex(str(place)) == 0)
         client.settimeout(SECONDS)
         replies = client.makefile("r")
 
@@ -251,12 +251,20 @@ def unread_replies(tester: Tester) -> None:
     pipe, left = process.stdin.fileno(), request * 100_000
     # Of a program that reads nothing the pipe takes so many requests, the last of them perhaps in part.
     held = fcntl.fcntl(pipe, fcntl.F_GETPIPE_SZ) // len(request) + 1
-    while left and select.select([], [pipe], [], 1)[1]:
+    while left and gets_room(process, pipe):
         left = left[os.write(pipe, left[:1000]) :]
     count = 100_000 - len(left) // len(request)
     replies, _ = process.communicate(left[: len(left) % len(request)], SECONDS)
     tester.tally.check(max(held, 1000) < count < 100_000, f"{count} requests whose replies nobody reads, of which the pipe holds at most {held}")
     tester.tally.check(replies.decode().splitlines() == [f"0,{index},item 0.{index}" for index in range(count)], f"their replies, once they are read: {replies[-60:]}")
+
+
+def gets_room(process: subprocess.Popen, pipe: int) -> bool:
+    """Whether a pipe to a program has room: it gets none any more once the program sleeps, since one that has input waits only for its replies to be read."""
+    while not select.select([], [pipe], [], 1)[1]:
+        if is_asleep(process.pid):
+            return False
+    return True
 
 
 def short_parts(tester: Tester) -> None:
