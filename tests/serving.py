@@ -318,14 +318,26 @@ def service(tester: Tester) -> None:
     words = re.search(r"(?m)^ExecStart=(.*)", text)[1].replace("${STATE_DIRECTORY}", str(state)).split()
     process = subprocess.Popen([sys.executable, "-B", words[1], "--unix", place, *words[2:]], stderr=subprocess.DEVNULL)
     Front.started.append(process)
-    wait_until(place.exists)
-    with Client(place) as client:
+    with first_client(place) as client:
         tester.tally.check(client.ask(b"ITEM 1 2 Vase 10 99999999999999 *") == [b"+item 0.0"], "a reply of the service")
     process.terminate()
     tester.tally.check(process.wait(SECONDS) == 0, "the status of the service")
     (row,) = whole_lines(state / "auction.rows")
     written = re.fullmatch(r'0,\+item,1,2,"Vase",10,99999999999999,(\d+),1', row)
     tester.tally.check(written is not None and abs(int(written[1]) / 1000 - time.time()) < SECONDS, f"the log of the service: {row}")
+
+
+def first_client(place: Path) -> Client:
+    """The first client of a front that is starting, whose socket may not be there or not listen yet."""
+    connected: list[Client] = []
+
+    def connects() -> bool:
+        with suppress(OSError):
+            connected.append(Client(place))
+        return bool(connected)
+
+    wait_until(connects)
+    return connected[0]
 
 
 def without_a_way_on(tester: Tester) -> None:
