@@ -15,7 +15,7 @@ import socket
 import subprocess
 import sys
 import threading
-from contextlib import suppress
+from contextlib import ExitStack, suppress
 from pathlib import Path
 from types import SimpleNamespace
 from typing import Callable
@@ -27,6 +27,7 @@ from sessions import SECONDS, wait_until
 from watched import PIPELINE, Outcome, Watcher, against_time, judge, judged_by_itself, mix, whole_lines
 
 MACHINES = (1, 2, 3)
+PORTS = 3  # of a machine: of its front, and two of its server of etcd
 CLIENTS = 50
 MORE = 1000  # replies show that it goes on: more than were under way
 TRIES = 5  # of what a busy machine can spoil
@@ -82,9 +83,10 @@ class Network:
             self.ip(one, *(f"neigh del {self.address(two)} dev eth0" for two in MACHINES if two != one))
 
 
-def free_port() -> int:
-    with socket.create_server(("127.0.0.1", 0)) as server:
-        return server.getsockname()[1]
+def free_ports(count: int) -> list[int]:
+    """So many ports that are free, no two the same."""
+    with ExitStack() as held:
+        return [held.enter_context(socket.create_server(("127.0.0.1", 0))).getsockname()[1] for _ in range(count)]
 
 
 class Machine(Front):
@@ -94,7 +96,8 @@ class Machine(Front):
         self.number, self.folder, self.inside = number, cluster.folder / str(number), cluster.network.inside(number)
         self.folder.mkdir()
         self.log, self.said, self.address = self.folder / "rows", self.folder / "said", cluster.network.address(number)
-        self.port, self.asked_at, self.agrees_at = free_port(), *(f"{self.address}:{free_port()}" for _ in range(2))
+        self.port, *ports = (next(cluster.ports) for _ in range(PORTS))
+        self.asked_at, self.agrees_at = (f"{self.address}:{port}" for port in ports)
 
     def start(self) -> None:
         with self.said.open("ab") as said:
@@ -134,6 +137,7 @@ class Cluster:
         self.tester, self.network, self.folder = tester, network, tester.folder / "machines"
         self.audit = self.folder / "audit"
         self.folder.mkdir()
+        self.ports = iter(free_ports(PORTS * len(MACHINES)))
         self.machines = [Machine(number, self) for number in MACHINES]
         self.etcd = ",".join(machine.asked_at for machine in self.machines)
         for machine in self.machines:
