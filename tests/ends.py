@@ -7,6 +7,7 @@ that do not start, a small stack.
 A run that leaves something running, or takes longer than ten minutes, has failed.
 """
 
+import ctypes
 import fcntl
 import os
 import resource
@@ -240,13 +241,20 @@ def small_stacks(tester: Tester) -> None:
     answered, rows = expected(tester.example, options), expected(tester.example, replace(options, rows=True)).stdout
     logged = ("--live", "1", "--log", log)
     for words, data, wanted in (((), tester.example, answered), (logged, tester.example, answered), (logged, VIEW, Outcome(0, b"0,0," + SEEN, b""))):
-        got = run([tester.program, *options.words(), *words], data, preexec_fn=limit_stack)
+        got = run([tester.program, *options.words(), *words], data, env={}, preexec_fn=limit_stack)
         tester.same(f"a stack of 128 KB, {words}", got, wanted)
     tester.tally.check(log.read_bytes() == rows, "the log of a small stack")
 
 
+# Linux leaves up to 8 KB of a stack free, at random in each run, unless addresses are fixed. An environment is on the stack, too.
+FIXED_ADDRESSES, LEFT_FREE = 0x0040000, 8 << 10
+
+
 def limit_stack() -> None:
-    resource.setrlimit(resource.RLIMIT_STACK, (128 << 10, 128 << 10))
+    """A stack of 128 KB, without the most that Linux may leave free: so each run has the least room."""
+    are_fixed = ctypes.CDLL(None).personality(FIXED_ADDRESSES) != -1
+    room = (128 << 10) - LEFT_FREE * are_fixed
+    resource.setrlimit(resource.RLIMIT_STACK, (room, room))
 
 
 CHECKS = (
