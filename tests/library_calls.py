@@ -3,8 +3,8 @@
 
     tests/library_calls.py [TESTS ..]
 
-The tests `calls` of the crates engine_tests, phase_tests and application_tests make the calls and print a line `CALL: ANSWER` for each; tests/library_calls.txt has their
-lines with ample memory. Each of their allocations is refused in turn, alone and with all that come after it. A begin and a store that were refused are
+The tests `calls` of the crates engine_tests, phase_tests, application_tests and example_ledger make the calls and print a line `CALL: ANSWER` for each;
+tests/library_calls.txt has their lines with ample memory. Each of their allocations is refused in turn, alone and with all that come after it. A begin and a store that were refused are
 asked once more, and go on with memory as if they had not been: the first store of a permit has number 1. Any other call that is refused ends its test,
 which tells the fault. A refused close leaves the history of the phases before. A refused publish is refused for good, and the window shows what it
 showed. Between two looks for memory a view of an unknown user is answered, as the first request of a permit and as a later one.
@@ -29,6 +29,8 @@ ALLOCATION_FAILED = "memory allocation failed"
 NO_THREAD = "thread not started"
 # What the standard library answers, told as the error of a test.
 REFUSED = ("error: AllocError", "error: AllocFailed { .. }")
+# A fault of a library, told so.
+FAULT_OF_MEMORY = "error: Memory"
 BEGINS = ("joined begin", "split begin")
 STORES = ("joined request 2, 7 left", "split request 6, 6 left")
 FIRST_STORE = "first store, 2 left"
@@ -42,11 +44,15 @@ FAULTS = {
     **dict.fromkeys(("joined receipts", "split receipts", "phases ready", "parts ready", "rows"), REFUSED),
     **dict.fromkeys(("first_store ready", "first store permit", "first_view ready", "first view permit"), REFUSED),
     PUBLISH: (ALLOCATION_FAILED,),
-    "windows ready": (*REFUSED, "error: Memory"),
+    "windows ready": (*REFUSED, FAULT_OF_MEMORY),
     "application ready": REFUSED,
     "application run": (NO_MEMORY, NO_THREAD),
     "lines ready": REFUSED,
     "lines judged": (NO_MEMORY,),
+    "log ready": (*REFUSED, FAULT_OF_MEMORY),
+    "log written": (FAULT_OF_MEMORY,),
+    # Where a line finds no room, the read fails.
+    "log opened": (FAULT_OF_MEMORY, "error: Read(Kind(OutOfMemory))"),
     LOOK: ("refused",),
 }
 
@@ -191,7 +197,7 @@ def try_each(programs: list[Path], tally: Tally) -> None:
 
 def main() -> None:
     words = parser_of(__doc__)
-    words.add_argument("tests", nargs="*", type=executable, default=[built_tests(name) for name in ("engine_tests", "phase_tests", "application_tests")])
+    words.add_argument("tests", nargs="*", type=executable, default=[built_tests(name) for name in ("engine_tests", "phase_tests", "application_tests", "example_ledger")])
     tally = Tally()
     try_each(words.parse_args().tests, tally)
     tally.finish()

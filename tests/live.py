@@ -210,7 +210,7 @@ def send_each(process: subprocess.Popen, all_signals: tuple, ended: threading.Ev
 
 
 def sockets(tester: Tester) -> None:
-    """one client at a time behind socat, as docs/SERVING.md shows: each goes on from the log, and a second one meanwhile has no reply"""
+    """one client at a time behind socat: each goes on from the log, and a second one meanwhile has no reply"""
     if shutil.which("socat") is None:
         return tester.tally.skip(sockets.__doc__, "socat is not installed")
     place, log = tester.folder / "socket", tester.folder / "socket.rows"

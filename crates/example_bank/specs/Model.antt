@@ -19,28 +19,28 @@ abbrev pub decided : BankReply → List Change → Decision BankReply Change
 decided reply acts = record { reply = reply; acts = acts }
 
 -- an answer, and nothing done
-abbrev pub refused : BankReply → Decision BankReply Change
-refused reply = decided reply []
+abbrev pub unchanged : BankReply → Decision BankReply Change
+unchanged reply = decided reply []
 
 -- a deposit into an account
 abbrev pub deposited : Account → ℕ → Decision BankReply Change
-deposited to amount = if to.is_open then decided Done (Add amount ∷ []) else refused Closed
+deposited to amount = if to.is_open then decided Done (Add amount ∷ []) else unchanged Closed
 
 -- an amount that is taken from what an account holds, if it is there
 abbrev pub moved : ℕ → ℕ → Decision BankReply Change
 moved held amount =
-    if nat_lt held amount then refused NotEnough else decided Done (Take amount ∷ Add amount ∷ [])
+    if nat_lt held amount then unchanged NotEnough else decided Done (Take amount ∷ Add amount ∷ [])
 
 -- a transfer from one account to another: both have to be open
 abbrev pub transferred : Account → Account → ℕ → Decision BankReply Change
 transferred from to amount =
-    if from.is_open && to.is_open then moved from.held amount else refused Closed
+    if from.is_open && to.is_open then moved from.held amount else unchanged Closed
 
 -- what a request is answered and does, by its accounts
 abbrev pub decide : BankRequest → (ℕ → Account) → Decision BankReply Change
 decide (Deposit to amount) accounts = deposited (accounts 0) amount
 decide (Transfer from to amount) accounts = transferred (accounts 0) (accounts 1) amount
-decide (Balance of) accounts = refused (Holds (accounts 0).held)
+decide (Balance of) accounts = unchanged (Holds (accounts 0).held)
 decide (Close of) accounts = decided Done (Shut ∷ [])
 
 -- the keys of the accounts that a request names

@@ -1,7 +1,7 @@
 //! The bank: its accounts, and the requests that name one or two of them.
 ghost use Rattle.std.specs.Prelude.{◌≡◌, ◌*◌, ◌≤◌};
 ghost use Rattle.std.specs.List.{AllByRecursion};
-ghost use Rattle.example_bank.specs.Model.{deposited, refused, transferred, IsSmall};
+ghost use Rattle.example_bank.specs.Model.{deposited, unchanged, transferred, IsSmall};
 
 use split_engine::{Application, Checkable, Decision, Few};
 
@@ -51,8 +51,8 @@ pub struct Account {
 pub struct Bank;
 
 // Nothing is done.
-fn refused(reply: BankReply) -> Decision<BankReply, Change>
-    ensures value { result ≡ refused reply }
+fn unchanged(reply: BankReply) -> Decision<BankReply, Change>
+    ensures value { result ≡ unchanged reply }
     ensures small { AllByRecursion IsSmall result.acts }
 {
     Decision {
@@ -67,7 +67,7 @@ fn deposited(to: Account, amount: u32) -> Decision<BankReply, Change>
     ensures small { AllByRecursion IsSmall result.acts }
 {
     if !to.is_open {
-        return refused(BankReply::Closed);
+        return unchanged(BankReply::Closed);
     }
     Decision {
         reply: BankReply::Done,
@@ -81,13 +81,13 @@ fn transferred(from: Account, to: Account, amount: u32) -> Decision<BankReply, C
     ensures small { AllByRecursion IsSmall result.acts }
 {
     if !from.is_open {
-        return refused(BankReply::Closed);
+        return unchanged(BankReply::Closed);
     }
     if !to.is_open {
-        return refused(BankReply::Closed);
+        return unchanged(BankReply::Closed);
     }
     if from.held < amount as u64 {
-        return refused(BankReply::NotEnough);
+        return unchanged(BankReply::NotEnough);
     }
     Decision {
         reply: BankReply::Done,
@@ -139,7 +139,7 @@ impl Application for Bank {
         match request {
             BankRequest::Deposit { amount, .. } => deposited(looks.at(0), amount),
             BankRequest::Transfer { amount, .. } => transferred(looks.at(0), looks.at(1), amount),
-            BankRequest::Balance { .. } => refused(BankReply::Holds(looks.at(0).held)),
+            BankRequest::Balance { .. } => unchanged(BankReply::Holds(looks.at(0).held)),
             BankRequest::Close { .. } => Decision {
                 reply: BankReply::Done,
                 acts: Few::one(Change::Shut),

@@ -1,0 +1,11 @@
+use Rattle.std.proofs.Common.{◌≡◌, ◌++◌, length, take}
+use Rattle.std.specs.List.{flat_map, AllByRecursion}
+use Rattle.application_log.specs.Logs.{lines_of, log_text, requests_of}
+use Rattle.application_log.proofs.commit_log.write_lines.Given as goal
+
+abbrev pub invariant-loop-place : goal.invariant-loop-place
+invariant-loop-place g l = record {
+  text : l.buffer.items ≡ l.fn.buffer.items ++ log_text g.A.Loggable.line (requests_of (flat_map (λ piece. piece.items) (take l.place l.pieces)));
+  in_range : AllByRecursion g.A.Loggable.is_in_range (requests_of (flat_map (λ piece. piece.items) (take l.place l.pieces)));
+  count : l.lines ≡ length (lines_of g.A.Loggable.line (requests_of (flat_map (λ piece. piece.items) (take l.place l.pieces))));
+}

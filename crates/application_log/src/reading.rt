@@ -1,0 +1,81 @@
+//! How a log is read: line by line, each as the request whose line it is.
+ghost use Rattle.std.specs.Prelude.{◌≡◌, ◌<◌, ◌++◌, ◌∷◌, List, ℕ, true, false, Some, IfErr, IfOk, IfSome};
+ghost use Rattle.std.specs.List.{AllByRecursion};
+ghost use Rattle.std.specs.declared.io.Error.{Error as IoError};
+ghost use Rattle.split_engine.specs.Serial.{IsWithin};
+ghost use Rattle.application_log.specs.Lines.{HasNoEnd};
+
+use crate::loggable::Loggable;
+use crate::opening::OpenFault;
+use split_engine::Few;
+use std::alloc::AllocError;
+use std::io::BufRead;
+
+/// Reads the next line, without its end. If no line ends any more, it gives false.
+pub(crate) fn read_whole_line<R: BufRead>(
+    reader: &mut R,
+    line: &mut Vec<u8>,
+) -> Result<bool, OpenFault>
+    ensures whole { IfOk result (λ is_whole. is_whole ≡ true → HasNoEnd line.new.items) }
+    ensures read { IfOk result (λ is_whole. is_whole ≡ true → (all : List ℕ) →
+        R.remaining reader.old ≡ Some all → (rest : List ℕ)
+        × (R.remaining reader.new ≡ Some rest) × (all ≡ line.new.items ++ 10 ∷ rest)) }
+    ensures cut { IfOk result (λ is_whole. is_whole ≡ false →
+        IfSome (R.remaining reader.old) HasNoEnd) }
+    ensures fault { IfErr result (λ fault. (why : IoError) × (fault ≡ OpenFault.Read why)) }
+{
+    line.clear();
+    if let Err(why) = reader.read_until(b'\n', line) {
+        return Err(OpenFault::Read(why));
+    }
+    let Some(last) = line.pop() else {
+        return Ok(false);
+    };
+    Ok(last == b'\n')
+}
+
+/// The request whose line this is, if there is one.
+pub(crate) fn request_of<A: Loggable>(
+    line: &[u8],
+    written: &mut Vec<u8>,
+) -> Result<Option<A::Request>, AllocError>
+    ensures line { IfOk result (λ found. IfSome found (λ q. A.line q ≡ Some line.now)) }
+    ensures in_range { IfOk result (λ found. IfSome found A.is_in_range) }
+    ensures only { IfOk result (λ found. (q : A.Request) → A.is_in_range q →
+        A.line q ≡ Some line.now → found ≡ Some q) }
+{
+    let Some(request) = A::read_line(line) else {
+        return Ok(None);
+    };
+    written.clear();
+    let is_logged = A::write_line(&request, written)?;
+    if !is_logged {
+        return Ok(None);
+    }
+    if written.as_slice() != line {
+        return Ok(None);
+    }
+    Ok(Some(request))
+}
+
+// Whether some keys are all of a table of so many records.
+fn are_within(keys: &Few<u32>, records: usize) -> bool
+    ensures yes { result ≡ true → AllByRecursion (λ key. key < records) keys.now }
+    ensures no { result ≡ false → AllByRecursion (λ key. key < records) keys.now → ⊥ }
+{
+    for place in 0..keys.len() {
+        if keys.at(place) as usize >= records {
+            return false;
+        }
+    }
+    true
+}
+
+/// Whether a request names keys of a table of so many records.
+pub(crate) fn is_within<A: Loggable>(request: &A::Request, records: usize) -> bool
+    ensures yes { result ≡ true → IsWithin A.rules records request.now }
+    ensures no { result ≡ false → IsWithin A.rules records request.now → ⊥ }
+{
+    let keys = A::keys(request);
+    are_within(&keys, records)
+}

@@ -1,0 +1,105 @@
+-- One part more.
+use Rattle.std.proofs.Common.{◌≡◌, ℕ, suc, ◌+◌, ◌-◌, ◌*◌, ◌/◌, ◌<◌, ◌≤◌, List, [], ◌∷◌, ◌++◌, length, take, get_or, refl, ap, sym, ◌∙◌, subst, arith, length-append}
+use mathlib.Core.List.{IsPrefix}
+use Rattle.std.specs.Prelude.{fold, All, Result, Ok, Err, OnOk, OnErr, MatchResult}
+use Rattle.std.specs.List.{AllByRecursion}
+use Rattle.std.proofs.lemmas.List.{take_more}
+use Rattle.std.proofs.lemmas.List.Elements.{All-push}
+use Rattle.split_engine.specs.declared.entry.Entry.{Entry}
+use Rattle.split_engine.specs.Rules.{Rules, most_acts}
+use Rattle.split_engine.specs.Serial.{acts_at, next, table_after}
+use Rattle.split_engine.specs.Serving.{total}
+use Rattle.application_window.specs.Published.{table_of, AreWithin}
+use Rattle.application_window.specs.inner.Copies.{HasParts, IsLastPart}
+use Rattle.application_window.proofs.Prefixes.{prefix_shorter, prefix_whole}
+use Rattle.application_window.proofs.Elements.{length-acts}
+
+-- a prefix with one part less is the parts before the last
+pub before_last : {E : Type 0} (old new before : List (List E)) (last : List E) → new ≡ before ++ last ∷ [] → IsPrefix old new → length new ≡ suc (length old) → before ≡ old
+before_last old new before last is begins len =
+    let long : length new ≡ length before + 1 = ap length is ∙ length-append before (last ∷ []) in
+    let same_length : length before ≡ length old = omega arith in
+    prefix_whole before old (prefix_shorter before old new (last ∷ [], sym is) begins (omega arith)) (omega arith)
+
+-- so many more commits
+pub total-snoc : {E : Type 0} (parts : List (List E)) (last : List E) → total (parts ++ last ∷ []) ≡ total parts + length last
+total-snoc [] last = omega arith
+total-snoc (part ∷ parts) last = let more = total-snoc parts last in omega arith
+
+-- so many commits do at most so many acts
+pub room_for : (acts more : ℕ) → acts ≤ most_acts → more ≤ (4294967296 - acts) / 4 → acts + 4 * more ≤ most_acts
+room_for acts more few room = omega arith
+
+module _ {Record Slice Look Request Reply Act : Type 0} (rules : Rules Record Slice Look Request Reply Act) where
+  -- a commit more
+  after-snoc : (t : List Record) (part : List (Entry Request Reply)) (e : Entry Request Reply) → table_after rules t (part ++ e ∷ []) ≡ next rules (table_after rules t part) e.request
+  after-snoc t [] e = refl
+  after-snoc t (d ∷ part) e = after-snoc (next rules t d.request) part e
+
+  pub after_more : (t u v : List Record) (part : List (Entry Request Reply)) (k : ℕ) (e : Entry Request Reply) → k < length part → e ≡ get_or part k e →
+      u ≡ table_after rules t (take k part) → v ≡ next rules u e.request → v ≡ table_after rules t (take (k + 1) part)
+  after_more t u v part k e low here was is =
+      is ∙ ap (λ w. next rules w e.request) was ∙ sym (after-snoc t (take k part) e)
+      ∙ ap (table_after rules t) (sym (take_more part k e low ∙ ap (λ x. take k part ++ x ∷ []) (sym here)))
+
+  -- a table keeps its length
+  pub length-after : (t : List Record) (part : List (Entry Request Reply)) → length (table_after rules t part) ≡ length t
+  length-after t [] = refl
+  length-after t (e ∷ part) = length-after (next rules t e.request) part ∙ length-acts rules t (acts_at rules t e.request)
+
+  length-table_of : (opened : List Record) (parts : List (List (Entry Request Reply))) → length (table_of rules opened parts) ≡ length opened
+  length-table_of opened [] = refl
+  length-table_of opened (part ∷ parts) = length-table_of (table_after rules opened part) parts ∙ length-after opened part
+
+  -- the table after one part more
+  table_of-snoc : (opened : List Record) (parts : List (List (Entry Request Reply))) (last : List (Entry Request Reply)) →
+      table_of rules opened (parts ++ last ∷ []) ≡ table_after rules (table_of rules opened parts) last
+  table_of-snoc opened [] last = refl
+  table_of-snoc opened (part ∷ parts) last = table_of-snoc (table_after rules opened part) parts last
+
+  -- what is seen of a copy's table is of the table after the parts that it has
+  pub seen_after : {T : Type 0} (f : List Record → T) (seen : T) (now table opened : List Record) (parts shown : List (List (Entry Request Reply))) →
+      seen ≡ f now → now ≡ table → table ≡ table_of rules opened parts → shown ≡ parts → seen ≡ f (table_of rules opened shown)
+  seen_after f seen now table opened parts shown seen_is same is shown_are = seen_is ∙ ap f (same ∙ is ∙ ap (table_of rules opened) (sym shown_are))
+
+  module _ {Fits : ℕ → Record → Type 0} {opened table : List Record} {acts commits : ℕ} {old : List (List (Entry Request Reply))} (held : HasParts rules Fits opened table acts commits old) where
+    -- a copy has as many records as the table before the first part
+    pub as_long : length table ≡ length opened
+    as_long = ap length held.table_is ∙ length-table_of opened old
+
+    module _ {last : List (Entry Request Reply)} {new : List (List (Entry Request Reply))} (part : IsLastPart rules opened last new) where
+      -- the requests of the part that comes next name keys of it
+      pub is_within : AreWithin rules (length table) last
+      is_within = subst (λ (len : ℕ). AreWithin rules len last) (sym as_long) part.within
+
+      -- once they are performed, it has the part too
+      pub has_next : IsPrefix old new → length new ≡ suc (length old) → (after : List Record) (more count : ℕ) → after ≡ table_after rules table last →
+          AllByRecursion (Fits more) after → more ≡ acts + 4 * length last → more ≤ most_acts → count ≡ commits + length last → HasParts rules Fits opened after more count new
+      has_next begins len after more count performed fits acts_are few count_is =
+          let same = before_last old new part.before last part.parts_are begins len in
+          let grown : new ≡ old ++ last ∷ [] = part.parts_are ∙ ap (λ (parts : List (List (Entry Request Reply))). parts ++ last ∷ []) same in record {
+            table_is = performed ∙ ap (λ (t : List Record). table_after rules t last) held.table_is ∙ sym (table_of-snoc opened old last) ∙ ap (table_of rules opened) (sym grown);
+            fits = fits;
+            few = few;
+            fewer = omega (arith, held.fewer);
+            count = let snoc = total-snoc old last in let all = ap total grown in omega (arith, held.count);
+          }
+
+-- a window more that has shown nothing
+pub none_more : {W : Type 0} (none window : W) (made more : List W) → more ≡ made ++ window ∷ [] → window ≡ none → All (λ (w : W). w ≡ none) made → All (λ (w : W). w ≡ none) more
+none_more none window made more pushed same all = subst (All (λ w. w ≡ none)) (sym pushed) (All-push (λ w. w ≡ none) made window all same)
+
+-- what is taken in last is what is shown
+fold-last : {S : Type 0} (shown : S) (waiting : List S) (last : S) → fold (λ _ next. next) shown (waiting ++ last ∷ []) ≡ last
+fold-last shown [] last = refl
+fold-last shown (next ∷ waiting) last = fold-last next waiting last
+
+pub shown-last : {T E S : Type 0} (Q R : Type 0) (answered : Result T E) (old new : S) (waiting before : List S) (last : S) → MatchResult answered (λ _. (new ≡ fold (λ _ next. next) old waiting) × Q) (λ _. R)
+    → waiting ≡ before ++ last ∷ [] → OnOk answered (new ≡ last)
+shown-last Q R (Ok x) old new waiting before last shown is = shown.0 ∙ ap (fold (λ _ next. next) old) is ∙ fold-last old before last
+shown-last Q R (Err e) old new waiting before last shown is = tt
+
+-- and where it can't be taken in, what was shown is shown
+pub shown-before : {T E S : Type 0} (Q R : Type 0) (answered : Result T E) (first old new : S) → MatchResult answered (λ _. Q) (λ _. (new ≡ old) × R) → old ≡ first → OnErr answered (new ≡ first)
+shown-before Q R (Ok x) first old new shown is = tt
+shown-before Q R (Err e) first old new shown is = shown.0 ∙ is

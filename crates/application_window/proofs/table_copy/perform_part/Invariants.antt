@@ -1,0 +1,11 @@
+use Rattle.std.proofs.Common.{◌≡◌, ℕ, ◌+◌, ◌*◌, take}
+use Rattle.std.specs.List.{AllByRecursion}
+use Rattle.split_engine.specs.declared.few.TheConstants.{MOST_KEYS}
+use Rattle.split_engine.specs.Serial.{table_after}
+use Rattle.application_window.proofs.table_copy.perform_part.Given as goal
+
+abbrev pub invariant-loop-place : goal.invariant-loop-place
+invariant-loop-place g l = record {
+  table_is : l.table.items ≡ table_after g.A.Application.rules l.fn.table.items (take l.place l.commits);
+  fits : (n : ℕ) → AllByRecursion (g.A.Application.fits n) l.fn.table.items → AllByRecursion (g.A.Application.fits (n + MOST_KEYS * l.place)) l.table.items;
+}

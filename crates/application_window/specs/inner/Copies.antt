@@ -1,0 +1,27 @@
+-- What a copy of the table keeps, and what it takes in.
+use Rattle.std.specs.Prelude.{◌≡◌, ℕ, ◌≤◌, List, [], ◌∷◌, ◌++◌, length}
+use Rattle.std.specs.List.{AllByRecursion}
+use Rattle.split_engine.specs.declared.entry.Entry.{Entry}
+use Rattle.split_engine.specs.Rules.{Rules, most_acts}
+use Rattle.split_engine.specs.Serving.{total}
+use Rattle.application_window.specs.Published.{table_of, AreWithin}
+
+module _ {Record Slice Look Request Reply Act : Type 0}
+    (rules : Rules Record Slice Look Request Reply Act) where
+  -- a table is the one after these parts, which have so many commits, and so many acts make each of
+  -- its records
+  pub record HasParts (Fits : ℕ → Record → Type 0) (opened table : List Record)
+      (acts commits : ℕ) (parts : List (List (Entry Request Reply))) : Type 0 where
+    pub table_is : table ≡ table_of rules opened parts
+    pub fits : AllByRecursion (Fits acts) table
+    pub few : acts ≤ most_acts
+    pub fewer : commits ≤ acts
+    pub count : commits ≡ total parts
+
+  -- these commits are the last of the parts, and name keys of the table
+  pub record IsLastPart (opened : List Record) (last : List (Entry Request Reply))
+      (parts : List (List (Entry Request Reply))) : Type 0 where
+    -- the parts before it
+    pub before : List (List (Entry Request Reply))
+    pub parts_are : parts ≡ before ++ last ∷ []
+    pub within : AreWithin rules (length opened) last

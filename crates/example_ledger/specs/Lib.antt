@@ -1,0 +1,4 @@
+pub mod Model
+pub mod Laws
+pub mod Log
+pub mod LogLaws

@@ -1,0 +1,28 @@
+-- The lines of requests, such as `add 2 30`.
+use Rattle.std.specs.Prelude.{◌≢◌, ℕ, ◌<◌, ◌^◌, length, slice_index, List, ◌∷◌, ◌++◌, Option, None, Some, codes, decimal, ⊤}
+use Rattle.example_ledger.specs.declared.ledger.LedgerRequest.{LedgerRequest}
+use Rattle.example_ledger.specs.declared.ledger.LedgerRequest.TheVariants.{Add, Take, Held}
+
+-- two numbers with a blank between them
+abbrev pub numbers : ℕ → ℕ → List ℕ
+numbers account amount = decimal account ++ 32 ∷ decimal amount
+
+-- a word, and two numbers
+abbrev pub words : List ℕ → ℕ → ℕ → List ℕ
+words word account amount = word ++ 32 ∷ numbers account amount
+
+-- no blank is in a word
+abbrev pub HasNoBlank : List ℕ → Type 0
+HasNoBlank word = (i : ℕ) → i < length word → slice_index word i ≢ 32
+
+-- the line of a request: a view has none
+abbrev pub line_of : LedgerRequest → Option (List ℕ)
+line_of (Add to amount) = Some (words (codes "add") to amount)
+line_of (Take from amount) = Some (words (codes "take") from amount)
+line_of (Held of) = None
+
+-- the numbers of a request are u32
+abbrev pub IsInRange : LedgerRequest → Type 0
+IsInRange (Add to amount) = (to < 2 ^ 32) × (amount < 2 ^ 32)
+IsInRange (Take from amount) = (from < 2 ^ 32) × (amount < 2 ^ 32)
+IsInRange (Held of) = ⊤
