@@ -51,16 +51,14 @@ def speed_ups(own: list[Figure], loads: list[str]) -> list[str]:
     """How many times as fast each number of workers is as one, load by load."""
     counts = sorted({row.workers for row in own} - {1})
     over_one = {load: [times_if_apart(figure(own, load=load, workers=workers), figure(own, load=load, workers=1)) for workers in counts] for load in loads}
-    return [f"speed-up over 1 worker: of {', '.join(map(str, counts))}", *(", ".join(over_one[load]) for load in loads)]
+    return [f"speed-up over 1 worker: of {', '.join(map(str, counts))}", *(", ".join(over_one[load]) if len({*over_one[load]}) > 1 else over_one[load][0] for load in loads)]
 
 
 def level(rows: list[Figure]) -> str:
-    """In README.md: load by load how many times as fast plain Rust and C are."""
+    """In README.md: load by load how many times as fast plain Rust is."""
     most = most_workers(rows)
-    ways = (("The fastest plain Rust is", against(whole_commands(rows), most, PLAIN, True)),
-            ("Without reading and writing it is", against(executing(rows), most, PLAIN, True)),
-            ("C in one pass is", against(whole_commands(rows), most, (IN_C,), True)))
-    return ". ".join(judged(words, [(other, own) for own, other in pairs]) for words, pairs in ways if pairs)
+    pairs = against(whole_commands(rows), most, PLAIN, True)
+    return judged("The fastest plain Rust is", [(other, own) for own, other in pairs]) if pairs else ""
 
 
 def judged(words: str, pairs: list[tuple[Figure, Figure]]) -> str:
@@ -72,7 +70,8 @@ def judged(words: str, pairs: list[tuple[Figure, Figure]]) -> str:
         found = [own.value / other.value for own, other in pairs]
         return f"{words} {' to '.join(dict.fromkeys(map(two, (min(found), max(found)))))} times as fast"
     found = [f"{times(*pair)} times{' as fast' * (at == 0)} on {load_in_words(pair[0])}" for at, pair in enumerate(apart)]
-    return f"{words} {listed(found)}; on the other loads no difference is shown"
+    rest = load_in_words(alike[0][0]) if len(alike) == 1 else "the other loads"
+    return f"{words} {listed(found)}; on {rest} no difference is shown"
 
 
 def load_in_words(row: Figure) -> str:
@@ -108,7 +107,9 @@ def cost(rows: list[Figure]) -> str:
     """In README.md: whole commands beside the fastest plain Rust, with any number of workers."""
     most = most_workers(rows)
     pairs = against(whole_commands(rows), most, (*PLAIN, IN_C), True)
-    return f"Whole commands with {in_workers(most)} reach {by_loads(pairs)} of the throughput of the fastest plain Rust or C" if pairs else ""
+    fastest = {other.system for _, other in pairs}
+    best_known = "one thread of C" if fastest == {IN_C} else "the fastest plain Rust or C"
+    return f"Whole commands with {in_workers(most)} reach {by_loads(pairs)} of the throughput of {best_known}" if pairs else ""
 
 
 def gain(rows: list[Figure]) -> str:

@@ -298,7 +298,7 @@ def tables(rows: list[Figure]) -> Iterator[tuple[str, str]]:
 
 def tries_told(systems: measures.Systems) -> str:
     turns, few = systems.turns, systems.few_tries()
-    return (f"Whole commands and executing have {turns} tries, interleaved with those of all other commands, SQLite and PostgreSQL at most {few}.\n"
+    return (f"Whole commands and executing have {turns} tries, for which there was time, interleaved with those of all other commands, SQLite and PostgreSQL at most {few}.\n"
             f"Histories, clients, and replies as requests arrive have {few}.")
 
 
@@ -316,7 +316,7 @@ def heading(asked: Namespace, systems: measures.Systems, when: str, seconds: flo
         lines.append("    example_watch --measure")
     lines.append("")
     if systems.server:
-        lines.append(f"PostgreSQL {systems.server_version} runs for about {asked.seconds:g} s per load, on its first {systems.few():,} requests.")
+        lines.append(f"PostgreSQL {systems.server_version} executes as many of the first {systems.few():,} requests of a load as it can in about {asked.seconds:g} s.")
     if redis_server.is_there() and "redis" not in asked.skip:
         lines.append(f"Redis is {redis_server.version()}.")
     if "sqlite" not in asked.skip:

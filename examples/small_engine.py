@@ -10,6 +10,7 @@ import copy
 import csv
 import random
 import re
+import signal
 from pathlib import Path
 
 from command_line import end, parser_of
@@ -122,6 +123,8 @@ def words_of(text):
 
 
 def main():
+    # Who reads the history may have seen enough before its end.
+    signal.signal(signal.SIGPIPE, signal.SIG_DFL)
     words = words_of(__doc__)
     words.add_argument("seed", metavar="SEED", help="a text that gives the order")
     words.add_argument("--stale", action="store_true", help="views of items read the second copy")
