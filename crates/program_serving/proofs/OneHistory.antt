@@ -1,5 +1,5 @@
 -- The histories of parts are one.
-use Rattle.std.proofs.Common.{◌≡◌, ◌++◌, ◌∷◌, ◌∙◌, ◌||◌, true, false, ℕ, List, [], ap, append_assoc, append-nil, if◌then◌else◌, inl, inr, refl, subst, sym}
+use Rattle.std.proofs.Common.{◌≡◌, ◌++◌, ◌∷◌, ◌∙◌, ◌||◌, true, false, ℕ, List, [], Option, Some, ap, append_assoc, append-nil, if◌then◌else◌, inl, inr, refl, subst, sym}
 use Rattle.std.proofs.lemmas.Grind.{flat_map-append}
 use Rattle.auction_rows.specs.declared.{values.Opening.Opening, rows.Entry.Entry}
 use Rattle.auction_rows.specs.Book.{Book}
@@ -11,7 +11,8 @@ use Rattle.auction_text.specs.Said.TheVariants as says
 use Rattle.shard_boxes.specs.declared.limits.TheConstants.{MOST_COMMITS}
 use Rattle.program_opening.specs.Options.{opening_asked}
 use Rattle.program_opening.specs.declared.options.Options.{Options}
-use Rattle.program_serving.specs.Serving.{AreStepRuns, Part, Answer, RowsComeFirst, Step, added_rows, book_past, gone_past, limit_line, named_answer, served_history, served_text, step_history, step_text}
+use Rattle.program_serving.specs.FaultLines.{fault_text, limit_text}
+use Rattle.program_serving.specs.Serving.{AreStepRuns, Part, Answer, RowsComeFirst, Step, added_rows, book_past, gone_past, named_answer, served_history, served_text, step_history, step_text, turned_answer}
 
 -- phases and indexes don't matter to a replay
 moved_replays : (opening : Opening) (book : Book) (gone : Gone) (entries : List Entry) → ReplaysFrom opening book entries → ReplaysFrom opening book (all_moved gone entries)
@@ -53,18 +54,20 @@ one_history options gone book (Part part ∷ steps) are (inr none, first) =
     (goes_on opening after (all_moved gone part.history) (served_history options next steps) (moved_replays opening after gone part.history are.0.answer.replays)
     (subst (λ (b : Book). ReplaysFrom opening b (served_history options next steps)) (sym (moved_leaves opening after gone part.history)) rest))
 
+-- a line that is turned away has no answer, if the options ask for the history
+no_answer : (options : Options) (gone : Gone) (worker : Option ℕ) (words : List ℕ) → options.rows ≡ false → options.history ≡ true → turned_answer options gone worker words ≡ []
+no_answer options gone worker words off on =
+    let named : List ℕ = named_answer gone worker words in
+    ap (λ b. if b || options.history then [] else named) off ∙ ap (λ b. if b then [] else named) on
+
 -- what is written of a step, if the options ask for the history
 step_asked : (options : Options) (gone : Gone) (step : Step) → options.rows ≡ false → options.history ≡ true → step_text options gone step ≡ history_text (all_moved gone (step_history step))
 step_asked options gone (Part part) off on =
     let own : List Entry = all_moved gone part.history in
     ap (λ b. if b then rows_text part.added own else if options.history then history_text own else replies_text own) off
     ∙ ap (λ b. if b then history_text own else replies_text own) on
-step_asked options gone (Answer (says.Record one)) off on =
-    let line : List ℕ = limit_line one.worker (gone.requests one.worker) MOST_COMMITS in
-    ap (λ b. if b || options.history then [] else line) off ∙ ap (λ b. if b then [] else line) on
-step_asked options gone (Answer (says.Fault met)) off on =
-    let named : List ℕ = named_answer gone met.worker met.fault in
-    ap (λ b. if b || options.history then [] else named) off ∙ ap (λ b. if b then [] else named) on
+step_asked options gone (Answer (says.Record one)) off on = no_answer options gone (Some one.worker) (limit_text MOST_COMMITS) off on
+step_asked options gone (Answer (says.Fault met)) off on = no_answer options gone met.worker (fault_text met.fault) off on
 
 pub one_text : (options : Options) (gone : Gone) (steps : List Step) → options.rows ≡ false → options.history ≡ true → served_text options gone steps ≡ history_text (served_history options gone steps)
 unfolding served_text served_history

@@ -9,9 +9,10 @@ use Rattle.auction_text.specs.Said.{Said}
 use Rattle.part_log.specs.declared.log.Teller.{Teller}
 use Rattle.program_opening.specs.declared.faults.Fault.{Fault}
 use Rattle.program_opening.specs.declared.options.Options.{Options}
-use Rattle.program_serving.specs.PartRuns.{AreDoneOf, BeginsAt, HasRoomForPart, IsSession, ServesPart, done_of}
-use Rattle.program_serving.specs.ServeFaults.{FailsPart, IsServeFault}
+use Rattle.program_serving.specs.ServeFaults.{IsServeFault}
 use Rattle.program_serving.specs.Serving.{AreTold, book_left, ends_at_fault}
+use Rattle.program_serving.specs.inner.Parts.{AreDoneOf, BeginsAt, FailsPart, HasRoomForPart, ServesPart, done_of}
+use Rattle.program_serving.specs.inner.Sessions.{IsSession}
 use Rattle.program_serving.specs.declared.parts.Served.{Served}
 use Rattle.program_serving.proofs.FaultLemmas.{part_stops_all}
 use Rattle.program_serving.proofs.PastLimits.{AtPast, LeftBehind, ReadsPart, done_reads, grown, left_behind}

@@ -27,7 +27,8 @@ use Rattle.run_laws.specs.Serving.{script_of}
 use Rattle.shard_boxes.specs.declared.limits.TheConstants.{MOST_COMMITS}
 use Rattle.program_opening.specs.Options.{opening_asked}
 use Rattle.program_opening.specs.declared.options.Options.{Options}
-use Rattle.program_serving.specs.PartRuns.{AreDoneOf, AreWithinLimit, HasRoomForPart, IsPastLimit, IsStart, ServesPart, done_of}
+use Rattle.program_serving.specs.PartRuns.{IsStart}
+use Rattle.program_serving.specs.inner.Parts.{AreDoneOf, AreWithinLimit, HasRoomForPart, IsPastLimit, ServesPart, done_of}
 use Rattle.program_serving.specs.declared.parts.Served.{Served}
 use Rattle.auction_text.specs.Moved.{Gone}
 use Rattle.program_serving.proofs.RowsBefore.{HasNoLateRow, no_entries, no_script, one_more, request_begins, rows_of_both}

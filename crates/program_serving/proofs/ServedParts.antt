@@ -18,9 +18,9 @@ use Rattle.program_opening.specs.Options.{FitsOptions, opening_asked}
 use Rattle.program_opening.specs.declared.faults.Fault.{Fault}
 use Rattle.program_opening.specs.declared.faults.Fault.TheVariants.{Usage, Read, Resume, Row, Make, Run, Limit, Write, Report, OpenLog, Log}
 use Rattle.program_opening.specs.declared.options.Options.{Options}
-use Rattle.program_serving.specs.PartRuns.{AreDoneOf, BeginsAt, IsBegun, IsPastOn, done_of}
-use Rattle.program_serving.specs.ServeFaults.{AreNotRunOn, IsFirstBadRow, IsFirstNotAdded, IsPartRefused, IsPastCounts}
+use Rattle.program_serving.specs.ServeFaults.{AreNotRunOn, IsFirstBadRow, IsPartRefused, IsPastCounts}
 use Rattle.program_serving.specs.Serving.{AddsRows, ends_at_fault}
+use Rattle.program_serving.specs.inner.Parts.{AreDoneOf, BeginsAt, IsBegun, IsFirstNotAdded, IsPastOn, done_of}
 use Rattle.program_serving.proofs.StoppedRuns.{added_fits, next_fits, next_start, short_behind, stored}
 
 -- before another run an auction has its book yet

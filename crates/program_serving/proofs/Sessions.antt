@@ -27,9 +27,11 @@ use Rattle.shard_boxes.specs.declared.limits.TheConstants.{MOST_COMMITS}
 use Rattle.program_opening.specs.declared.faults.Fault.{Fault as AnyFault}
 use Rattle.program_opening.specs.declared.faults.Fault.TheVariants.{Read}
 use Rattle.program_opening.specs.declared.options.Options.{Options}
-use Rattle.program_serving.specs.PartRuns.{AreDoneOf, BeginsAt, GoesOnTo, IsSession, IsStart, MayHaveToSay, PassesFault, ServesPart, answer_to, fault_said, past_answer, rows_before}
+use Rattle.program_serving.specs.PartRuns.{IsStart, rows_before}
 use Rattle.program_serving.specs.ServeFaults.{AreToldAt, IsPartFault, IsServeFault, IsStop, StopsAtPart}
-use Rattle.program_serving.specs.Serving.{AreStepRuns, AreTold, IsStepRun, Part, Answer, PartRun, ServesAll, Step, book_left, book_past, ends_at_fault, gone_past, limit_answer, line_answer, nothing_gone, served_rows, served_text, step_rows, step_said, step_text}
+use Rattle.program_serving.specs.Serving.{AreStepRuns, AreTold, IsStepRun, Part, Answer, PartRun, ServesAll, Step, book_left, book_past, ends_at_fault, gone_past, line_answer, nothing_gone, served_rows, served_text, step_rows, step_said, step_text}
+use Rattle.program_serving.specs.inner.Parts.{AreDoneOf, BeginsAt, ServesPart}
+use Rattle.program_serving.specs.inner.Sessions.{GoesOnTo, IsSession, MayHaveToSay, PassesFault, fault_answer, fault_said, past_answer}
 use Rattle.program_serving.specs.declared.parts.Served.{Served}
 use Rattle.program_serving.proofs.FaultLemmas.{answer_stops}
 use Rattle.program_serving.proofs.PastLimits.{IsNextPast, LeftBehind, ReadsPart}
@@ -177,7 +179,7 @@ module _ {L W : Type 0} (accepted : L → Option (List ℕ)) (contents : W → O
     session_passed left passes = passed passes.met passes.goes_on passes.behind passes.rest_is passes.left_is passes.holds
       where
         passed : (met : Option LineFault) → IfSome met (λ _. ends_at_fault options ≡ false) → (behind : List Said) → session.rest ≡ fault_said met ++ behind → MayHaveToSay remaining options.workers left behind
-            → AreTold accepted contents old new [] (answer_to options (gone_by served.before) met) → IsSession options book all served (MayHaveToSay remaining options.workers left) (AreTold accepted contents start new)
+            → AreTold accepted contents old new [] (fault_answer options (gone_by served.before) met) → IsSession options book all served (MayHaveToSay remaining options.workers left) (AreTold accepted contents start new)
         passed None goes_on behind is has told = record {
           steps = session.steps;
           rest = session.rest;
@@ -234,12 +236,12 @@ module _ {L W : Type 0} (accepted : L → Option (List ℕ)) (contents : W → O
       (next.request, subst (λ (w : ℕ). MOST_COMMITS ≤ rows_by here w) (sym next.worker_is) (omega (arith, next.full, stored served.auction here session.start.of.stands worker next.own)))
 
   -- its answer
-  answer_is : limit_answer options (gone_by served.before) served.auction.limit worker ≡ line_answer options (gone_by served.before) (says.Record session.left.one)
+  answer_is : past_answer options (gone_by served.before) served.auction.limit (Some worker) ≡ line_answer options (gone_by served.before) (says.Record session.left.one)
   answer_is =
-      ap (λ (limit : ℕ). limit_answer options (gone_by served.before) limit worker) session.start.fits.limit
-      ∙ ap (λ (w : ℕ). limit_answer options (gone_by served.before) MOST_COMMITS w) (sym session.left.worker_is)
+      ap (λ (limit : ℕ). past_answer options (gone_by served.before) limit (Some worker)) session.start.fits.limit
+      ∙ ap (λ (w : ℕ). past_answer options (gone_by served.before) MOST_COMMITS (Some w)) (sym session.left.worker_is)
 
-  pub past_answered : AreTold accepted contents old new [] (limit_answer options (gone_by served.before) served.auction.limit worker) → IsSession options book all served Left (AreTold accepted contents start new)
+  pub past_answered : AreTold accepted contents old new [] (past_answer options (gone_by served.before) served.auction.limit (Some worker)) → IsSession options book all served Left (AreTold accepted contents start new)
   past_answered told =
       session_step accepted contents options book all start old new served (IsNextPast served.auction Left worker) session (Answer (says.Record session.left.one)) session.left.behind served Left session.left.rest_is
       (goes_on, past_it) session.start (omega (arith, no_row session.left.one session.left.request)) refl session.left.left (subst (AreTold accepted contents old new []) answer_is told)
@@ -247,7 +249,7 @@ module _ {L W : Type 0} (accepted : L → Option (List ℕ)) (contents : W → O
       no_row : (one : Record) → one.is_row ≡ false → length (rows_said (says.Record one ∷ [])) ≡ 0
       no_row one request = ap (λ (b : Bool). length {A = Opened} (cons_option (if b then Some (record { worker = one.worker; request = one.request }) else None) [])) request
 
-  pub past_stops : (fault : AnyFault) → AreToldAt accepted contents old new fault [] (limit_answer options (gone_by served.before) served.auction.limit worker) → IsServeFault accepted contents start new options book all fault
+  pub past_stops : (fault : AnyFault) → AreToldAt accepted contents old new fault [] (past_answer options (gone_by served.before) served.auction.limit (Some worker)) → IsServeFault accepted contents start new options book all fault
   past_stops fault told =
       session_stops accepted contents options book all start old new served (IsNextPast served.auction Left worker) session fault
       (answer_stops accepted contents old new options here (gone_by served.before) served.rows session.rest fault (record {
@@ -279,7 +281,7 @@ module _ {L W : Type 0} (accepted : L → Option (List ℕ)) (contents : W → O
 
   -- or it is not
   pub answer_stops_all : (past : Option ℕ) → IsSession options book all served (LeftBehind served.auction Left past) (AreTold accepted contents start old) → IfSome past (λ worker. ends_at_fault options ≡ false) → (fault : AnyFault)
-      → MatchOption past ⊥ (λ worker. AreToldAt accepted contents old new fault [] (limit_answer options (gone_by served.before) served.auction.limit worker)) → IsServeFault accepted contents start new options book all fault
+      → MatchOption past ⊥ (λ worker. AreToldAt accepted contents old new fault [] (past_answer options (gone_by served.before) served.auction.limit (Some worker))) → IsServeFault accepted contents start new options book all fault
   answer_stops_all None session goes_on fault told = absurd told
   answer_stops_all (Some worker) session goes_on fault told = past_stops accepted contents options book all start old new served Left worker session goes_on fault told
 

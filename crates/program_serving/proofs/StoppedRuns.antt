@@ -21,8 +21,8 @@ use Rattle.phase_floor.proofs.NextRunLemmas.{at_next, many}
 use Rattle.phase_floor.specs.States.{IsBookOf, JoinedState, StandsFor}
 use Rattle.program_opening.specs.Options.{FitsOptions, opening_asked, policy_of}
 use Rattle.program_opening.specs.declared.options.Options.{Options}
-use Rattle.program_serving.specs.PartRuns.{AnswersScripts, BeginsAt}
-use Rattle.program_serving.specs.ServeFaults.{AreNotRunOn, told_fault}
+use Rattle.program_serving.specs.ServeFaults.{AreNotRunOn}
+use Rattle.program_serving.specs.inner.Parts.{AnswersScripts, BeginsAt, told_fault}
 
 -- each row is of one kind
 rows_counted : (book : Book) (w : ℕ) → rows_by book w ≡ items_stored book w + bids_stored book w + comments_stored book w + buys_stored book w

@@ -1,4 +1,4 @@
--- The texts of faults, and the answers to lines that have one.
+-- The texts of faults and limits, and the answers to lines that are turned away.
 use Rattle.std.specs.Prelude.{ℕ, List, ◌++◌, codes, decimal}
 use Rattle.auction_text.specs.Replies.{labelled}
 use Rattle.auction_text.specs.Cause.{Cause}
@@ -29,8 +29,16 @@ fault_text fault.Read = codes "input cannot be read"
 fault_text fault.Memory = codes "no memory"
 fault_text fault.Long = labelled (codes "more than ") MOST_RECORDS ++ codes " records"
 
--- the answer to a line of this worker with this fault, and with the index that the worker's next
--- request will have
+-- the words of a worker's limit
+abbrev pub limit_text : ℕ → List ℕ
+limit_text limit = labelled (codes "more than ") limit ++ codes " requests for a worker"
+
+-- the answer in these words to a line of this worker, with the index that the worker's next request
+-- will have
+abbrev pub answer_line : ℕ → ℕ → List ℕ → List ℕ
+answer_line worker index words =
+    decimal worker ++ labelled (codes ",") index ++ codes ",fault " ++ words ++ codes "\n"
+
+-- the answer to such a line with this fault
 abbrev pub fault_line : ℕ → ℕ → ReadFault → List ℕ
-fault_line worker index fault =
-    decimal worker ++ labelled (codes ",") index ++ codes ",fault " ++ fault_text fault ++ codes "\n"
+fault_line worker index fault = answer_line worker index (fault_text fault)

@@ -1,3 +1,4 @@
+pub mod inner
 pub mod FaultLines
 pub mod Serving
 pub mod PartRuns

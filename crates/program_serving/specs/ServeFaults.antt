@@ -5,8 +5,6 @@ use Rattle.auction_rows.specs.Book.{Book}
 use Rattle.auction_run.specs.Beginning.{AreShortFor, HasQuotas}
 use Rattle.auction_run.specs.Phases.{HaveMetLastNumber}
 use Rattle.auction_run.specs.RunFault.{RunFault}
-use Rattle.auction_run.specs.declared.checks.Stopped.{Stopped}
-use Rattle.auction_run.specs.declared.checks.Stopped.TheVariants.{Failed, Refused}
 use Rattle.auction_run.specs.RunFault.TheVariants as run
 use Rattle.auction_text.specs.LiveReading.{records_said}
 use Rattle.auction_text.specs.Moved.{Gone, IsPastCount}
@@ -20,14 +18,13 @@ use Rattle.auction_text.specs.Record.{Record}
 use Rattle.auction_text.specs.declared.writing.WriteFault.TheVariants as write
 use Rattle.log_opening.specs.Parts.{IsFirstRefused, rows_from}
 use Rattle.part_log.specs.declared.log.Teller.{Teller}
-use Rattle.phase_floor.specs.States.{JoinedState}
 use Rattle.phase_floor.specs.declared.adding.AddFault.{AddFault}
 use Rattle.shard_boxes.specs.declared.limits.TheConstants.{MOST_COMMITS}
 use Rattle.program_opening.specs.Options.{opening_asked, policy_of}
 use Rattle.program_opening.specs.declared.faults.Fault.{Fault}
 use Rattle.program_opening.specs.declared.faults.Fault.TheVariants.{Read, Row, Run, Limit, Write, Log}
 use Rattle.program_opening.specs.declared.options.Options.{Options}
-use Rattle.program_serving.specs.PartRuns.{AreDoneOf, RunsPart, done_of, rows_before}
+use Rattle.program_serving.specs.PartRuns.{RunsPart, rows_before}
 use Rattle.program_serving.specs.Serving.{ArePartTold, AreTold, IsNothingTold, IsTurnedAway, ServesFirst, book_left, ends_at_fault, gone_after, line_answer}
 
 -- how far rows and a text are told at a fault: not at all, or if the writer fails, the rows are
@@ -52,13 +49,6 @@ pub record IsFirstBadRow (workers limit : ℕ) (opening : Opening) (book : Book)
   pub first : IsFirstRefused limit fault workers opening book asked place
   pub number_is : number ≡ before + place + 1
 
--- why requests are not added to an auction of a book, so many of which were read before them
-abbrev pub IsFirstNotAdded : JoinedState → Book → List Opened → ℕ → Fault → Type 0
-IsFirstNotAdded auction book asked before (Row number fault) =
-    IsFirstBadRow (length auction.counters) auction.limit auction.opening book asked before number
-    fault
-IsFirstNotAdded auction book asked before _ = ⊥
-
 -- why scripts are not run from a book: for NumberFull a worker met the end of commit numbers, and
 -- of Memory no clause says when
 abbrev pub IsNotRunOn : Options → RunFault → Book → List (List Request) → Type 0
@@ -69,12 +59,6 @@ IsNotRunOn options run.TooLong book scripts = ⊥
 IsNotRunOn options run.Spawn book scripts = 1 < length scripts
 IsNotRunOn options run.Memory book scripts = Unit {0}
 IsNotRunOn options run.NumberFull book scripts = HaveMetLastNumber scripts
-
--- the fault that is told of a run that stopped: past its limit, a state tells it
-abbrev pub told_fault : Stopped → Fault
-told_fault (Refused back run.TooLong) = Limit back.limit
-told_fault (Refused back fault) = Run fault
-told_fault (Failed fault) = Run fault
 
 -- why scripts are not run from a book: the limit is told if one is past it
 abbrev pub AreNotRunOn : Options → Fault → Book → List (List Request) → Type 0
@@ -113,27 +97,12 @@ IsPartRefused options book gone before asked (Limit most) = (ends_at_fault optio
     asked.scripts
 IsPartRefused options book gone before asked _ = ⊥
 
--- of what is asked for from a book, what is done is refused
-abbrev pub IsNotBegun : Options → Book → Gone → ℕ → Asked → Fault → Type 0
-IsNotBegun options book gone before asked fault = (past : Option ℕ)
-    × (AreDoneOf options book asked past
-    × IsPartRefused options book gone before (done_of past asked) fault)
-
 -- why a part is not served from a book: it is not done, or it is and is not told
 abbrev pub IsPartFault : {L W : Type 0} → (L → Option (List ℕ)) → (W → Option (List ℕ)) →
     Teller L W → Teller L W → Options → Book → Gone → ℕ → Asked → Fault → Type 0
 IsPartFault accepted contents old new options book gone before asked fault =
     (IsNothingTold accepted contents old new × IsPartRefused options book gone before asked fault)
     ⊎ RunsPart options book gone asked (AreToldAt accepted contents old new fault)
-
--- Of what is asked for from a book, what is done is not served, for this fault.
-pub record FailsPart {L W : Type 0} (accepted : L → Option (List ℕ))
-    (contents : W → Option (List ℕ)) (old new : Teller L W) (options : Options) (book : Book)
-    (gone : Gone) (before : ℕ) (asked : Asked) (fault : Fault) : Type 0 where
-  pub past : Option ℕ
-  pub are : AreDoneOf options book asked past
-  pub fails : IsPartFault accepted contents old new options book gone before (done_of past asked)
-      fault
 
 -- ---- why serving ends
 

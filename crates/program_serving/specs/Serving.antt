@@ -1,18 +1,15 @@
 -- What the program answers while requests come.
-use Rattle.std.specs.Prelude.{ℕ, ◌≡◌, ◌==◌, ◌≤◌, ◌+◌, ◌++◌, ◌⊎◌, ◌||◌, Bool, false, List, [], ◌∷◌, Option, None, Some, codes, decimal, flat_map, fold, length, slice_index_or, if◌then◌else◌}
+use Rattle.std.specs.Prelude.{ℕ, ◌≡◌, ◌==◌, ◌≤◌, ◌+◌, ◌++◌, ◌⊎◌, ◌||◌, Bool, false, List, [], ◌∷◌, Option, None, Some, flat_map, fold, length, slice_index_or, if◌then◌else◌}
 use Rattle.std.specs.Io.KnownBytes.{Appends, Keeps}
 use Rattle.auction_rows.specs.declared.{values.Opening.Opening, requests.Object.Object, requests.Request.Request, requests.Opened.Opened, rows.Entry.Entry}
 use Rattle.auction_rows.specs.Book.{Book}
 use Rattle.auction_rows.specs.History.{book_after}
-use Rattle.program_serving.specs.FaultLines.{fault_line}
+use Rattle.program_serving.specs.FaultLines.{answer_line, fault_text, limit_text}
 use Rattle.auction_text.specs.LiveReading.{records_said}
 use Rattle.auction_text.specs.Moved.{Gone, all_moved}
-use Rattle.auction_text.specs.Replies.{labelled}
 use Rattle.auction_text.specs.RowLines.{rows_text}
 use Rattle.auction_text.specs.Scripts.{asked_in, requests_in, rows}
 use Rattle.auction_text.specs.Writing.{IsPartWritten}
-use Rattle.auction_text.specs.ReadFault.{ReadFault}
-use Rattle.auction_text.specs.LineFault.{LineFault}
 use Rattle.auction_text.specs.Said.{Said}
 use Rattle.auction_text.specs.Said.TheVariants as says
 use Rattle.auction_text.specs.Record.{Record}
@@ -131,36 +128,23 @@ abbrev pub OfPart : Options → Gone → Book → List Entry → (List ℕ → L
 OfPart options gone added history Holds =
     Holds (rows_text added history) (part_text options gone added history)
 
--- the answer to a fault, if its line names a worker: with the index of the worker's next request
-abbrev pub named_answer : Gone → Option ℕ → ReadFault → List ℕ
-named_answer gone None fault = []
-named_answer gone (Some worker) fault = fault_line worker (gone.requests worker) fault
+-- the answer in these words, if a worker is named: with the index of its next request
+abbrev pub named_answer : Gone → Option ℕ → List ℕ → List ℕ
+named_answer gone None words = []
+named_answer gone (Some worker) words = answer_line worker (gone.requests worker) words
 
--- the answer to a line with a fault, after what went before it, if the options ask for replies
-abbrev pub fault_answer : Options → Gone → LineFault → List ℕ
-fault_answer options gone met =
-    if options.rows || options.history then [] else named_answer gone met.worker met.fault
-
--- the words of a limit
-abbrev pub limit_text : ℕ → List ℕ
-limit_text limit = labelled (codes "more than ") limit ++ codes " requests for a worker"
-
--- the line that tells a worker its limit, with the index of its next request
-abbrev pub limit_line : ℕ → ℕ → ℕ → List ℕ
-limit_line worker index limit =
-    decimal worker ++ labelled (codes ",") index ++ codes ",fault " ++ limit_text limit
-    ++ codes "\n"
-
--- the answer to a worker's request past a limit, if the options ask for replies
-abbrev pub limit_answer : Options → Gone → ℕ → ℕ → List ℕ
-limit_answer options gone limit worker =
-    if options.rows || options.history then []
-    else limit_line worker (gone.requests worker) limit
+-- the answer in these words to a line that is turned away, after what went before it, if the
+-- options ask for replies
+abbrev pub turned_answer : Options → Gone → Option ℕ → List ℕ → List ℕ
+turned_answer options gone worker words =
+    if options.rows || options.history then [] else named_answer gone worker words
 
 -- the answer to a line that is turned away
 abbrev pub line_answer : Options → Gone → Said → List ℕ
-line_answer options gone (says.Fault met) = fault_answer options gone met
-line_answer options gone (says.Record one) = limit_answer options gone MOST_COMMITS one.worker
+line_answer options gone (says.Fault met) =
+    turned_answer options gone met.worker (fault_text met.fault)
+line_answer options gone (says.Record one) =
+    turned_answer options gone (Some one.worker) (limit_text MOST_COMMITS)
 
 -- what is written of a step
 abbrev pub step_text : Options → Gone → Step → List ℕ

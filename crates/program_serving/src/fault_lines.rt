@@ -1,9 +1,37 @@
-//! The answers to lines with a fault.
-ghost use Rattle.std.specs.Prelude.{◌≡◌, ◌++◌, OnOk};
-ghost use Rattle.program_serving.specs.FaultLines.{cause_text, fault_line, fault_text, record_text};
+//! The answers to lines that are turned away, which have a fault or are past a limit.
+ghost use Rattle.std.specs.Prelude.{◌≡◌, ◌++◌, [], IfErr, IfOk, OnOk};
+ghost use Rattle.auction_text.specs.Moved.{gone_by};
+ghost use Rattle.program_serving.specs.FaultLines.{answer_line, cause_text, fault_line, fault_text, record_text};
+ghost use Rattle.program_serving.specs.ServeFaults.{AreToldAt};
+ghost use Rattle.program_serving.specs.Serving.{AreTold};
+ghost use Rattle.program_serving.specs.inner.Sessions.{answer_to, turned_text};
 
-use auction_text::{Cause, MOST_RECORDS, ReadFault, push_labelled, push_number, push_text};
-use std::alloc::AllocError;
+use crate::parts::LiveTeller;
+use auction_text::{
+    Before, Cause, MOST_RECORDS, ReadFault, WriteFault, push_labelled, push_number, push_text,
+};
+use part_log::Log;
+use program_opening::{Fault, Options, write_fault};
+use std::alloc::{AllocError, Global};
+use std::io::Write;
+
+/// Why a line is turned away.
+#[derive(Clone, Copy)]
+pub(crate) enum Turned {
+    /// It has a fault.
+    Line(ReadFault),
+    /// It is a request of a worker that has as many rows as this limit.
+    Past(u64),
+}
+
+/// A line that is turned away.
+#[derive(Clone, Copy)]
+pub(crate) struct TurnedLine {
+    /// The worker that it names, if it names one.
+    pub(crate) worker: Option<u32>,
+    /// Why it is.
+    pub(crate) turned: Turned,
+}
 
 fn text_of_cause(cause: Cause) -> &'static [u8]
     ensures { result.now ≡ cause_text cause }
@@ -47,6 +75,36 @@ fn push_fault(text: &mut Vec<u8>, fault: ReadFault) -> Result<(), AllocError>
     }
 }
 
+// Adds why a line is turned away.
+fn push_turned(text: &mut Vec<u8>, turned: Turned) -> Result<(), AllocError>
+    ensures { OnOk result (text.new.items ≡ text.old.items ++ turned_text turned) }
+{
+    match turned {
+        Turned::Line(fault) => push_fault(text, fault),
+        Turned::Past(limit) => {
+            push_labelled(text, b"more than ", limit)?;
+            push_text(text, b" requests for a worker")
+        }
+    }
+}
+
+// Adds the answer to a worker's line that is turned away, with the index of its next request.
+fn push_answer(
+    text: &mut Vec<u8>,
+    worker: u32,
+    index: u64,
+    turned: Turned,
+) -> Result<(), AllocError>
+    ensures { OnOk result (text.new.items
+        ≡ text.old.items ++ answer_line worker index (turned_text turned)) }
+{
+    push_number(text, u64::from(worker))?;
+    push_labelled(text, b",", index)?;
+    push_text(text, b",fault ")?;
+    push_turned(text, turned)?;
+    push_text(text, b"\n")
+}
+
 /// Adds the answer to a worker's line with a fault: the worker, the index that its next request
 /// will have, and the fault.
 pub fn push_fault_line(
@@ -57,9 +115,63 @@ pub fn push_fault_line(
 ) -> Result<(), AllocError>
     ensures { OnOk result (text.new.items ≡ text.old.items ++ fault_line worker index fault) }
 {
-    push_number(text, u64::from(worker))?;
-    push_labelled(text, b",", index)?;
-    push_text(text, b",fault ")?;
-    push_fault(text, fault)?;
-    push_text(text, b"\n")
+    push_answer(text, worker, index, Turned::Line(fault))
+}
+
+// The answer to a line that is turned away: none if it names no worker, or no replies are asked
+// for.
+fn answer_to(
+    alloc: Global,
+    options: &Options,
+    before: &Before,
+    line: TurnedLine,
+) -> Result<Vec<u8>, Fault>
+    ensures text { IfOk result (λ text.
+        text.items ≡ answer_to options.now (gone_by before.now) line) }
+    ensures memory { IfErr result (λ fault. fault ≡ Fault.Write WriteFault.Memory) }
+{
+    let mut text = Vec::new(alloc);
+    if options.rows || options.history {
+        return Ok(text);
+    }
+    let Some(worker) = line.worker else {
+        return Ok(text);
+    };
+    match push_answer(&mut text, worker, before.requests_of(worker), line.turned) {
+        Ok(()) => Ok(text),
+        Err(_) => Err(Fault::Write(WriteFault::Memory)),
+    }
+}
+
+// Tells why a line is turned away that has no answer.
+fn tell_error<E: Write>(errors: &mut E, answer: &[u8], turned: Turned) {
+    if answer.is_empty() {
+        let fault = match turned {
+            Turned::Line(fault) => Fault::Read(fault),
+            Turned::Past(limit) => Fault::Limit(limit),
+        };
+        // A fault that can't be told changes nothing.
+        let _ = write_fault(errors, &fault);
+    }
+}
+
+/// Answers a line that is turned away after what went before it, or if it has no answer tells why
+/// on `errors`.
+pub(crate) fn tell_turned<L: Log, W: Write, E: Write>(
+    alloc: Global,
+    teller: &mut LiveTeller<L, W, E>,
+    options: &Options,
+    before: &Before,
+    line: TurnedLine,
+) -> Result<(), Fault>
+    ensures told { OnOk result (AreTold L.accepted W.contents teller.old.teller teller.new.teller
+        [] (answer_to options.now (gone_by before.now) line)) }
+    ensures so_far { IfErr result (λ fault. AreToldAt L.accepted W.contents
+        teller.old.teller teller.new.teller fault
+        [] (answer_to options.now (gone_by before.now) line)) }
+{
+    let answer = answer_to(alloc, options, before, line)?;
+    tell_error(&mut teller.errors, answer.as_slice(), line.turned);
+    teller.teller.tell(&[], answer.as_slice())?;
+    Ok(())
 }

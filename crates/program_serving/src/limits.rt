@@ -3,7 +3,7 @@ ghost use Rattle.std.specs.Prelude.{◌≡◌, ◌<◌, ◌≤◌, [], false, le
 ghost use Rattle.auction_run.specs.GoingOn.{AreShortOn, HasScripts};
 ghost use Rattle.closing_laws.specs.Standing.{counters_at, stores};
 ghost use Rattle.shard_boxes.specs.declared.limits.TheConstants.{MOST_COMMITS};
-ghost use Rattle.program_serving.specs.PartRuns.{AreWithinLimit, HasRoomForPart, IsPastOn};
+ghost use Rattle.program_serving.specs.inner.Parts.{AreWithinLimit, HasRoomForPart, IsPastOn};
 ghost use Rattle.program_serving.specs.Serving.{ends_at_fault};
 
 use auction_rows::MOST_OF_A_WORKER;
@@ -14,7 +14,7 @@ use std::alloc::Global;
 use worker_journals::Script;
 
 /// Whether a line that is turned away ends the input.
-pub fn ends_at_fault(options: &Options) -> bool
+pub(crate) fn ends_at_fault(options: &Options) -> bool
     ensures { result ≡ ends_at_fault options.now }
 {
     options.ends_at_fault || options.live == 0
@@ -37,7 +37,7 @@ fn has_room(auction: &Joined) -> bool
 
 /// How many requests the next part has at most: what is asked for, or as many as a script may have;
 /// one if a worker is near its limit.
-pub fn most_of_a_part(options: &Options, auction: &Joined) -> u32
+pub(crate) fn most_of_a_part(options: &Options, auction: &Joined) -> u32
     ensures some { 1 ≤ result }
     ensures asked { 1 ≤ options.now.live → result ≤ options.now.live }
     ensures few { result ≤ MOST_OF_A_WORKER }
@@ -89,7 +89,7 @@ fn clear(alloc: Global, scripts: &mut Vec<Script>)
 /// Takes the requests out of the scripts of a part, and gives the worker, if a script is past its
 /// worker's limit and this does not end the input. Such a part has no other request: see
 /// `most_of_a_part`.
-pub fn take_past(
+pub(crate) fn take_past(
     alloc: Global,
     auction: &Joined,
     scripts: &mut Vec<Script>,

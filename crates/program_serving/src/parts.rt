@@ -10,9 +10,9 @@ ghost use Rattle.log_opening.specs.Parts.{HasAdded};
 ghost use Rattle.phase_floor.specs.Adding.{HasBook, IsSameAuction, IsStartOf};
 ghost use Rattle.phase_floor.specs.States.{IsBookOf};
 ghost use Rattle.program_opening.specs.Options.{FitsOptions, opening_asked};
-ghost use Rattle.program_serving.specs.PartRuns.{AnswersScripts, AreDoneOf, BeginsAt, IsBegun, ServesPart, done_of, gone_with};
-ghost use Rattle.program_serving.specs.ServeFaults.{AreNotRunOn, AreToldAt, FailsPart, IsFirstNotAdded, IsNotBegun, told_fault};
+ghost use Rattle.program_serving.specs.ServeFaults.{AreNotRunOn, AreToldAt};
 ghost use Rattle.program_serving.specs.Serving.{AreTold, OfPart, part_text};
+ghost use Rattle.program_serving.specs.inner.Parts.{AnswersScripts, AreDoneOf, BeginsAt, FailsPart, IsBegun, IsFirstNotAdded, IsNotBegun, ServesPart, done_of, gone_with, told_fault};
 
 use crate::limits::take_past;
 use auction_rows::Row;
@@ -34,34 +34,34 @@ use worker_journals::{History, Script};
 /// How far an input is served: the auction, how many rows were added to it, and what went before
 /// its next part.
 #[derive(Drop)]
-pub struct Served {
-    pub auction: Joined,
-    pub rows: u64,
-    pub before: Before,
+pub(crate) struct Served {
+    pub(crate) auction: Joined,
+    pub(crate) rows: u64,
+    pub(crate) before: Before,
 }
 
 /// A part that is to be performed.
 #[derive(Drop)]
-pub struct NextPart {
-    pub served: Served,
-    pub input: CompactInput,
+pub(crate) struct NextPart {
+    pub(crate) served: Served,
+    pub(crate) input: CompactInput,
 }
 
 /// What is served with a part: how far, and a worker whose script was past its limit, if there is
 /// one. Then no request of the part is performed.
 #[derive(Drop)]
-pub struct ServedPart {
-    pub served: Served,
-    pub past: Option<u32>,
+pub(crate) struct ServedPart {
+    pub(crate) served: Served,
+    pub(crate) past: Option<u32>,
 }
 
-/// What a part commits, after what went before it: the rows that it adds, and then the history of
-/// its requests.
+// What a part commits, after what went before it: the rows that it adds, and then the history of
+// its requests.
 #[derive(Drop)]
-pub struct Committed {
-    pub before: Before,
-    pub rows: Vec<Row>,
-    pub history: History,
+struct Committed {
+    before: Before,
+    rows: Vec<Row>,
+    history: History,
 }
 
 // Room for the text of a part, which is kept from part to part: to make it anew takes longer than
@@ -274,7 +274,7 @@ fn perform_part<R: Threads + Wait + Sync, L: Log, W: Write, E>(
 /// Adds the rows of a part, performs its scripts, logs all rows that this adds, and then writes
 /// what is asked for of it. If a script is past its worker's limit, and this does not end the
 /// input, only the rows are served.
-pub fn serve_part<R: Threads + Wait + Sync, L: Log, W: Write, E>(
+pub(crate) fn serve_part<R: Threads + Wait + Sync, L: Log, W: Write, E>(
     rt: &R,
     alloc: Global,
     teller: &mut LiveTeller<L, W, E>,
@@ -368,8 +368,8 @@ fn make_text(
     }
 }
 
-/// Logs the rows that a part adds, and then writes what the options ask for of it.
-pub fn tell_part<L: Log, W: Write, E>(
+// Logs the rows that a part adds, and then writes what the options ask for of it.
+fn tell_part<L: Log, W: Write, E>(
     alloc: Global,
     teller: &mut LiveTeller<L, W, E>,
     options: &Options,

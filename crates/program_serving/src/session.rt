@@ -1,6 +1,6 @@
 //! Replies while requests come: the input is performed part by part; and what holds of an input
 //! that is served so.
-ghost use Rattle.std.specs.Prelude.{ℕ, ◌≡◌, ◌++◌, ◌≤◌, List, [], Option, false, true, IfErr, IfOk, IfSome, MatchOption, OnOk};
+ghost use Rattle.std.specs.Prelude.{ℕ, ◌≡◌, ◌++◌, ◌≤◌, List, [], Option, Some, false, true, IfErr, IfOk, IfSome, MatchOption, OnOk};
 ghost use Rattle.auction_rows.specs.Book.{Book};
 ghost use Rattle.auction_rows.specs.History.{ReplaysFrom};
 ghost use Rattle.auction_text.specs.LiveLines.{live_says};
@@ -11,21 +11,19 @@ ghost use Rattle.part_log.specs.declared.log.Teller.{Teller as Told};
 ghost use Rattle.phase_floor.specs.Adding.{HasBook};
 ghost use Rattle.program_opening.specs.Options.{opening_asked};
 ghost use Rattle.program_opening.specs.declared.options.Options.{Options as Asked};
-ghost use Rattle.program_serving.specs.PartRuns.{GoesOnTo, IsSession, IsStart, PassesFault, past_answer};
+ghost use Rattle.program_serving.specs.PartRuns.{IsStart};
 ghost use Rattle.program_serving.specs.ServeFaults.{AreToldAt, IsServeFault, IsStop};
-ghost use Rattle.program_serving.specs.Serving.{AreStepRuns, AreTold, HasServedBook, IsLoggedBefore, IsServed, LogHasBook, RowsComeFirst, ServesAll, Step, added_rows, ends_at_fault, fault_answer, limit_answer, limit_line, limit_text, served_history, served_text};
+ghost use Rattle.program_serving.specs.Serving.{AreStepRuns, AreTold, HasServedBook, IsLoggedBefore, IsServed, LogHasBook, RowsComeFirst, ServesAll, Step, added_rows, ends_at_fault, served_history, served_text};
+ghost use Rattle.program_serving.specs.inner.Sessions.{GoesOnTo, IsServedSoFar, PassesFault, past_answer};
 
-use crate::fault_lines::push_fault_line;
+use crate::fault_lines::{Turned, TurnedLine, tell_turned};
 use crate::limits::{ends_at_fault, most_of_a_part};
 use crate::parts::{LiveTeller, NextPart, Served, ServedPart, serve_part};
-use auction_text::{
-    Before, LineFault, LiveEnd, LiveInput, LivePart, ReadFault, WriteFault, push_labelled,
-    push_number, push_text,
-};
+use auction_text::{Before, LiveEnd, LiveInput, LivePart, ReadFault};
 use part_log::Log;
 use phase_floor::Joined;
-use program_opening::{Fault, Options, write_fault};
-use std::alloc::{AllocError, Global};
+use program_opening::{Fault, Options};
+use std::alloc::Global;
 use std::io::{Read, Write};
 use std::sync::Wait;
 use std::thread::Threads;
@@ -101,15 +99,13 @@ fn serve_lines<R: Threads + Wait + Sync, I: Read + Drop, L: Log, W: Write, E: Wr
 ) -> Result<(), Fault>
     requires { HasBook session.served.auction }
     ensures all { OnOk result ((book : Book) (all : List Says) (start : Told L W) →
-        IsSession options.now book all session.served
-        (GoesOnTo I.remaining options.now.workers session.end)
-        (AreTold L.accepted W.contents start teller.old.teller) →
+        IsServedSoFar I.remaining L.accepted W.contents start teller.old.teller options.now book all
+        session →
         ServesAll options.now book all
         (AreTold L.accepted W.contents start teller.new.teller)) }
     ensures cause { IfErr result (λ fault. (book : Book) (all : List Says) (start : Told L W) →
-        IsSession options.now book all session.served
-        (GoesOnTo I.remaining options.now.workers session.end)
-        (AreTold L.accepted W.contents start teller.old.teller) →
+        IsServedSoFar I.remaining L.accepted W.contents start teller.old.teller options.now book all
+        session →
         IsServeFault L.accepted W.contents start teller.new.teller options.now book all fault) }
 {
     let mut session = session;
@@ -132,19 +128,16 @@ fn serve_next<R: Threads + Wait + Sync, I: Read + Drop, L: Log, W: Write, E: Wri
 ) -> Result<Option<Session<I>>, Fault>
     requires { HasBook session.served.auction }
     ensures goes_on { IfOk result (λ next. (book : Book) (all : List Says) (start : Told L W) →
-        IsSession options.now book all session.served
-        (GoesOnTo I.remaining options.now.workers session.end)
-        (AreTold L.accepted W.contents start teller.old.teller) →
+        IsServedSoFar I.remaining L.accepted W.contents start teller.old.teller options.now book all
+        session →
         MatchOption next
         (ServesAll options.now book all (AreTold L.accepted W.contents start teller.new.teller))
-        (λ session. IsSession options.now book all session.served
-        (GoesOnTo I.remaining options.now.workers session.end)
-        (AreTold L.accepted W.contents start teller.new.teller))) }
+        (λ session. IsServedSoFar I.remaining L.accepted W.contents start teller.new.teller
+        options.now book all session)) }
     ensures has { IfOk result (λ next. IfSome next (λ session. HasBook session.served.auction)) }
     ensures cause { IfErr result (λ fault. (book : Book) (all : List Says) (start : Told L W) →
-        IsSession options.now book all session.served
-        (GoesOnTo I.remaining options.now.workers session.end)
-        (AreTold L.accepted W.contents start teller.old.teller) →
+        IsServedSoFar I.remaining L.accepted W.contents start teller.old.teller options.now book all
+        session →
         IsServeFault L.accepted W.contents start teller.new.teller options.now book all fault) }
 {
     let Session { served, end } = session;
@@ -187,59 +180,18 @@ fn pass_fault<I: Drop, L: Log, W: Write, E: Write>(
             if ends_at_fault(options) {
                 return Err(Fault::Read(met.fault));
             }
-            tell_fault(alloc, teller, options, before, met)?;
+            let line = TurnedLine {
+                worker: met.worker,
+                turned: Turned::Line(met.fault),
+            };
+            tell_turned(alloc, teller, options, before, line)?;
             Ok(Some(left))
         }
         LiveEnd::All => Ok(None),
     }
 }
 
-// Answers a line with a fault after what went before it, or tells it on `errors`.
-fn tell_fault<L: Log, W: Write, E: Write>(
-    alloc: Global,
-    teller: &mut LiveTeller<L, W, E>,
-    options: &Options,
-    before: &Before,
-    met: LineFault,
-) -> Result<(), Fault>
-    ensures told { OnOk result (AreTold L.accepted W.contents teller.old.teller teller.new.teller
-        [] (fault_answer options.now (gone_by before.now) met)) }
-    ensures so_far { IfErr result (λ fault. AreToldAt L.accepted W.contents
-        teller.old.teller teller.new.teller fault
-        [] (fault_answer options.now (gone_by before.now) met)) }
-{
-    let answer = fault_answer(alloc, options, before, met)?;
-    let fault = Fault::Read(met.fault);
-    tell_error(&mut teller.errors, answer.as_slice(), &fault);
-    teller.teller.tell(&[], answer.as_slice())?;
-    Ok(())
-}
-
-// The answer to a line with a fault: none if it names no worker, or no replies are asked for.
-fn fault_answer(
-    alloc: Global,
-    options: &Options,
-    before: &Before,
-    met: LineFault,
-) -> Result<Vec<u8>, Fault>
-    ensures text { IfOk result (λ text.
-        text.items ≡ fault_answer options.now (gone_by before.now) met) }
-    ensures memory { IfErr result (λ fault. fault ≡ Fault.Write WriteFault.Memory) }
-{
-    let mut text = Vec::new(alloc);
-    if options.rows || options.history {
-        return Ok(text);
-    }
-    let Some(worker) = met.worker else {
-        return Ok(text);
-    };
-    match push_fault_line(&mut text, worker, before.requests_of(worker), met.fault) {
-        Ok(()) => Ok(text),
-        Err(_) => Err(Fault::Write(WriteFault::Memory)),
-    }
-}
-
-// Answers a request past its worker's limit behind the rest of its part, or tells it on `errors`.
+// Answers a request past its worker's limit behind the rest of its part, if there is one.
 fn tell_past<L: Log, W: Write, E: Write>(
     alloc: Global,
     teller: &mut LiveTeller<L, W, E>,
@@ -251,85 +203,18 @@ fn tell_past<L: Log, W: Write, E: Write>(
         done.now.served.auction.limit done.now.past)) }
     ensures so_far { IfErr result (λ fault. MatchOption done.now.past ⊥ (λ worker.
         AreToldAt L.accepted W.contents teller.old.teller teller.new.teller fault
-        [] (limit_answer options.now (gone_by done.now.served.before)
-        done.now.served.auction.limit worker))) }
+        [] (past_answer options.now (gone_by done.now.served.before)
+        done.now.served.auction.limit (Some worker)))) }
 {
     let Some(worker) = done.past else {
         return Ok(());
     };
     let limit = done.served.auction.limit();
-    let line = limit_answer(alloc, options, &done.served.before, limit, worker)?;
-    tell_line(teller, line.as_slice(), &Fault::Limit(limit))
-}
-
-// Tells an answer, or if there is none its fault on `errors`.
-fn tell_line<L: Log, W: Write, E: Write>(
-    teller: &mut LiveTeller<L, W, E>,
-    line: &[u8],
-    fault: &Fault,
-) -> Result<(), Fault>
-    ensures told { OnOk result (AreTold L.accepted W.contents teller.old.teller teller.new.teller
-        [] line.now) }
-    ensures so_far { IfErr result (λ fault. AreToldAt L.accepted W.contents
-        teller.old.teller teller.new.teller fault [] line.now) }
-{
-    tell_error(&mut teller.errors, line, fault);
-    teller.teller.tell(&[], line)?;
-    Ok(())
-}
-
-// Tells a fault that has no answer.
-fn tell_error<E: Write>(errors: &mut E, answer: &[u8], fault: &Fault) {
-    if answer.is_empty() {
-        // A fault that can't be told changes nothing.
-        let _ = write_fault(errors, fault);
-    }
-}
-
-// The answer to a worker's request past its limit: none if no replies are asked for.
-fn limit_answer(
-    alloc: Global,
-    options: &Options,
-    before: &Before,
-    limit: u64,
-    worker: u32,
-) -> Result<Vec<u8>, Fault>
-    ensures text { IfOk result (λ text.
-        text.items ≡ limit_answer options.now (gone_by before.now) limit worker) }
-    ensures memory { IfErr result (λ fault. fault ≡ Fault.Write WriteFault.Memory) }
-{
-    let mut text = Vec::new(alloc);
-    if options.rows || options.history {
-        return Ok(text);
-    }
-    match push_limit_line(&mut text, worker, before.requests_of(worker), limit) {
-        Ok(()) => Ok(text),
-        Err(_) => Err(Fault::Write(WriteFault::Memory)),
-    }
-}
-
-// Adds the line that tells a worker its limit, with the index of its next request.
-fn push_limit_line(
-    text: &mut Vec<u8>,
-    worker: u32,
-    index: u64,
-    limit: u64,
-) -> Result<(), AllocError>
-    ensures { OnOk result (text.new.items ≡ text.old.items ++ limit_line worker index limit) }
-{
-    push_number(text, u64::from(worker))?;
-    push_labelled(text, b",", index)?;
-    push_text(text, b",fault ")?;
-    push_limit(text, limit)?;
-    push_text(text, b"\n")
-}
-
-// Adds the words of a limit.
-fn push_limit(text: &mut Vec<u8>, limit: u64) -> Result<(), AllocError>
-    ensures { OnOk result (text.new.items ≡ text.old.items ++ limit_text limit) }
-{
-    push_labelled(text, b"more than ", limit)?;
-    push_text(text, b" requests for a worker")
+    let line = TurnedLine {
+        worker: Some(worker),
+        turned: Turned::Past(limit),
+    };
+    tell_turned(alloc, teller, options, &done.served.before, line)
 }
 
 /// The histories of parts, one after the other, are one history: it replays from the book with all

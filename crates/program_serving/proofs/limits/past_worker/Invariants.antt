@@ -3,7 +3,7 @@ use Rattle.auction_run.specs.GoingOn.{IsShortOn}
 use Rattle.closing_laws.specs.Standing.{counters_at, stores}
 use Rattle.run_laws.specs.Serving.{script_of}
 use Rattle.shard_boxes.specs.declared.limits.TheConstants.{MOST_COMMITS}
-use Rattle.program_serving.specs.PartRuns.{AreWithinLimit, IsPastOn}
+use Rattle.program_serving.specs.inner.Parts.{AreWithinLimit, IsPastOn}
 use Rattle.program_serving.proofs.limits.past_worker.Given as goal
 
 abbrev pub invariant-loop-worker : goal.invariant-loop-worker

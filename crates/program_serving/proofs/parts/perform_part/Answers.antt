@@ -5,9 +5,9 @@ use Rattle.auction_run.specs.Phases.{hot_sets}
 use Rattle.auction_text.specs.Moved.{Gone, gone_by}
 use Rattle.auction_text.specs.Scripts.{Asked}
 use Rattle.program_opening.specs.declared.faults.Fault.{Fault}
-use Rattle.program_serving.specs.PartRuns.{IsBegun, ServesPart, gone_with}
-use Rattle.program_serving.specs.ServeFaults.{FailsPart, HasPastPhases, IsPartFault}
+use Rattle.program_serving.specs.ServeFaults.{HasPastPhases, IsPartFault}
 use Rattle.program_serving.specs.Serving.{AreTold}
+use Rattle.program_serving.specs.inner.Parts.{FailsPart, IsBegun, ServesPart, gone_with}
 use Rattle.program_serving.specs.declared.parts.Served.{Served}
 use Rattle.program_opening.proofs.ErrorLemmas.{error_is}
 use Rattle.program_serving.proofs.ServedParts.{past_with_done, run_refused}

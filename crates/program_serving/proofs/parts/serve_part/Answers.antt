@@ -4,9 +4,8 @@ use Rattle.auction_rows.specs.Book.{Book}
 use Rattle.auction_text.specs.Moved.{BeforeView, gone_by}
 use Rattle.auction_text.specs.Scripts.{asked_of}
 use Rattle.program_opening.specs.declared.faults.Fault.{Fault}
-use Rattle.program_serving.specs.PartRuns.{AreDoneOf, BeginsAt, ServesPart, done_of, gone_with}
-use Rattle.program_serving.specs.ServeFaults.{FailsPart}
 use Rattle.program_serving.specs.Serving.{AreTold}
+use Rattle.program_serving.specs.inner.Parts.{AreDoneOf, BeginsAt, FailsPart, ServesPart, done_of, gone_with}
 use Rattle.program_opening.proofs.ErrorLemmas.{error_is}
 use Rattle.program_serving.proofs.ToldLemmas.{nothing_told}
 use Rattle.program_serving.proofs.parts.serve_part.Goals as goal

@@ -1,8 +1,8 @@
 use Rattle.std.proofs.Common.{◌∙◌, None, Some, [], refl, subst, sym}
 use Rattle.auction_text.specs.Moved.{gone_by}
 use Rattle.auction_text.specs.Said.TheVariants as says
-use Rattle.program_serving.specs.PartRuns.{GoesOnTo}
 use Rattle.program_opening.proofs.ErrorLemmas.{error_is}
+use Rattle.program_serving.specs.inner.Sessions.{GoesOnTo}
 use Rattle.program_serving.proofs.FaultLemmas.{answer_stops}
 use Rattle.program_serving.proofs.ToldLemmas.{nothing_told, told_none}
 use Rattle.program_serving.proofs.session.pass_fault.Goals as goal
@@ -27,10 +27,10 @@ returns-in-All-clause-passes g c = λ remaining workers rest on. record {
   holds = told_none g.L.Log.accepted g.W.Write.contents c.args.teller.now.teller;
 }
 
-pub returns-in_ok-tell_fault-in-Fault-clause-passes : goal.returns-in_ok-tell_fault-in-Fault-clause-passes
-returns-in_ok-tell_fault-in-Fault-clause-passes g c = λ remaining workers rest on.
+pub returns-in_ok-tell_turned-in-Fault-clause-passes : goal.returns-in_ok-tell_turned-in-Fault-clause-passes
+returns-in_ok-tell_turned-in-Fault-clause-passes g c = λ remaining workers rest on.
     let next = subst (λ end. GoesOnTo remaining workers end rest) c.in-Fault.is on in
-    record { met = Some c.in-Fault.met; goes_on = sym c.ends_at_fault.ensures ∙ c.if-ends_at_fault.false; behind = next.0; rest_is = next.1.0; left_is = next.1.1; holds = c.in_ok-tell_fault-in-Fault.ensures.told }
+    record { met = Some c.in-Fault.met; goes_on = sym c.ends_at_fault.ensures ∙ c.if-ends_at_fault.false; behind = next.0; rest_is = next.1.0; left_is = next.1.1; holds = c.in_ok-tell_turned-in-Fault.ensures.told }
 
 pub returns-then-ends_at_fault-clause-stops : goal.returns-then-ends_at_fault-clause-stops
 returns-then-ends_at_fault-clause-stops g c = λ remaining workers rest on book rows.
@@ -39,16 +39,16 @@ returns-then-ends_at_fault-clause-stops g c = λ remaining workers rest on book 
       λ input. record { met = c.in-Fault.met; behind = next.0; rest_is = next.1.0; fault_is = refl; ends = sym c.ends_at_fault.ensures ∙ c.if-ends_at_fault.true },
     )
 
-pub returns-in_err-tell_fault-in-Fault-clause-stops : goal.returns-in_err-tell_fault-in-Fault-clause-stops
-returns-in_err-tell_fault-in-Fault-clause-stops g c =
-    let fault = c.in_err-tell_fault-in-Fault.field-0.0 in
+pub returns-in_err-tell_turned-in-Fault-clause-stops : goal.returns-in_err-tell_turned-in-Fault-clause-stops
+returns-in_err-tell_turned-in-Fault-clause-stops g c =
+    let fault = c.in_err-tell_turned-in-Fault.field-0.0 in
     error_is c.from_residual.result fault _ c.from_residual.ensures (λ remaining workers rest on book rows.
     let next = subst (λ end. GoesOnTo remaining workers end rest) c.in-Fault.is on in
-    answer_stops g.L.Log.accepted g.W.Write.contents c.args.teller.now.teller c.tell_fault.new.teller.teller c.args.options.now book (gone_by c.args.before.now) rows rest fault (record {
+    answer_stops g.L.Log.accepted g.W.Write.contents c.args.teller.now.teller c.tell_turned.new.teller.teller c.args.options.now book (gone_by c.args.before.now) rows rest fault (record {
       line = says.Fault c.in-Fault.met;
       behind = next.0;
       rest_is = next.1.0;
       goes_on = sym c.ends_at_fault.ensures ∙ c.if-ends_at_fault.false;
       turned_away = tt;
-      holds = c.in_err-tell_fault-in-Fault.ensures.so_far;
+      holds = c.in_err-tell_turned-in-Fault.ensures.so_far;
     }))

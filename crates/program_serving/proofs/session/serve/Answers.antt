@@ -6,9 +6,10 @@ use Rattle.auction_text.specs.LiveLines.{live_says}
 use Rattle.auction_text.specs.Moved.{gone_by}
 use Rattle.program_opening.specs.declared.faults.Fault.{Fault}
 use Rattle.program_opening.specs.declared.faults.Fault.TheVariants.{Read}
-use Rattle.program_serving.specs.PartRuns.{IsStart, YetToSay}
+use Rattle.program_serving.specs.PartRuns.{IsStart}
 use Rattle.program_serving.specs.ServeFaults.{IsServeFault}
 use Rattle.program_serving.specs.Serving.{nothing_gone}
+use Rattle.program_serving.specs.inner.Sessions.{YetToSay}
 use Rattle.program_serving.specs.declared.parts.Served.{Served}
 use Rattle.program_opening.proofs.ErrorLemmas.{error_is}
 use Rattle.program_serving.proofs.ServedBook.{either_logged, no_success, served_book}

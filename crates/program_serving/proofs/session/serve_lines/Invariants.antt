@@ -3,14 +3,13 @@ use Rattle.auction_rows.specs.Book.{Book}
 use Rattle.auction_text.specs.Said.{Said}
 use Rattle.part_log.specs.declared.log.Teller.{Teller}
 use Rattle.phase_floor.specs.Adding.{HasBook}
-use Rattle.program_serving.specs.PartRuns.{GoesOnTo, IsSession}
-use Rattle.program_serving.specs.Serving.{AreTold}
+use Rattle.program_serving.specs.inner.Sessions.{IsServedSoFar}
 use Rattle.program_serving.proofs.session.serve_lines.Given as goal
 
 abbrev pub invariant-loop : goal.invariant-loop
 invariant-loop g l = record {
   has : HasBook l.session.served.auction;
   session : (book : Book) (all : List Said) (start : Teller _ _)
-      → IsSession l.options book all l.fn.session.served (GoesOnTo g.I.Read.remaining l.options.workers l.fn.session.end) (AreTold g.L.Log.accepted g.W.Write.contents start l.fn.teller.teller)
-      → IsSession l.options book all l.session.served (GoesOnTo g.I.Read.remaining l.options.workers l.session.end) (AreTold g.L.Log.accepted g.W.Write.contents start l.teller.teller);
+      → IsServedSoFar g.I.Read.remaining g.L.Log.accepted g.W.Write.contents start l.fn.teller.teller l.options book all l.fn.session
+      → IsServedSoFar g.I.Read.remaining g.L.Log.accepted g.W.Write.contents start l.teller.teller l.options book all l.session;
 }

@@ -5,9 +5,9 @@ use Rattle.auction_text.specs.Said.{Said}
 use Rattle.part_log.specs.declared.log.Teller.{Teller}
 use Rattle.program_opening.specs.declared.faults.Fault.{Fault}
 use Rattle.program_opening.specs.declared.faults.Fault.TheVariants.{Read}
-use Rattle.program_serving.specs.PartRuns.{GoesOnTo, IsSession, MayHaveToSay}
 use Rattle.program_serving.specs.ServeFaults.{IsServeFault}
 use Rattle.program_serving.specs.Serving.{AreTold, book_left}
+use Rattle.program_serving.specs.inner.Sessions.{GoesOnTo, IsServedSoFar, IsSession, MayHaveToSay}
 use Rattle.program_opening.proofs.ErrorLemmas.{error_is}
 use Rattle.program_serving.proofs.PartSteps.{part_fails, part_goes_on, part_served}
 use Rattle.program_serving.proofs.RowsBefore.{no_late_row}
@@ -64,7 +64,7 @@ returns-in_err-left-clause-cause g c =
     let mid = c.pass_fault.new.teller.teller in
     let fault = c.in_err-left.field-0.0 in
     error_is c.from_residual.result fault (λ (f : Fault). (book : Book) (all : List Said) (start : Teller _ _)
-    → IsSession options book all c.args.session.served (GoesOnTo remaining options.workers c.args.session.end) (AreTold accepted contents start c.args.teller.now.teller)
+    → IsServedSoFar remaining accepted contents start c.args.teller.now.teller options book all c.args.session
     → IsServeFault accepted contents start mid options book all f) c.from_residual.ensures
     (λ book all start session.
     session_stops accepted contents options book all start old mid c.args.session.served (GoesOnTo remaining options.workers c.args.session.end) session fault
@@ -80,7 +80,7 @@ returns-in_err-input-clause-cause g c =
     let mid = c.pass_fault.new.teller.teller in
     let fault = c.in_err-input.field-0.0 in
     error_is c.from_residual-in_err-input.result (Read fault) (λ (f : Fault). (book : Book) (all : List Said) (start : Teller _ _)
-    → IsSession options book all c.args.session.served (GoesOnTo remaining options.workers c.args.session.end) (AreTold accepted contents start c.args.teller.now.teller)
+    → IsServedSoFar remaining accepted contents start c.args.teller.now.teller options book all c.args.session
     → IsServeFault accepted contents start mid options book all f) c.from_residual-in_err-input.ensures
     (λ book all start session.
     let passed = subst (λ left. IsSession options book all c.args.session.served (MayHaveToSay remaining options.workers left) (AreTold accepted contents start mid)) c.in-Some.is
@@ -100,7 +100,7 @@ returns-in_err-done-clause-cause g c =
     let new = c.serve_part.new.teller.teller in
     let fault = c.in_err-done.field-0.0 in
     error_is c.from_residual-in_err-done.result fault (λ (f : Fault). (book : Book) (all : List Said) (start : Teller _ _)
-    → IsSession options book all c.args.session.served (GoesOnTo remaining options.workers c.args.session.end) (AreTold accepted contents start c.args.teller.now.teller)
+    → IsServedSoFar remaining accepted contents start c.args.teller.now.teller options book all c.args.session
     → IsServeFault accepted contents start new options book all f) c.from_residual-in_err-done.ensures
     (λ book all start session.
     let passed = subst (λ left. IsSession options book all c.args.session.served (MayHaveToSay remaining options.workers left) (AreTold accepted contents start mid)) c.in-Some.is
@@ -124,7 +124,7 @@ returns-in_err-tell_past-clause-cause g c =
     let new = c.tell_past.new.teller.teller in
     let fault = c.in_err-tell_past.field-0.0 in
     error_is c.from_residual-in_err-tell_past.result fault (λ (f : Fault). (book : Book) (all : List Said) (start : Teller _ _)
-    → IsSession options book all c.args.session.served (GoesOnTo remaining options.workers c.args.session.end) (AreTold accepted contents start c.args.teller.now.teller)
+    → IsServedSoFar remaining accepted contents start c.args.teller.now.teller options book all c.args.session
     → IsServeFault accepted contents start new options book all f) c.from_residual-in_err-tell_past.ensures
     (λ book all start session.
     let Left : List Said → Type 0 = MayHaveToSay remaining options.workers (Some c.in-Some.left) in

@@ -2,10 +2,10 @@ use Rattle.std.proofs.Common.{◌∙◌, [], refl}
 use Rattle.auction_text.specs.Moved.{gone_by}
 use Rattle.program_opening.specs.Faults.{of_telling}
 use Rattle.program_serving.specs.ServeFaults.{AreToldAt}
-use Rattle.program_serving.specs.Serving.{fault_answer}
+use Rattle.program_serving.specs.inner.Sessions.{answer_to}
 use Rattle.program_opening.proofs.ErrorLemmas.{error_is}
 use Rattle.program_serving.proofs.ToldLemmas.{if_known, same_appended, told_so_far}
-use Rattle.program_serving.proofs.session.tell_fault.Goals as goal
+use Rattle.program_serving.proofs.fault_lines.tell_turned.Goals as goal
 
 pub returns-clause-told : goal.returns-clause-told
 returns-clause-told g c =
@@ -18,6 +18,6 @@ returns-in_err-tell-clause-so_far g c =
     let old = c.args.teller.now.teller in
     let new = c.tell.new.self in
     let fault = c.in_err-tell.field-0.0 in
-    let answer = fault_answer c.args.options.now (gone_by c.args.before.now) c.args.met in
+    let answer = answer_to c.args.options.now (gone_by c.args.before.now) c.args.line in
     error_is c.from_residual-in_err-tell.result (of_telling fault) (λ f. AreToldAt log contents old new f [] answer) c.from_residual-in_err-tell.ensures
     (told_so_far log contents old new fault [] [] _ answer c.in_err-tell.ensures.fault (if_known (log old.log) _ refl) (c.as_slice-2.ensures.value ∙ c.in_ok-answer.ensures.text))
