@@ -31,7 +31,8 @@ use Rattle.auction_rows.proofs.OrderLemmas.{heat_total, heat_same}
 use Rattle.auction_rows.proofs.RequestLemmas.{same_object-true, same_objects, same_either_way}
 use Rattle.run_laws.proofs.CountLemmas.{how_many, how_many-is}
 use Rattle.hot_choice.specs.declared.choice.Candidate.{Candidate}
-use Rattle.hot_choice.specs.inner.Ranking.{heat_shown, if_enough, AreWritten, HasHeats, candidate, candidate_cmp, hot_ones, IsRanking}
+use Rattle.hot_choice.specs.inner.Ranking.{heat_shown, if_enough, HasHeats, candidate, candidate_cmp, hot_ones, IsRanking}
+use Rattle.hot_choice.specs.inner.Runs.{AreWritten}
 
 -- nothing is chosen where nothing may be
 pub none_chosen : (es : List Entry) (threshold : ℕ) → choose es threshold 0 ≡ []

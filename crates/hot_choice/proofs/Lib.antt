@@ -1,5 +1,5 @@
+pub mod RunLemmas
 pub mod HeatLemmas
 pub mod RankLemmas
 pub mod ChoiceLemmas
 pub mod ChosenLemmas
-pub mod FirstLemmas

@@ -2,5 +2,6 @@
 #![tactic(auto)]
 
 mod choice;
+mod runs;
 
 pub use choice::{choose_hot, choose_hot_after};

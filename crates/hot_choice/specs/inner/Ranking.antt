@@ -1,36 +1,14 @@
--- The objects that entries write, with their heats, and how they are ranked to be chosen.
-use Rattle.std.specs.Prelude.{◌≡◌, ◌==◌, [], ◌∷◌, ℕ, zero, suc, nat_le, if◌then◌else◌, List, Option, Some, None, map, filter, flat_map, replicate, count_by, IsPermutation, IsSorted}
+-- The heats of objects that entries write, and how they are ranked to be chosen.
+use Rattle.std.specs.Prelude.{◌≡◌, ◌==◌, ℕ, zero, suc, nat_le, if◌then◌else◌, List, Option, Some, None, map, filter, count_by, IsPermutation, IsSorted}
 use Rattle.std.specs.List.{IsDistinct}
 use Rattle.std.specs.Map.{keys_of, lookup}
 use Rattle.std.specs.Ordering.{nat_cmp, on, then_cmp, flip_args}
 use Rattle.std.specs.declared.cmp.Ordering.{Ordering}
-use Rattle.auction_rows.specs.declared.{requests.Object.Object, rows.Entry.Entry}
+use Rattle.auction_rows.specs.declared.requests.Object.{Object}
 use Rattle.auction_rows.specs.Orders.{object_cmp}
 use Rattle.auction_rows.specs.Requests.{same_object, shard_of}
-use Rattle.auction_rows.specs.Choosing.{heat}
 use Rattle.hot_choice.specs.declared.choice.Candidate.{Candidate}
-use Rattle.hot_choice.specs.declared.choice.Run.{Run}
-
--- the objects of a run, one after the other
-abbrev pub run_objects : Run → List Object
-run_objects run = run.object ∷ replicate run.more run.object
-
--- those of all runs
-abbrev pub objects_of : List Run → List Object
-objects_of runs = flat_map run_objects runs
-
--- the objects of a run that may go on, if there is one
-abbrev pub open_objects : Option Run → List Object
-open_objects None = []
-open_objects (Some run) = run_objects run
-
--- how often an object is in a list
-abbrev pub how_often : List Object → Object → ℕ
-how_often objects object = count_by (λ other. same_object other object) objects
-
--- Each object is in a list as often as entries write it.
-abbrev pub AreWritten : List Entry → List Object → Type 0
-AreWritten entries objects = (object : Object) → how_often objects object ≡ heat entries object
+use Rattle.hot_choice.specs.inner.Runs.{how_often}
 
 -- the bucket that an object is counted in
 abbrev pub bucket_of : Object → ℕ

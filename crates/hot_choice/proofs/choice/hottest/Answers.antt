@@ -3,7 +3,7 @@ use Rattle.std.specs.List.{IsDistinct}
 use Rattle.std.proofs.lemmas.Result.{IfOk-weaker}
 use Rattle.auction_rows.specs.Requests.{same_object}
 use Rattle.hot_choice.specs.declared.choice.Candidate.{Candidate}
-use Rattle.hot_choice.specs.inner.Ranking.{objects_of}
+use Rattle.hot_choice.specs.inner.Runs.{objects_of}
 use Rattle.hot_choice.proofs.ChosenLemmas.{distinct, chosen}
 use Rattle.hot_choice.proofs.choice.hottest.Goals as goal
 

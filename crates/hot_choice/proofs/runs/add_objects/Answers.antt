@@ -3,9 +3,9 @@ use Rattle.std.specs.Prelude.{option_to_list}
 use Rattle.std.proofs.lemmas.List.{append-nil}
 use Rattle.auction_rows.specs.declared.{requests.Object.Object, rows.Entry.Entry}
 use Rattle.auction_rows.specs.Choosing.{objects_written}
-use Rattle.hot_choice.specs.inner.Ranking.{objects_of}
-use Rattle.hot_choice.proofs.HeatLemmas.{written_more}
-use Rattle.hot_choice.proofs.choice.add_objects.Goals as goal
+use Rattle.hot_choice.specs.inner.Runs.{objects_of}
+use Rattle.hot_choice.proofs.RunLemmas.{written_more}
+use Rattle.hot_choice.proofs.runs.add_objects.Goals as goal
 
 -- an entry that was the first of those that are left is the last of those that were told
 one_told : (told left : List Entry) (e : Entry) (rest all : List Entry) → left ≡ e ∷ rest → told ++ left ≡ all → (told ++ e ∷ []) ++ rest ≡ all

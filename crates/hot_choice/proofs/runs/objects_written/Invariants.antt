@@ -1,7 +1,7 @@
 use Rattle.std.proofs.Common.{◌≡◌, ◌++◌, take}
 use Rattle.auction_rows.specs.Choosing.{objects_written}
-use Rattle.hot_choice.specs.inner.Ranking.{objects_of, open_objects}
-use Rattle.hot_choice.proofs.choice.objects_written.Given as goal
+use Rattle.hot_choice.specs.inner.Runs.{objects_of, open_objects}
+use Rattle.hot_choice.proofs.runs.objects_written.Given as goal
 
 -- those of the entries so far
 abbrev pub invariant-loop-entry : goal.invariant-loop-entry

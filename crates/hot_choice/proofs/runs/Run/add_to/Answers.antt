@@ -1,5 +1,5 @@
 use Rattle.std.proofs.Common.{arith}
-use Rattle.hot_choice.proofs.choice.Run.add_to.Goals as goal
+use Rattle.hot_choice.proofs.runs.Run.add_to.Goals as goal
 
 pub returns : goal.returns
 returns c =

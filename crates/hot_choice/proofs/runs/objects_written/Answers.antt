@@ -2,9 +2,9 @@ use Rattle.std.proofs.Common.{◌++◌, ◌∷◌, [], take, sym, ap, ◌∙◌}
 use Rattle.std.specs.Prelude.{option_to_list}
 use Rattle.std.proofs.lemmas.List.{take_all, take_more}
 use Rattle.auction_rows.specs.Choosing.{objects_written}
-use Rattle.hot_choice.specs.inner.Ranking.{objects_of}
-use Rattle.hot_choice.proofs.HeatLemmas.{written_more}
-use Rattle.hot_choice.proofs.choice.objects_written.Goals as goal
+use Rattle.hot_choice.specs.inner.Runs.{objects_of}
+use Rattle.hot_choice.proofs.RunLemmas.{written_more}
+use Rattle.hot_choice.proofs.runs.objects_written.Goals as goal
 
 pub loop-entry-init : goal.loop-entry-init
 loop-entry-init c = ap (λ rs. objects_of rs ++ []) c.in_ok-runs.ensures.items

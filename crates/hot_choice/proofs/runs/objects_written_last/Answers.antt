@@ -4,9 +4,9 @@ use Rattle.auction_rows.specs.declared.requests.Object.{Object}
 use Rattle.auction_rows.specs.Choosing.{objects_written}
 use Rattle.worker_journals.specs.Merged.{merged}
 use Rattle.worker_journals.proofs.MergedLemmas.{all_entries}
-use Rattle.hot_choice.specs.inner.Ranking.{AreWritten, objects_of}
-use Rattle.hot_choice.proofs.HeatLemmas.{written_in_turn, written_in_any_order}
-use Rattle.hot_choice.proofs.choice.objects_written_last.Goals as goal
+use Rattle.hot_choice.specs.inner.Runs.{AreWritten, objects_of}
+use Rattle.hot_choice.proofs.RunLemmas.{written_in_turn, written_in_any_order}
+use Rattle.hot_choice.proofs.runs.objects_written_last.Goals as goal
 
 pub loop-journal-init : goal.loop-journal-init
 loop-journal-init c = ap objects_of c.in_ok-runs.ensures.items

@@ -1,5 +1,5 @@
-use Rattle.hot_choice.proofs.HeatLemmas.{none_put, run_put}
-use Rattle.hot_choice.proofs.choice.end_run.Goals as goal
+use Rattle.hot_choice.proofs.RunLemmas.{none_put, run_put}
+use Rattle.hot_choice.proofs.runs.end_run.Goals as goal
 
 pub returns-in_ok-push : goal.returns-in_ok-push
 returns-in_ok-push c = run_put c.args.runs.now.items c.push.new.self.items c.args.run c.in-Some.last c.in-Some.is c.in_ok-push.ensures.items

@@ -1,7 +1,7 @@
 use Rattle.std.proofs.Common.{◌+◌, refl, sym, ◌∙◌}
 use Rattle.auction_rows.proofs.RequestLemmas.{eq_is_same, same_object-true}
-use Rattle.hot_choice.proofs.HeatLemmas.{run_grown}
-use Rattle.hot_choice.proofs.choice.Run.with.Goals as goal
+use Rattle.hot_choice.proofs.RunLemmas.{run_grown}
+use Rattle.hot_choice.proofs.runs.Run.with.Goals as goal
 
 pub returns-then-self-lt4294967295 : goal.returns-then-self-lt4294967295
 returns-then-self-lt4294967295 c =

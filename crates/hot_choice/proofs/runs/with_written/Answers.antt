@@ -1,5 +1,5 @@
-use Rattle.hot_choice.proofs.HeatLemmas.{run_begins, run_ends, run_goes_on, run_waits}
-use Rattle.hot_choice.proofs.choice.with_written.Goals as goal
+use Rattle.hot_choice.proofs.RunLemmas.{run_begins, run_ends, run_goes_on, run_waits}
+use Rattle.hot_choice.proofs.runs.with_written.Goals as goal
 
 pub returns-in_default : goal.returns-in_default
 returns-in_default c = run_waits c.args.runs.now.items c.args.run c.args.written c.in_default.is
