@@ -1,14 +1,30 @@
-//! Tests of the engine by its public calls, a folder for each library that has any, and calls for
-//! which memory is refused.
+//! Tests of the engine by its public calls: of runs in threads (`auction_run`), of windows
+//! (`auction_window`), and calls for which memory is refused.
 #![tactic(auto)]
 
 #[cfg(test)]
+mod board_tests;
+#[cfg(test)]
 mod calls;
 #[cfg(test)]
-mod rows;
+mod entry_tests;
 #[cfg(test)]
-mod runs;
+mod gate_tests;
+#[cfg(test)]
+mod going_on_tests;
+#[cfg(test)]
+mod meeting_tests;
+#[cfg(test)]
+mod one_shard_tests;
+#[cfg(test)]
+mod part_tests;
+#[cfg(test)]
+mod phase_tests;
+#[cfg(test)]
+mod refusal_tests;
+#[cfg(test)]
+mod replay_tests;
 #[cfg(test)]
 mod testing;
 #[cfg(test)]
-mod windows;
+mod view_tests;

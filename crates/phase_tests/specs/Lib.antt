@@ -1,1 +1,2 @@
 pub mod NewShards
+pub mod Permits

@@ -2,7 +2,7 @@
 #![tactic(auto)]
 
 #[cfg(test)]
-mod boxes;
+mod box_tests;
 #[cfg(test)]
 mod calls;
 #[cfg(test)]
@@ -10,4 +10,4 @@ mod permits;
 #[cfg(test)]
 mod testing;
 #[cfg(test)]
-mod workers;
+mod worker_tests;

@@ -4,5 +4,4 @@ pub(crate) mod joined;
 mod joined_tests;
 mod split;
 mod split_tests;
-pub(crate) mod testing;
 mod thread_tests;

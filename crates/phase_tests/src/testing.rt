@@ -1,11 +1,20 @@
-//! How tests compare, a view that waits, and room for keys.
-ghost use Rattle.std.specs.Prelude.{◌≡◌, ◌≤◌, [], length, vec_capacity, IfOk};
+//! How tests compare, a view that waits, four new shards, and their boxes with the key of one worker
+//! or of two.
+ghost use Rattle.std.specs.Prelude.{◌≡◌, length, map, IfOk};
+ghost use Rattle.shard_boxes.specs.States.{state_of};
+ghost use Rattle.shard_boxes.specs.Keys.{IsNewKey};
+ghost use Rattle.phase_transactions.specs.Workers.{IsUnused};
+ghost use Rattle.phase_tests.specs.NewShards.{AreFourNew, BeginsWith};
 
 use auction_rows::Request;
+use item_shards::Shard;
 use phase_permits::Stash;
+use shard_boxes::{Boxes, Key, PhaseName};
 use std::alloc::{AllocError, Global};
 use std::fmt::Debug;
 use std::process::Abort;
+use test_values::{OPENING, both, only};
+use worker_journals::Journal;
 
 /// Ends the test where these are not the same.
 pub(crate) fn assert_same<T: PartialEq + Debug + Drop>(rt: &impl Abort, got: T, wanted: T) {
@@ -21,10 +30,53 @@ pub(crate) fn waiting(alloc: Global, index: u32, user: u32) -> Result<Stash, All
     Ok(stash)
 }
 
-/// Room for so many.
-pub(crate) fn room_for<T>(rt: &impl Abort, alloc: Global, count: usize) -> Vec<T>
-    ensures empty { result.items ≡ [] }
-    ensures room { count ≤ vec_capacity result }
+/// Four new shards.
+pub(crate) fn four(alloc: Global) -> Result<Vec<Shard>, AllocError>
+    ensures { IfOk result (λ shards. AreFourNew (map state_of shards.items)) }
 {
-    Vec::with_capacity(alloc, count).expect(rt, "memory")
+    let mut shards = Vec::new(alloc);
+    for number in 0..4u32 {
+        shards.push(Shard::new(alloc, number, 4, OPENING)?)?;
+    }
+    Ok(shards)
+}
+
+/// The boxes of these shards, and the key of their one worker.
+pub(crate) fn boxes_of_one<N: PhaseName>(
+    alloc: Global,
+    shards: Vec<Shard>,
+) -> Result<(Boxes<N>, Key<N>), AllocError>
+    requires { BeginsWith N.initial N.workers 1 shards.items }
+    ensures boxes { IfOk result (λ made. made.1.boxes ≡ made.0) }
+    ensures worker { IfOk result (λ made. made.1.worker ≡ 0) }
+    ensures unused { IfOk result (λ made. IsUnused made.1) }
+{
+    let Ok((boxes, keys)) = Boxes::<N>::new(alloc, shards, 1) else {
+        return Err(AllocError);
+    };
+    let key = only(keys);
+    Ok((boxes, key))
+}
+
+/// The boxes of these shards, and the keys of their two workers.
+pub(crate) fn boxes_of_two<N: PhaseName>(
+    alloc: Global,
+    shards: Vec<Shard>,
+) -> Result<(Boxes<N>, Key<N>, Key<N>), AllocError>
+    requires { BeginsWith N.initial N.workers 2 shards.items }
+    ensures first { IfOk result (λ made. IsNewKey made.0 0 made.1) }
+    ensures second { IfOk result (λ made. IsNewKey made.0 1 made.2) }
+{
+    let Ok((boxes, keys)) = Boxes::<N>::new(alloc, shards, 2) else {
+        return Err(AllocError);
+    };
+    let (first, second) = both(keys);
+    Ok((boxes, first, second))
+}
+
+/// Adds the numbers of a journal's commits.
+pub(crate) fn push_numbers(rt: &impl Abort, numbers: &mut Vec<u64>, journal: &Journal) {
+    for entry in journal.entries() {
+        numbers.push(entry.number()).expect(rt, "memory");
+    }
 }

@@ -1,12 +1,30 @@
 //! How tests compare, and what they look at.
 use auction_program::{Fault, write_fault};
+use auction_rows::Reply;
 use std::alloc::Global;
 use std::fmt::Debug;
 use std::process::Abort;
+use test_values::VIEW;
+use worker_journals::{History, Journal};
 
 /// Ends the test where these are not the same.
 pub(crate) fn assert_same<T: PartialEq + Debug + Drop>(rt: &impl Abort, got: T, wanted: T) {
     assert_eq!(rt; got, wanted);
+}
+
+/// Adds a phase in which worker 0 commits a view alone, with this index and reply.
+pub fn add_commit(
+    rt: &(impl Abort + Alloc<A = Global>),
+    history: &mut History,
+    phase: u64,
+    index: u32,
+    reply: Reply,
+) {
+    let alloc = rt.alloc();
+    let mut journal = Journal::with_room(alloc, phase, 0, 1).expect(rt, "memory");
+    journal.push(1, index, VIEW, reply);
+    let journals = vec![in alloc; journal].expect(rt, "memory");
+    history.add_phase(journals).expect(rt, "memory");
 }
 
 /// Adds bytes to a text.

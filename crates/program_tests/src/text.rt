@@ -4,5 +4,6 @@ mod ended_tests;
 mod live_tests;
 mod moved_tests;
 mod part_tests;
+mod reading;
 mod script_tests;
 mod writing_tests;

@@ -1,4 +1,4 @@
-//! Tests of records, shards and journals by their public calls.
+//! Tests of rows, records, shards and journals by their public calls.
 #![tactic(auto)]
 
 #[cfg(test)]
@@ -6,8 +6,12 @@ mod journal_tests;
 #[cfg(test)]
 mod merge_tests;
 #[cfg(test)]
+mod rule_tests;
+#[cfg(test)]
 mod shard_tests;
 #[cfg(test)]
 mod split_tests;
 #[cfg(test)]
 mod testing;
+#[cfg(test)]
+mod value_tests;

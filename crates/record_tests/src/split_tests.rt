@@ -20,18 +20,20 @@ fn in_two_slices<R: Splittable>(first: R::Op, second: R::Op) -> R
     left
 }
 
+// A slice of these entries.
+fn top_of(entries: &[u64]) -> TopRec<u64, 10> {
+    let mut slice = TopRec::<u64, 10>::identity();
+    for entry in entries {
+        slice.insert(*entry);
+    }
+    slice
+}
+
 // A slice of each of two lists of entries, merged.
 fn top_of_both(first: &[u64], second: &[u64]) -> TopRec<u64, 10> {
-    let mut left = TopRec::<u64, 10>::identity();
-    let mut right = TopRec::<u64, 10>::identity();
-    for entry in first {
-        left.insert(*entry);
-    }
-    for entry in second {
-        right.insert(*entry);
-    }
-    left.merge(right);
-    left
+    let mut merged = top_of(first);
+    merged.merge(top_of(second));
+    merged
 }
 
 #[test]

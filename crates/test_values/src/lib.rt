@@ -6,8 +6,10 @@ mod replies;
 mod requests;
 mod rows;
 
-pub use lists::{only, ten_of};
-pub use replies::{NO_ITEM, NO_USER, UNRATED, bid_stored, bought, comment_stored, item_seen};
+pub use lists::{both, only, ten_of};
+pub use replies::{
+    NO_ITEM, NO_USER, UNRATED, bid_stored, bought, comment_stored, item_seen, print_view,
+};
 pub use requests::{
     FIRST, LOOK, OPENING, VIEW, VIEW_OF_BIDS, bid, comment, purchase, put_up, vases,
 };

@@ -1,4 +1,4 @@
-//! Replies.
+//! Replies, and how they are printed.
 ghost use Rattle.std.specs.Prelude.{◌≡◌, option_map};
 ghost use Rattle.auction_rows.specs.declared.replies.Reply.TheVariants.{BidStored, Bought, CommentStored, ItemSeen};
 
@@ -56,5 +56,12 @@ pub fn item_seen(facts: &Facts, greatest: Option<(u64, u32)>, bids: u64, left: u
         bidder,
         bids,
         left,
+    }
+}
+
+/// Prints what a view shows after so many phases, if it was answered.
+pub fn print_view<R: Print>(rt: &R, phases: u64, reply: Option<Reply>) {
+    if let Some(reply) = reply {
+        let _ = println!(rt; "view after {phases} phases: {reply:?}");
     }
 }

@@ -1,15 +1,20 @@
 -- What a permit is for stays, whatever it answers.
-use Rattle.std.proofs.Common.{◌≡◌, ℕ, List, Option, Some, None, Result, Ok, Err, ap}
+use Rattle.std.proofs.Common.{◌≡◌, ℕ, List, Option, Some, None, Result, Ok, Err, sym, ap, subst, ◌∙◌}
 use Rattle.std.specs.Prelude.{IfOk, IfErr, IfSome, IfNone}
 use Rattle.auction_rows.specs.declared.{requests.Request.Request, replies.Reply.Reply}
 use Rattle.phase_transactions.specs.Workers.{WorkerState, with_try}
 use Rattle.phase_transactions.specs.declared.done.PermitFault.{PermitFault}
-use Rattle.phase_transactions.specs.Performing.{HasFailed, HasCommitted, HasPerformedFirst, HasFailedFirst}
+use Rattle.phase_transactions.specs.Performing.{HasFailed, HasCommitted, HasPerformedFirst, HasFailedFirst, HaveOpening}
+use Rattle.shard_boxes.specs.Keys.{BoxId}
 use Rattle.shard_boxes.specs.States.{ShardState}
+use Rattle.phase_tests.specs.Permits.{IsPermitFor}
 
 -- for the same boxes, users and categories, and the same worker
 abbrev pub IsStill : WorkerState → WorkerState → Type 0
 IsStill old new = (new.key.boxes ≡ old.key.boxes) × (new.opening ≡ old.opening) × (new.key.worker ≡ old.key.worker)
+
+pub still_for : {initial : List ShardState} {boxes : List BoxId} {old new : WorkerState} → IsStill old new → IsPermitFor initial boxes old → IsPermitFor initial boxes new
+still_for {initial} still was = record { of = still.0 ∙ was.of; users = subst (HaveOpening initial) (sym still.1) was.users }
 
 module _ (initial : List ShardState) (old new : WorkerState) where
   pub performed : (request : Request) (index : ℕ) (answer : Result Reply PermitFault) → IfOk answer (λ reply. HasCommitted initial (with_try old) new request index reply)

@@ -1,10 +1,11 @@
 //! A joined phase of one worker, in whose stash a view waits.
-ghost use Rattle.std.specs.Prelude.{◌≡◌, ◌+◌, ◌∷◌, [], length, vec_len, IfOk};
+ghost use Rattle.std.specs.Prelude.{◌≡◌, ◌∷◌, [], length, vec_len, IfOk};
 ghost use Rattle.phase_floor.specs.Closings.{IsReceipt};
 ghost use Rattle.phase_floor.specs.Floors.{AreBegun};
 ghost use Rattle.phase_floor.specs.States.{states_of};
 
-use crate::calls::printing::{look_for_memory, print_count};
+use crate::calls::closing::close;
+use crate::calls::printing::{look_for_memory, print_answer, print_count};
 use auction_rows::{MOST_TRIES, Request};
 use phase_floor::{Joined, JoinedFloor};
 use phase_permits::{JoinedPermit, Stash};
@@ -12,7 +13,7 @@ use shard_boxes::PhaseName;
 use std::alloc::Global;
 use std::sync::Wait;
 use std::test::Fail;
-use test_values::{bid, only};
+use test_values::{bid, only, put_up, vases};
 use worker_journals::History;
 
 // Begins the phase; where memory is refused, once more on the state and the stashes that came back.
@@ -76,16 +77,8 @@ fn attempt<N: PhaseName, R: Wait + Print>(
     if left == 0 || permit.tries() >= MOST_TRIES {
         return false;
     }
-    match permit.perform(rt, floor.boxes(), request, index) {
-        Ok(reply) => {
-            let _ = println!(rt; "joined request {index}, {left} left: {reply:?}");
-            true
-        }
-        Err(fault) => {
-            let _ = println!(rt; "joined request {index}, {left} left: {fault}");
-            false
-        }
-    }
+    let answer = permit.perform(rt, floor.boxes(), request, index);
+    print_answer(rt, "joined", index, left, &answer)
 }
 
 // What waits, a view of an unknown user between two looks for memory, a store, once more where it
@@ -95,11 +88,11 @@ fn perform<N: PhaseName, R: Wait + Print>(
     alloc: Global,
     floor: &JoinedFloor<N>,
     permit: &mut JoinedPermit<N>,
-    store: &Request,
 )
     requires { IsReceipt floor.now 0 permit.old }
     ensures { IsReceipt floor.now 0 permit.new }
 {
+    let store = &put_up(vases(10, 2));
     perform_first(rt, floor, permit);
     look_for_memory(rt, alloc);
     attempt(rt, floor, permit, &Request::ViewUser { user: 10 }, 1);
@@ -109,37 +102,12 @@ fn perform<N: PhaseName, R: Wait + Print>(
     }
 }
 
-// Closes the phase.
-fn close<N: PhaseName, R: Print>(
-    rt: &R,
-    alloc: Global,
-    floor: JoinedFloor<N>,
-    permit: JoinedPermit<N>,
-    history: &mut History,
-) -> Result<Joined, Fail>
-    requires workers { length floor.counters ≡ 1 }
-    requires permit { IsReceipt floor 0 permit }
-    ensures workers { IfOk result (λ after. length after.counters ≡ 1) }
-    ensures phase { IfOk result (λ after. after.phase ≡ floor.phase + 1) }
-{
-    let receipts = vec![in alloc; permit.finish()]?;
-    print_count(rt, "joined receipts", receipts.len(), "");
-    match floor.close(alloc, history, receipts) {
-        Ok((state, _stashes)) => {
-            print_count(rt, "joined close", history.len(), " entries");
-            Ok(state)
-        }
-        Err(fault) => Err(Fail::new(fault)),
-    }
-}
-
 /// Begins the phase, performs in it and closes it: the state after it.
 pub(crate) fn joined_phase<N: PhaseName, R: Wait + Print>(
     rt: &R,
     alloc: Global,
     state: Joined,
     stashes: Vec<Stash>,
-    store: &Request,
     history: &mut History,
 ) -> Result<Joined, Fail>
     requires shards { states_of state ≡ N.initial }
@@ -153,6 +121,6 @@ pub(crate) fn joined_phase<N: PhaseName, R: Wait + Print>(
     let (floor, permits) = begin::<N, R>(rt, alloc, state, stashes)?;
     print_count(rt, "joined begin", permits.len(), " permit");
     let mut permit = only(permits);
-    perform(rt, alloc, &floor, &mut permit, store);
+    perform(rt, alloc, &floor, &mut permit);
     close(rt, alloc, floor, permit, history)
 }

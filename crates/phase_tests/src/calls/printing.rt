@@ -1,7 +1,7 @@
 //! What is printed beside the answers of calls.
-use phase_floor::Joined;
+use phase_permits::{Kind, PermitFault, Stash};
 use std::alloc::Global;
-use test_values::VIEW;
+use std::fmt::Debug;
 use worker_journals::{EntryRef, History, Journal};
 
 /// Prints a call that gave so many, with what comes after the number.
@@ -9,10 +9,31 @@ pub(crate) fn print_count<R: Print>(rt: &R, call: &str, count: usize, unit: &str
     let _ = println!(rt; "{call}: {count}{unit}");
 }
 
-/// Prints what a view of the vases shows between two phases.
-pub(crate) fn print_state<R: Print>(rt: &R, state: &Joined) {
-    if let Some(reply) = state.view(&VIEW) {
-        let _ = println!(rt; "view after {} phases: {reply:?}", state.phase());
+/// What a kind of phase is called.
+pub(crate) fn kind_name<K: Kind>() -> &'static str {
+    if K::IS_JOINED { "joined" } else { "split" }
+}
+
+/// Prints the answer of a request in a phase of this kind, before which so much of the quota was
+/// left: whether it was performed or put off.
+pub(crate) fn print_answer<A: Debug, R: Print>(
+    rt: &R,
+    kind: &str,
+    index: u32,
+    left: u32,
+    answer: &Result<A, PermitFault>,
+) -> bool {
+    let _ = match answer {
+        Ok(done) => println!(rt; "{kind} request {index}, {left} left: {done:?}"),
+        Err(fault) => println!(rt; "{kind} request {index}, {left} left: {fault}"),
+    };
+    answer.is_ok()
+}
+
+/// Prints how many requests wait in each stash of a split phase.
+pub(crate) fn print_waiting<R: Print>(rt: &R, stashes: &[Stash]) {
+    for stash in stashes {
+        print_count(rt, "split stash", stash.len(), " waiting");
     }
 }
 

@@ -5,7 +5,8 @@ ghost use Rattle.phase_floor.specs.Closings.{IsReceipt};
 ghost use Rattle.phase_floor.specs.Floors.{AreBegun};
 ghost use Rattle.phase_floor.specs.States.{states_of};
 
-use crate::calls::printing::print_count;
+use crate::calls::closing::close;
+use crate::calls::printing::{print_answer, print_count};
 use auction_rows::{MOST_TRIES, Object, Request};
 use indexmap::IndexSet;
 use phase_floor::{Joined, SplitFloor};
@@ -14,7 +15,7 @@ use shard_boxes::PhaseName;
 use std::alloc::Global;
 use std::sync::Wait;
 use std::test::Fail;
-use test_values::{VIEW, bid, only};
+use test_values::{VIEW, bid, only, put_up, vases};
 use worker_journals::History;
 
 // Begins the phase; where memory is refused, once more on the state that came back.
@@ -58,16 +59,8 @@ fn attempt<N: PhaseName, R: Wait + Print>(
     if left == 0 || permit.tries() >= MOST_TRIES {
         return false;
     }
-    match permit.perform(rt, floor.boxes(), request, index) {
-        Ok(done) => {
-            let _ = println!(rt; "split request {index}, {left} left: {done:?}");
-            true
-        }
-        Err(fault) => {
-            let _ = println!(rt; "split request {index}, {left} left: {fault}");
-            false
-        }
-    }
+    let answer = permit.perform(rt, floor.boxes(), request, index);
+    print_answer(rt, "split", index, left, &answer)
 }
 
 // A bid on the hot item, a view of it, and a store, once more where it is refused.
@@ -75,40 +68,15 @@ fn perform<N: PhaseName, R: Wait + Print>(
     rt: &R,
     floor: &SplitFloor<N>,
     permit: &mut SplitPermit<N>,
-    store: &Request,
 )
     requires { IsReceipt floor.now 0 permit.old }
     ensures { IsReceipt floor.now 0 permit.new }
 {
+    let store = &put_up(vases(10, 2));
     attempt(rt, floor, permit, &bid(2, 30, 5), 4);
     attempt(rt, floor, permit, &VIEW, 5);
     if !attempt(rt, floor, permit, store, 6) {
         attempt(rt, floor, permit, store, 6);
-    }
-}
-
-// Closes the phase.
-fn close<N: PhaseName, R: Print>(
-    rt: &R,
-    alloc: Global,
-    floor: SplitFloor<N>,
-    permit: SplitPermit<N>,
-    history: &mut History,
-) -> Result<Joined, Fail>
-    requires workers { length floor.counters ≡ 1 }
-    requires permit { IsReceipt floor 0 permit }
-{
-    let receipts = vec![in alloc; permit.finish()]?;
-    print_count(rt, "split receipts", receipts.len(), "");
-    match floor.close(alloc, history, receipts) {
-        Ok((state, stashes)) => {
-            print_count(rt, "split close", history.len(), " entries");
-            if let Some(stash) = stashes.first() {
-                print_count(rt, "split stash", stash.len(), " waiting");
-            }
-            Ok(state)
-        }
-        Err(fault) => Err(Fail::new(fault)),
     }
 }
 
@@ -118,7 +86,6 @@ pub(crate) fn split_phase<N: PhaseName, R: Wait + Print>(
     alloc: Global,
     state: Joined,
     hot: &IndexSet<Object>,
-    store: &Request,
     history: &mut History,
 ) -> Result<Joined, Fail>
     requires shards { states_of state ≡ N.initial }
@@ -129,6 +96,6 @@ pub(crate) fn split_phase<N: PhaseName, R: Wait + Print>(
     let (floor, permits) = begin::<N, R>(rt, alloc, state, hot)?;
     print_count(rt, "split begin", permits.len(), " permit");
     let mut permit = only(permits);
-    perform(rt, &floor, &mut permit, store);
+    perform(rt, &floor, &mut permit);
     close(rt, alloc, floor, permit, history)
 }

@@ -3,8 +3,7 @@
 use crate::calls::first_requests::{store, view};
 use crate::calls::phases::phases_by_hand;
 use crate::calls::printing::{print_count, print_history};
-use crate::permits::testing::four;
-use crate::testing::assert_same;
+use crate::testing::{assert_same, four};
 use auction_rows::Reply;
 use std::marker::Brand;
 use std::test::Fail;

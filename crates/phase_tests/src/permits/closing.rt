@@ -5,6 +5,7 @@ ghost use Rattle.item_shards.specs.ShardContents.{LiesIn};
 ghost use Rattle.shard_boxes.specs.States.{state_of};
 ghost use Rattle.shard_boxes.specs.Closed.{AreClosed};
 ghost use Rattle.phase_transactions.specs.Workers.{IsIdle};
+ghost use Rattle.phase_tests.specs.Permits.{IsOnlyKey};
 
 use crate::testing::assert_same;
 use auction_rows::Facts;
@@ -20,10 +21,7 @@ pub(crate) fn close_one<N: PhaseName>(
     key: Key<N>,
     mut room: Vec<Key<N>>,
 ) -> Vec<Shard>
-    requires one { 1 ≡ N.workers }
-    requires of { key.boxes ≡ boxes }
-    requires worker { key.worker ≡ 0 }
-    requires idle { IsIdle key }
+    requires key { IsOnlyKey N.workers boxes key }
     requires empty { room.items ≡ [] }
     requires room { 1 ≤ vec_capacity room }
     ensures { AreClosed N.initial N.workers (key ∷ []) (map state_of result.items) }

@@ -1,11 +1,8 @@
 //! Requests at the end of numbers, and what waits.
-ghost use Rattle.std.specs.Prelude.{◌≡◌, map};
-ghost use Rattle.shard_boxes.specs.States.{state_of};
-ghost use Rattle.phase_tests.specs.NewShards.{AreFourNew};
+ghost use Rattle.phase_tests.specs.NewShards.{BeginsWith};
 
-use crate::permits::joined::{joined_permit, perform, perform_stashed};
-use crate::permits::testing::{boxes_of_one, four};
-use crate::testing::{assert_same, waiting};
+use crate::permits::joined::{perform, perform_stashed, permit_of_one};
+use crate::testing::{assert_same, four, waiting};
 use auction_rows::Request;
 use item_shards::Shard;
 use phase_permits::{PermitFault, Stash};
@@ -18,13 +15,11 @@ use test_values::{LOOK, UNRATED};
 
 // Views of a user and of one that there is not, at the end of numbers.
 fn views_at_the_end<N: PhaseName, R: Wait + Abort>(rt: &R, alloc: Global, shards: Vec<Shard>)
-    requires opening { map state_of shards.items ≡ N.initial }
-    requires new { AreFourNew N.initial }
-    requires workers { 1 ≡ N.workers }
+    requires { BeginsWith N.initial N.workers 1 shards.items }
 {
-    let (boxes, key) = boxes_of_one::<N, R>(rt, alloc, shards).expect(rt, "memory");
     let stash = Stash::with_room(alloc, 0).expect(rt, "memory");
-    let mut permit = joined_permit(alloc, key, stash, u64::MAX).expect(rt, "memory");
+    let made = permit_of_one::<N>(alloc, shards, stash, u64::MAX);
+    let (boxes, mut permit) = made.expect(rt, "memory");
     let known = perform(rt, &boxes, &mut permit, &LOOK, 0);
     let unknown = perform(rt, &boxes, &mut permit, &Request::ViewUser { user: 10 }, 0);
     assert_same(rt, [known, unknown], [Err(PermitFault::NumberFull); 2]);
@@ -34,13 +29,11 @@ fn views_at_the_end<N: PhaseName, R: Wait + Abort>(rt: &R, alloc: Global, shards
 
 // A view that waits, and then none.
 fn one_waits<N: PhaseName, R: Wait + Abort>(rt: &R, alloc: Global, shards: Vec<Shard>)
-    requires opening { map state_of shards.items ≡ N.initial }
-    requires new { AreFourNew N.initial }
-    requires workers { 1 ≡ N.workers }
+    requires { BeginsWith N.initial N.workers 1 shards.items }
 {
-    let (boxes, key) = boxes_of_one::<N, R>(rt, alloc, shards).expect(rt, "memory");
     let stash = waiting(alloc, 0, 0).expect(rt, "memory");
-    let mut permit = joined_permit(alloc, key, stash, 0).expect(rt, "memory");
+    let made = permit_of_one::<N>(alloc, shards, stash, 0);
+    let (boxes, mut permit) = made.expect(rt, "memory");
     let answer = perform_stashed(rt, &boxes, &mut permit);
     let none_waits = perform_stashed(rt, &boxes, &mut permit);
     assert_same(rt, [answer, none_waits], [Ok(Some(UNRATED)), Ok(None)]);

@@ -1,42 +1,33 @@
 //! A split permit of worker 0, who has stored the first item.
-ghost use Rattle.std.specs.Prelude.{◌≡◌, true, Ok};
-ghost use Rattle.std.specs.List.{IsDistinct, AllByRecursion};
-ghost use Rattle.auction_rows.specs.declared.requests.ItemId.{ItemId as Id};
-ghost use Rattle.auction_rows.specs.declared.requests.Object.TheVariants.{Item};
-ghost use Rattle.auction_rows.specs.Footprint.{is_hot};
-ghost use Rattle.auction_rows.specs.Requests.{same_object};
-ghost use Rattle.worker_slices.specs.Slicing.{hot_objects, IsStocked};
+ghost use Rattle.std.specs.Prelude.{◌≡◌, Ok};
 ghost use Rattle.phase_transactions.specs.declared.done.Done.TheVariants.{Stashed};
 ghost use Rattle.phase_transactions.specs.Workers.{IsUnused};
-ghost use Rattle.phase_transactions.specs.Performing.{HaveOpening};
+ghost use Rattle.phase_tests.specs.Permits.{IsPermitFor};
 
-use auction_rows::{Facts, MOST_TRIES, Object, Reply, Request, Stars};
+use auction_rows::{MOST_TRIES, Object, Reply, Request, Stars};
 use phase_permits::{Counters, Done, PermitFault, Slices, SplitPermit, Stash};
 use shard_boxes::{Boxes, Key, PhaseName};
 use std::alloc::Global;
 use std::process::Abort;
 use std::sync::Wait;
-use test_values::{FIRST, OPENING};
+use test_values::{FIRST, OPENING, vases};
 use worker_journals::Journal;
 
-/// A permit at this clock to perform four requests, with slices of these objects. No other item of
-/// the worker is hot.
+/// A permit at this clock to perform four requests. The first item, one vase, and user 3 are hot.
 pub(crate) fn split_permit<N: PhaseName>(
     rt: &impl Abort,
     alloc: Global,
     key: Key<N>,
-    hot: &[(Object, Option<(Facts, u32)>)],
     clock: u64,
 ) -> SplitPermit<N>
     requires worker { key.worker ≡ 0 }
     requires unused { IsUnused key }
-    requires distinct { IsDistinct same_object (hot_objects hot.now) }
-    requires stocked { AllByRecursion IsStocked hot.now }
-    requires stored { (item : Id) → is_hot (hot_objects hot.now) (Item item) ≡ true → item.serial ≡ 0 }
     ensures key { result.key ≡ key }
     ensures users { result.opening ≡ record { users = 10; categories = 2 } }
 {
-    let slices = Slices::new(alloc, hot).expect(rt, "memory");
+    let item = (Object::Item(FIRST), Some((vases(10, 1), 1)));
+    let hot = [item, (Object::User(3), None)];
+    let slices = Slices::new(alloc, &hot).expect(rt, "memory");
     let journal = Journal::with_room(alloc, 1, 0, 4).expect(rt, "memory");
     let stash = Stash::with_room(alloc, 4).expect(rt, "memory");
     let counters = Counters {
@@ -84,8 +75,7 @@ pub(crate) fn perform<N: PhaseName, R: Wait + Abort>(
     request: &Request,
     index: u32,
 ) -> Result<Done, PermitFault>
-    requires of { permit.old.key.boxes ≡ boxes.now }
-    requires users { HaveOpening N.initial permit.old.opening }
+    requires { IsPermitFor N.initial boxes.now permit.old }
     ensures stashed { result ≡ Ok Stashed → permit.new.key ≡ permit.old.key }
 {
     assert!(rt; permit.left() > 0 && permit.tries() < MOST_TRIES);

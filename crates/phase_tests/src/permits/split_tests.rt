@@ -1,23 +1,20 @@
 //! Stores on hot objects alone.
-ghost use Rattle.std.specs.Prelude.{◌≡◌, ◌≤◌, [], map, vec_capacity};
-ghost use Rattle.shard_boxes.specs.States.{state_of};
-ghost use Rattle.phase_transactions.specs.Performing.{HaveOpening};
-ghost use Rattle.phase_transactions.specs.Workers.{IsUnused};
-ghost use Rattle.phase_tests.specs.NewShards.{AreFourNew};
+ghost use Rattle.std.specs.Prelude.{◌≡◌};
+ghost use Rattle.phase_tests.specs.NewShards.{BeginsWith};
+ghost use Rattle.phase_tests.specs.Permits.{IsPermitFor};
 
 use crate::permits::closing::{assert_clocks, close_one};
 use crate::permits::split::{bid, comment, perform, split_permit};
-use crate::permits::testing::{boxes_of_one, four, push_numbers};
-use crate::testing::{assert_same, room_for};
-use auction_rows::{CommentId, Object, Refusal, Reply, Stars};
+use crate::testing::{assert_same, boxes_of_one, four, push_numbers};
+use auction_rows::{Object, Refusal, Reply, Stars};
 use item_shards::Shard;
 use phase_permits::{Done, Slices, SplitPermit, Stash};
-use shard_boxes::{Boxes, Key, PhaseName};
+use shard_boxes::{Boxes, PhaseName};
 use std::alloc::Global;
 use std::marker::Brand;
 use std::process::Abort;
 use std::sync::Wait;
-use test_values::{FIRST, VIEW, bid_stored, vases};
+use test_values::{FIRST, VIEW, bid_stored, comment_stored};
 use worker_journals::Journal;
 
 // Bids on a hot item, and a view of it, which waits: the key is as it was.
@@ -26,8 +23,7 @@ fn bid_and_view<N: PhaseName, R: Wait + Abort>(
     boxes: &Boxes<N>,
     permit: &mut SplitPermit<N>,
 )
-    requires of { permit.old.key.boxes ≡ boxes.now }
-    requires users { HaveOpening N.initial permit.old.opening }
+    requires { IsPermitFor N.initial boxes.now permit.old }
     ensures { permit.new.key ≡ permit.old.key }
 {
     let below = bid(rt, permit, 9, 5, 0);
@@ -41,36 +37,21 @@ fn bid_and_view<N: PhaseName, R: Wait + Abort>(
     assert_same(rt, permit.left(), 0);
 }
 
-// Ends a phase in which no line was put: the lists of the key are empty.
-fn close_unused<N: PhaseName, R: Abort>(rt: &R, boxes: Boxes<N>, key: Key<N>, room: Vec<Key<N>>)
-    requires one { 1 ≡ N.workers }
-    requires of { key.boxes ≡ boxes }
-    requires worker { key.worker ≡ 0 }
-    requires unused { IsUnused key }
-    requires empty { room.items ≡ [] }
-    requires room { 1 ≤ vec_capacity room }
-{
-    let shards = close_one(boxes, key, room);
-    assert_clocks(rt, &shards, [0; 4]);
-}
-
 // What the bids and the view leave.
 fn bids_on_a_hot_item<N: PhaseName, R: Wait + Abort>(rt: &R, alloc: Global, shards: Vec<Shard>)
-    requires opening { map state_of shards.items ≡ N.initial }
-    requires new { AreFourNew N.initial }
-    requires workers { 1 ≡ N.workers }
+    requires { BeginsWith N.initial N.workers 1 shards.items }
 {
-    let (boxes, key) = boxes_of_one::<N, R>(rt, alloc, shards).expect(rt, "memory");
-    let room = room_for(rt, alloc, 1);
-    let hot = [(Object::Item(FIRST), Some((vases(10, 1), 1)))];
-    let mut permit = split_permit(rt, alloc, key, &hot, 0);
+    let (boxes, key) = boxes_of_one::<N>(alloc, shards).expect(rt, "memory");
+    let room = Vec::with_capacity(alloc, 1).expect(rt, "memory");
+    let mut permit = split_permit(rt, alloc, key, 0);
     bid_and_view(rt, &boxes, &mut permit);
     let (journal, slices, stash, key, _counters) = permit.finish().parts();
-    close_unused(rt, boxes, key, room);
+    let shards = close_one(boxes, key, room);
+    assert_clocks(rt, &shards, [0; 4]);
     assert_left(rt, alloc, &journal, &stash, slices);
 }
 
-// Asserts the numbers of the commits, that the view waits, and that the one slice is of the item.
+// Asserts the numbers of the commits, that the view waits, and which objects have slices.
 fn assert_left(
     rt: &impl Abort,
     alloc: Global,
@@ -82,43 +63,30 @@ fn assert_left(
     push_numbers(rt, &mut numbers, journal);
     assert_same(rt, numbers.as_slice(), [1, 2, 3].as_slice());
     assert_same(rt, (stash.len(), stash.get(0)), (1, Some((3, VIEW))));
-    let (object, _slice) = slices.pop().expect(rt, "a slice");
-    assert_same(rt, object, Object::Item(FIRST));
-    assert_same(rt, slices.pop().is_none(), true);
+    for hot in [Some(Object::User(3)), Some(Object::Item(FIRST)), None] {
+        let popped = slices.pop().map(|(object, _slice)| object);
+        assert_same(rt, popped, hot);
+    }
 }
 
 // A comment about a hot user on a hot item.
 fn comment_on_a_hot_item<N: PhaseName, R: Abort>(rt: &R, alloc: Global, shards: Vec<Shard>)
-    requires opening { map state_of shards.items ≡ N.initial }
-    requires new { AreFourNew N.initial }
-    requires workers { 1 ≡ N.workers }
+    requires { BeginsWith N.initial N.workers 1 shards.items }
 {
-    let (_boxes, key) = boxes_of_one::<N, R>(rt, alloc, shards).expect(rt, "memory");
-    let stars = Stars { value: 5 };
-    let hot = [
-        (Object::Item(FIRST), Some((vases(10, 1), 1))),
-        (Object::User(3), None),
-    ];
-    let mut permit = split_permit(rt, alloc, key, &hot, 0);
-    let stored = comment(rt, &mut permit, stars, 0);
-    let wanted = CommentId {
-        worker: 0,
-        serial: 0,
-    };
-    assert_same(rt, stored, Some(Reply::CommentStored(wanted)));
+    let (_boxes, key) = boxes_of_one::<N>(alloc, shards).expect(rt, "memory");
+    let mut permit = split_permit(rt, alloc, key, 0);
+    let stored = comment(rt, &mut permit, Stars { value: 5 }, 0);
+    assert_same(rt, stored, Some(comment_stored(0, 0)));
     assert_same(rt, permit.left(), 3);
     drop(permit.finish());
 }
 
 // A bid at the end of numbers.
 fn stores_at_the_end<N: PhaseName, R: Abort>(rt: &R, alloc: Global, shards: Vec<Shard>)
-    requires opening { map state_of shards.items ≡ N.initial }
-    requires new { AreFourNew N.initial }
-    requires workers { 1 ≡ N.workers }
+    requires { BeginsWith N.initial N.workers 1 shards.items }
 {
-    let (_boxes, key) = boxes_of_one::<N, R>(rt, alloc, shards).expect(rt, "memory");
-    let hot = [(Object::Item(FIRST), Some((vases(10, 1), 1)))];
-    let mut permit = split_permit(rt, alloc, key, &hot, u64::MAX);
+    let (_boxes, key) = boxes_of_one::<N>(alloc, shards).expect(rt, "memory");
+    let mut permit = split_permit(rt, alloc, key, u64::MAX);
     let before = permit.left();
     let answer = bid(rt, &mut permit, 10, 99, 0);
     assert_same(rt, answer, None);

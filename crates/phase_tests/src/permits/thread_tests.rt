@@ -1,14 +1,12 @@
 //! Two workers who perform at one time, each on a thread of its own, over the same boxes.
-ghost use Rattle.std.specs.Prelude.{◌≡◌, map};
-ghost use Rattle.shard_boxes.specs.States.{state_of};
+ghost use Rattle.std.specs.Prelude.{◌≡◌};
 ghost use Rattle.phase_transactions.specs.Performing.{HaveOpening};
 ghost use Rattle.phase_transactions.specs.Workers.{IsIdle, IsUnused};
-ghost use Rattle.phase_tests.specs.NewShards.{AreFourNew};
+ghost use Rattle.phase_tests.specs.NewShards.{BeginsWith};
 
 use crate::permits::closing::{assert_clocks, close_two};
 use crate::permits::joined::{joined_permit, perform};
-use crate::permits::testing::{boxes_of_two, four, push_numbers};
-use crate::testing::assert_same;
+use crate::testing::{assert_same, boxes_of_two, four, push_numbers};
 use item_shards::Shard;
 use phase_permits::Stash;
 use shard_boxes::{Boxes, Key, PhaseName};
@@ -36,7 +34,7 @@ fn views<N: PhaseName, R: Wait + Abort>(
     ensures idle { IsIdle result.1 }
 {
     let stash = Stash::with_room(alloc, 0).expect(rt, "memory");
-    let mut permit = joined_permit(alloc, key, stash, 0).expect(rt, "memory");
+    let mut permit = joined_permit(alloc, key, stash, 2, 0).expect(rt, "memory");
     let first = perform(rt, boxes, &mut permit, &LOOK, 0);
     let second = perform(rt, boxes, &mut permit, &LOOK, 1);
     let (journal, _slices, _stash, key, _counters) = permit.finish().parts();
@@ -58,9 +56,7 @@ fn two_threads<N, R>(rt: &R, alloc: Global, shards: Vec<Shard>)
 where
     N: PhaseName + Send + Sync,
     R: Threads + Wait + Sync + Abort,
-    requires opening { map state_of shards.items ≡ N.initial }
-    requires new { AreFourNew N.initial }
-    requires workers { 2 ≡ N.workers }
+    requires { BeginsWith N.initial N.workers 2 shards.items }
 {
     let (boxes, first, second) = boxes_of_two::<N>(alloc, shards).expect(rt, "memory");
     let (one, other) = thread::join(

@@ -4,7 +4,7 @@ ghost use Rattle.phase_floor.specs.Adding.{HasBook, IsStartOf};
 
 use crate::logs::mem_file::MemFile;
 use crate::testing::{assert_same, extend};
-use auction_rows::{Opening, Refusal};
+use auction_rows::Refusal;
 use auction_text::{Cause, ReadFault};
 use log_opening::{
     MOST_OF_A_ROW, OpenFault, cut_log, is_cut_row, open_parts, read_log, whole_lines,
@@ -15,21 +15,18 @@ use std::alloc::{AllocError, Global};
 use std::io;
 use std::io::Write;
 use std::process::Abort;
+use test_values::OPENING;
 
 const ITEM: &[u8] = b"0,+item,0,0,\"Vase\",10,100,1,1\n";
 
 const BID: &[u8] = b"1,+bid,1,0.0,20,5\n";
 
-// An auction of two workers and ten users and categories, in which nothing is stored.
+// An auction of two workers, in which nothing is stored.
 fn auction(alloc: Global) -> Result<Joined, AllocError>
     ensures start { IfOk result (λ auction. IsStartOf auction []) }
     ensures has { IfOk result HasBook }
 {
-    let opening = Opening {
-        users: 10,
-        categories: 10,
-    };
-    match Joined::new(alloc, opening, 2, 4) {
+    match Joined::new(alloc, OPENING, 2, 4) {
         Ok(auction) => Ok(auction.lasting()),
         Err(_) => Err(AllocError),
     }
@@ -90,6 +87,10 @@ fn what_is_no_cut_row_is_not_cut(rt: HostRuntime) {
         let refused = Err(OpenFault::Tail(1));
         assert_same(&rt, opened(&rt, rt.alloc(), text), refused);
     }
+}
+
+#[test]
+fn what_is_no_cut_row_behind_rows_is_not_cut(rt: HostRuntime) {
     for tail in [b"\0".as_slice(), b"x", b"1,+bid,1\r", b"1,bid"] {
         assert_after_rows(&rt, tail, Err(OpenFault::Tail(3)));
     }

@@ -1,6 +1,6 @@
 //! Faults to which the built program can't be brought. The others stand in tests/limits.py, ends.py
 //! and refused_memory.py.
-use crate::testing::{assert_same, extend};
+use crate::testing::{assert_same, extend, line_of};
 use auction_program::{AddFault, Fault, status, write_fault};
 use auction_rows::{Refusal, Reply};
 use auction_run::RunFault;
@@ -11,42 +11,36 @@ use std::io;
 use std::io::Write;
 use std::process::Abort;
 
-// Asserts that a fault is told so, with status 3.
-fn assert_told(rt: &impl Abort, alloc: Global, fault: Fault, text: &[u8]) {
-    let mut line = Vec::new(alloc);
-    let written = write_fault(&mut line, &fault);
-    assert_same(rt, written, Ok(()));
-    assert_same(rt, (line.as_slice(), status(&fault)), (text, 3));
+// Asserts that a fault is told in these words, with status 3.
+fn assert_told(rt: &impl Abort, alloc: Global, fault: Fault, words: &[u8]) {
+    let mut wanted = Vec::new(alloc);
+    for part in [b"rubis_auction: ".as_slice(), words, b"\n"] {
+        extend(rt, &mut wanted, part);
+    }
+    assert_same(rt, status(&fault), 3);
+    let line = line_of(rt, alloc, &Err(fault));
+    assert_same(rt, line.as_slice(), wanted.as_slice());
 }
 
 #[test]
 fn faults_have_their_status_and_line(rt: HostRuntime) {
-    let no_window = Fault::Make(MakeFault::Reader);
-    assert_told(&rt, rt.alloc(), no_window, b"rubis_auction: no window\n");
-    let faults: [(RunFault, &[u8]); 4] = [
-        (RunFault::Workers, b"rubis_auction: number of workers\n"),
-        (RunFault::Shards, b"rubis_auction: number of shards\n"),
+    let faults: [(Fault, &[u8]); 7] = [
+        (Fault::Make(MakeFault::Reader), b"no window"),
+        (Fault::Run(RunFault::Workers), b"number of workers"),
+        (Fault::Run(RunFault::Shards), b"number of shards"),
         (
-            RunFault::Quota,
-            b"rubis_auction: quota, threshold or hot limit\n",
+            Fault::Run(RunFault::Quota),
+            b"quota, threshold or hot limit",
         ),
+        (Fault::Run(RunFault::NumberFull), b"commit numbers used up"),
         (
-            RunFault::NumberFull,
-            b"rubis_auction: commit numbers used up\n",
+            Fault::Row(3, AddFault::BadRow),
+            b"row 3: not a store of a worker",
         ),
+        (Fault::Row(3, AddFault::Memory), b"row 3: no memory"),
     ];
-    for (fault, text) in faults {
-        assert_told(&rt, rt.alloc(), Fault::Run(fault), text);
-    }
-    let rows: [(AddFault, &[u8]); 2] = [
-        (
-            AddFault::BadRow,
-            b"rubis_auction: row 3: not a store of a worker\n",
-        ),
-        (AddFault::Memory, b"rubis_auction: row 3: no memory\n"),
-    ];
-    for (fault, text) in rows {
-        assert_told(&rt, rt.alloc(), Fault::Row(3, fault), text);
+    for (fault, words) in faults {
+        assert_told(&rt, rt.alloc(), fault, words);
     }
 }
 
@@ -61,12 +55,11 @@ fn a_refused_row_is_told_in_the_words_of_replies(rt: HostRuntime) {
         Refusal::SoldOut,
         Refusal::NotEnough,
     ] {
-        let mut text = Vec::new(rt.alloc());
-        extend(&rt, &mut text, b"rubis_auction: row 3: ");
-        push_reply(&mut text, &Reply::Refused(reason)).expect(&rt, "memory");
-        extend(&rt, &mut text, b"\n");
+        let mut words = Vec::new(rt.alloc());
+        extend(&rt, &mut words, b"row 3: ");
+        push_reply(&mut words, &Reply::Refused(reason)).expect(&rt, "memory");
         let refused = Fault::Row(3, AddFault::Refused(reason));
-        assert_told(&rt, rt.alloc(), refused, text.as_slice());
+        assert_told(&rt, rt.alloc(), refused, words.as_slice());
     }
 }
 

@@ -5,12 +5,11 @@ ghost use Rattle.phase_floor.specs.Adding.{HasBook};
 use crate::testing::{assert_same, line_of};
 use auction_program::{Joined, LiveTeller, LoggedInput, NoLog, Options, Teller, serve};
 use auction_rows::{Facts, Opening, Request, Stars};
-use item_shards::Opened;
 use std::alloc::Global;
 use std::process::Abort;
 use std::sync::Wait;
 use std::thread::Threads;
-use test_values::{comment, put_up, vases};
+use test_values::{comment, opened, put_up, vases};
 
 // Of the options of these tests.
 const OPENING: Opening = Opening {
@@ -30,7 +29,7 @@ fn add(rt: &impl Abort, auction: &mut Joined, request: Request)
     requires { HasBook auction.old }
     ensures { HasBook auction.new }
 {
-    let Ok(_row) = auction.add(&Opened { worker: 0, request }) else {
+    let Ok(_row) = auction.add(&opened(0, request)) else {
         panic!(rt; "a row is refused");
     };
 }

@@ -1,10 +1,10 @@
 //! What is written of a run that has ended: its rows, and its report.
 use crate::testing::assert_same;
-use auction_rows::{ItemShown, MOST_SHOWN, Reply, Request, Ten};
+use auction_rows::{ItemShown, Reply, Request, Ten};
 use auction_text::{ReportLines, write_report, write_rows};
 use std::alloc::Global;
 use std::process::Abort;
-use test_values::{FIRST, UNRATED, bid, bid_row, bid_stored, item_row, vases};
+use test_values::{FIRST, UNRATED, bid, bid_row, bid_stored, item_row, ten_of, vases};
 use worker_journals::{History, Journal};
 
 // A bid of 50 at 6 by user 2, which is stored, and a view.
@@ -28,14 +28,6 @@ fn rows_are_records_that_open_an_auction(rt: HostRuntime) {
     assert_same(&rt, written, Ok(()));
     let wanted = b"0,+item,0,0,\"Vase\",10,100,1,2\n0,+bid,1,0.0,20,5\n0,+bid,2,0.0,50,6\n";
     assert_same(&rt, text.as_slice(), wanted.as_slice());
-}
-
-// A list of the first item, put up at time 1.
-fn one_item(rt: &impl Abort) -> Ten<ItemShown> {
-    let mut items = Ten::new();
-    assert!(rt; items.len() < MOST_SHOWN);
-    items.push(ItemShown { time: 1, id: FIRST });
-    items
 }
 
 // Asserts the report of a history in which nothing was hot.
@@ -62,7 +54,7 @@ fn a_report_has_a_line_for_each_category(rt: HostRuntime) {
     };
     let wanted = b"phases 0\nrequests 0\nrefused 0\ncategory 0 latest\n";
     assert_report(&rt, alloc, &History::new(alloc), &lines, wanted);
-    let seen = Reply::CategorySeen(one_item(&rt));
+    let seen = Reply::CategorySeen(ten_of(&[ItemShown { time: 1, id: FIRST }]));
     lines.categories.push(seen).expect(&rt, "memory");
     for (rating, comments) in [(0, 0), (-5, 1)] {
         let seen = Reply::UserSeen { rating, comments };

@@ -1,16 +1,13 @@
 //! What an input says that is read line by line, by what its reader gives at a time.
 use crate::testing::{assert_same, extend};
-use crate::text::part_tests::Pieces;
+use crate::text::reading::{Pieces, told};
 use auction_program::push_fault_line;
-use auction_text::{
-    Cause, LineFault, LiveEnd, LiveInput, LivePart, MOST_ROWS_OF_A_PART, ReadFault, UntilEnd,
-};
+use auction_text::{Cause, MOST_ROWS_OF_A_PART, ReadFault, UntilEnd};
 use std::alloc::Global;
 use std::fmt::Write;
 use std::io;
 use std::io::Read;
 use std::process::Abort;
-use worker_journals::Script;
 
 // Gives at most so many bytes at each read.
 #[derive(Drop)]
@@ -43,49 +40,9 @@ impl<R: Read> Read for Interrupted<R> {
     }
 }
 
-// How many requests a worker has.
-fn requests_of(scripts: &[Script], worker: usize) -> usize {
-    match scripts.get(worker) {
-        Some(script) => script.len(),
-        None => 0,
-    }
-}
-
-// What a text says of two workers, in parts of at most nine requests: for each part how many rows
-// and requests it has, how many requests of each, and its fault.
-fn told(rt: &impl Abort, alloc: Global, text: &[u8], at_a_time: usize) -> String {
-    let mut words = String::new(alloc);
-    let reader = Slowly {
-        text,
-        most: at_a_time,
-    };
-    let mut left = LiveInput::of(alloc, reader, 2).expect(rt, "memory");
-    for _ in 0..u64::MAX {
-        let part = left.next_part(alloc, 9).expect(rt, "memory");
-        let LivePart {
-            input,
-            requests,
-            end,
-        } = part;
-        let rows = input.rows.len();
-        let first = requests_of(&input.scripts, 0);
-        let second = requests_of(&input.scripts, 1);
-        write!(words, "{rows} {requests}: {first} {second}\n").expect(rt, "memory");
-        left = match end {
-            LiveEnd::More(left) => left,
-            LiveEnd::All => return words,
-            LiveEnd::Fault(LineFault { worker, fault }, left) => {
-                write!(words, "{worker:?} {fault}\n").expect(rt, "memory");
-                left
-            }
-        };
-    }
-    panic!(rt; "an input without end")
-}
-
-// Asserts what a text says that is given at once.
+// Asserts what a text says that is given at once, in parts of at most nine requests.
 fn assert_told(rt: &(impl Abort + Alloc<A = Global>), text: &[u8], wanted: &str) {
-    let found = told(rt, rt.alloc(), text, 100_000);
+    let found = told(rt, rt.alloc(), text, 9);
     assert_same(rt, found.as_str(), wanted);
 }
 
@@ -108,7 +65,8 @@ fn assert_faults(
     wanted: &str,
 ) {
     for at_a_time in sizes {
-        let found = told(rt, rt.alloc(), text, *at_a_time);
+        let most = *at_a_time;
+        let found = told(rt, rt.alloc(), Slowly { text, most }, 9);
         let faults = faults_in(rt, rt.alloc(), found.as_str());
         assert_same(rt, faults.as_str(), wanted);
     }
@@ -168,17 +126,24 @@ fn rows_may_come_around_a_fault(rt: HostRuntime) {
     );
 }
 
+// A row more than a part has at most, and a view.
+fn rows_and_a_view(rt: &impl Abort, alloc: Global) -> Vec<u8> {
+    let mut text = Vec::new(alloc);
+    for _ in 0..MOST_ROWS_OF_A_PART + 1 {
+        extend(rt, &mut text, b"0,+comment,0,1,0.0,1\n");
+    }
+    extend(rt, &mut text, b"0,viewuser,0\n");
+    text
+}
+
 #[test]
 fn rows_end_a_part_too(rt: HostRuntime) {
-    let mut text = Vec::new(rt.alloc());
-    for _ in 0..MOST_ROWS_OF_A_PART + 1 {
-        extend(&rt, &mut text, b"0,+comment,0,1,0.0,1\n");
-    }
-    extend(&rt, &mut text, b"0,viewuser,0\n");
+    let text = rows_and_a_view(&rt, rt.alloc());
     let wanted = "65536 0: 0 0\n1 1: 1 0\n0 0: 0 0\n";
-    for at_a_time in [999, 100_000] {
-        let found = told(&rt, rt.alloc(), text.as_slice(), at_a_time);
-        assert_same(&rt, (at_a_time, found.as_str()), (at_a_time, wanted));
+    let text = text.as_slice();
+    for most in [999, 100_000] {
+        let found = told(&rt, rt.alloc(), Slowly { text, most }, 9);
+        assert_same(&rt, (most, found.as_str()), (most, wanted));
     }
 }
 

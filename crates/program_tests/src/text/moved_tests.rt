@@ -1,5 +1,5 @@
 //! The texts of a part, whose phases and indexes go on from the parts before.
-use crate::testing::assert_same;
+use crate::testing::{add_commit, assert_same};
 use auction_rows::{Refusal, Reply};
 use auction_text::{
     Before, TextBlock, WriteFault, write_history, write_history_on, write_replies,
@@ -54,16 +54,10 @@ fn nothing_is_left_in_a_block_that_is_kept(rt: HostRuntime) {
     let alloc = rt.alloc();
     let history = one_phase(&rt, alloc);
     let (mut text, mut block) = (Vec::new(alloc), TextBlock::new());
-    let first = write_replies_by(alloc, &mut text, &history, &Before::none(), &mut block);
-    first.expect(&rt, "a text");
-    let next = write_replies_by(
-        alloc,
-        &mut text,
-        &history,
-        &one_part(&rt, alloc),
-        &mut block,
-    );
-    next.expect(&rt, "a text");
+    for before in &[Before::none(), one_part(&rt, alloc)] {
+        let written = write_replies_by(alloc, &mut text, &history, before, &mut block);
+        written.expect(&rt, "a text");
+    }
     let wanted =
         b"0,0,refused 5 Closed\n0,1,refused 5 Closed\n2,0,refused 5 Closed\n0,9,refused 5 Closed\n0,10,refused 5 Closed\n2,0,refused 5 Closed\n";
     assert_same(&rt, text.as_slice(), wanted.as_slice());
@@ -111,10 +105,7 @@ fn a_count_past_64_bits_is_refused(rt: HostRuntime) {
         .expect(&rt, "64 bits");
     let mut history = History::new(alloc);
     for phase in 0..2 {
-        let mut journal = Journal::with_room(alloc, phase, 0, 1).expect(&rt, "memory");
-        journal.push(phase, 0, VIEW, CLOSED);
-        let journals = vec![in alloc; journal].expect(&rt, "memory");
-        history.add_phase(journals).expect(&rt, "memory");
+        add_commit(&rt, &mut history, phase, 0, CLOSED);
     }
     let mut text = Vec::new(alloc);
     let written = write_history_on(&mut text, &history, &most);

@@ -2,22 +2,7 @@
 use crate::testing::assert_same;
 use auction_rows::Request;
 use auction_text::{Cause, ReadFault, read_scripts};
-use std::process::Abort;
 use test_values::{VIEW, VIEW_OF_BIDS, bid};
-
-// Asserts that these are the scripts of two workers.
-fn assert_scripts(
-    rt: &impl Abort,
-    scripts: &[Vec<Request>],
-    of_first: &[Request],
-    of_second: &[Request],
-) {
-    let [first, second] = scripts else {
-        panic!(rt; "not two scripts");
-    };
-    assert_same(rt, first.as_slice(), of_first);
-    assert_same(rt, second.as_slice(), of_second);
-}
 
 // The requests of the two stand among one another.
 #[test]
@@ -31,13 +16,16 @@ fn each_worker_has_its_requests_in_their_order(rt: HostRuntime) {
 1,viewcategory,2
 ";
     let input = read_scripts(rt.alloc(), text, 2).expect(&rt, "an input");
-    let first = [bid(3, 20, 5), VIEW];
-    let second = [
+    let [first, second] = input.scripts.as_slice() else {
+        panic!(rt; "not two scripts");
+    };
+    assert_same(&rt, first.as_slice(), [bid(3, 20, 5), VIEW].as_slice());
+    let of_second = [
         Request::ViewUser { user: 4 },
         VIEW_OF_BIDS,
         Request::ViewCategory { category: 2 },
     ];
-    assert_scripts(&rt, &input.scripts, &first, &second);
+    assert_same(&rt, second.as_slice(), of_second.as_slice());
     assert_same(&rt, input.rows.len(), 1);
 }
 

@@ -1,14 +1,14 @@
 //! Replies that are written, whole and in part. Each kind of reply stands in tests/worked, and
 //! other writers in tests/ends.py.
-use crate::testing::assert_same;
+use crate::testing::{add_commit, assert_same};
 use auction_rows::{Refusal, Reply};
 use auction_text::{WriteFault, write_replies};
 use std::alloc::Global;
 use std::io;
 use std::io::{ErrorKind, Write};
 use std::process::Abort;
-use test_values::{FIRST, VIEW};
-use worker_journals::{History, Journal};
+use test_values::FIRST;
+use worker_journals::History;
 
 // Takes one byte a call, but one call of `write` has an error, and it takes more after it. Its
 // flush fails where `is_stuck` says so. Counts what is called.
@@ -54,45 +54,37 @@ fn lapse_at(alloc: Global, fails_at: usize, is_stuck: bool) -> Lapse {
     }
 }
 
-// Whether replies written to this writer are answered so, and leave it with this text after so many
-// calls of each kind.
+// Whether replies written to this writer are answered as wanted, and leave it with the text that is
+// wanted after so many calls of each kind.
 fn replies_leave(
     alloc: Global,
     history: &History,
     mut writer: Lapse,
-    answer: Result<(), WriteFault>,
-    text: &[u8],
-    calls: (usize, usize),
+    wanted: (Result<(), WriteFault>, &[u8], (usize, usize)),
 ) -> bool {
+    let (answer, text, calls) = wanted;
     let written = write_replies(alloc, &mut writer, history);
     written == answer && writer.held.as_slice() == text && (writer.writes, writer.flushes) == calls
 }
 
 const OUTPUT: &[u8] = b"0,0,item 0.0\n0,1,refused 5 Closed\n";
 
-// A phase of one commit, of worker 0.
-fn add_reply(rt: &impl Abort, alloc: Global, history: &mut History, index: u32, reply: Reply) {
-    let mut journal = Journal::with_room(alloc, 0, 0, 1).expect(rt, "memory");
-    journal.push(1, index, VIEW, reply);
-    let journals = vec![in alloc; journal].expect(rt, "memory");
-    history.add_phase(journals).expect(rt, "memory");
-}
-
-fn two_replies(rt: &impl Abort, alloc: Global) -> History {
-    let mut history = History::new(alloc);
-    add_reply(rt, alloc, &mut history, 1, Reply::Refused(Refusal::Closed));
-    add_reply(rt, alloc, &mut history, 0, Reply::ItemStored(FIRST));
+fn two_replies(rt: &(impl Abort + Alloc<A = Global>)) -> History {
+    let mut history = History::new(rt.alloc());
+    add_commit(rt, &mut history, 0, 1, Reply::Refused(Refusal::Closed));
+    add_commit(rt, &mut history, 0, 0, Reply::ItemStored(FIRST));
     history
 }
 
 #[test]
 fn a_write_that_fails_is_the_last_call(rt: HostRuntime) {
     let alloc = rt.alloc();
-    let history = two_replies(&rt, alloc);
+    let history = two_replies(&rt);
     let cut = Err(WriteFault::Write);
     for call in 0..OUTPUT.len() {
         let writer = lapse_at(alloc, call, false);
-        let right = replies_leave(alloc, &history, writer, cut, &OUTPUT[..call], (call + 1, 0));
+        let wanted = (cut, &OUTPUT[..call], (call + 1, 0));
+        let right = replies_leave(alloc, &history, writer, wanted);
         assert_same(&rt, (call, right), (call, true));
     }
 }
@@ -100,12 +92,12 @@ fn a_write_that_fails_is_the_last_call(rt: HostRuntime) {
 #[test]
 fn a_write_that_a_signal_interrupts_is_tried_again(rt: HostRuntime) {
     let alloc = rt.alloc();
-    let history = two_replies(&rt, alloc);
+    let history = two_replies(&rt);
     for call in 0..OUTPUT.len() {
         let mut writer = lapse_at(alloc, call, false);
         writer.error = ErrorKind::Interrupted;
         let calls = (OUTPUT.len() + 1, 1);
-        let right = replies_leave(alloc, &history, writer, Ok(()), OUTPUT, calls);
+        let right = replies_leave(alloc, &history, writer, (Ok(()), OUTPUT, calls));
         assert_same(&rt, (call, right), (call, true));
     }
 }
@@ -114,11 +106,11 @@ fn a_write_that_a_signal_interrupts_is_tried_again(rt: HostRuntime) {
 #[test]
 fn a_text_that_was_written_whole_is_flushed_once(rt: HostRuntime) {
     let alloc = rt.alloc();
-    let history = two_replies(&rt, alloc);
+    let history = two_replies(&rt);
     let calls = (OUTPUT.len(), 1);
     for (is_stuck, answer) in [(false, Ok(())), (true, Err(WriteFault::Write))] {
         let writer = lapse_at(alloc, OUTPUT.len(), is_stuck);
-        let right = replies_leave(alloc, &history, writer, answer, OUTPUT, calls);
+        let right = replies_leave(alloc, &history, writer, (answer, OUTPUT, calls));
         assert_same(&rt, (is_stuck, right), (is_stuck, true));
     }
 }

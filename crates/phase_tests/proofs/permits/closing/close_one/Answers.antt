@@ -4,6 +4,5 @@ use Rattle.phase_tests.proofs.permits.closing.close_one.Goals as goal
 
 pub close-requires : goal.close-requires
 close-requires g c =
-    let r = c.requires in
     let only : c.push_reserved.new.self.items ≡ c.args.key ∷ [] = search rules in
-    one_spent c.args.boxes g.N.PhaseName.workers c.push_reserved.new.self.items c.args.key only r.one r.of r.worker r.idle
+    one_spent c.args.boxes g.N.PhaseName.workers c.push_reserved.new.self.items c.args.key only c.requires.key

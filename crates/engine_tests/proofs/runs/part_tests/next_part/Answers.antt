@@ -1,4 +1,0 @@
-use Rattle.engine_tests.proofs.runs.part_tests.next_part.Goals as goal
-
-pub returns : goal.returns
-returns g c = c.in-Ok.ensures.up_to_date c.requires

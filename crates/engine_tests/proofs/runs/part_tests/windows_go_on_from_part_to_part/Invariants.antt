@@ -1,6 +1,0 @@
-use Rattle.item_shards.specs.OpeningBooks.{opening_of, rows_of_book}
-use Rattle.engine_tests.proofs.runs.part_tests.windows_go_on_from_part_to_part.Given as goal
-
--- the list that was just made, and the book
-abbrev pub ghosts-show_all : goal.ghosts-show_all
-ghosts-show_all g a = record { log = a.log; opening = opening_of a.book.now; rows = rows_of_book a.book.now }
