@@ -12,7 +12,7 @@ ghost use Rattle.auction_run.specs.GoingOn.{AnswersNextRun, GivesBack, HasShownF
 ghost use Rattle.auction_run.specs.Parts.{ArePartsFrom, HaveLeft, book_after_parts, history_of};
 
 use crate::checks::{Stopped, check_on};
-use crate::scripts::Scripts;
+use crate::scripts::{Scripts, share};
 use auction_rows::Policy;
 use phase_floor::Joined;
 use phase_workers::Gate;
@@ -68,9 +68,9 @@ pub fn run_on_shown<R: Threads + Wait + Sync, G: Gate + Sync, B: Board, S: Scrip
     if let Err(fault) = check_on(&state, &scripts, policy) {
         return Err(Stopped::Refused(state, fault));
     }
-    let compact = scripts.into_compact(alloc)?;
+    let compact = share(alloc, scripts)?;
     let work = Workload {
-        scripts: compact.as_slice(),
+        scripts: &compact,
         policy,
         gate,
     };

@@ -7,7 +7,7 @@ ghost use Rattle.auction_run.specs.Checks.{IsFoundFirst};
 ghost use Rattle.auction_run.specs.Runs.{AnswersRun, HasShownAll, HasShownFirst};
 
 use crate::checks::check;
-use crate::scripts::Scripts;
+use crate::scripts::{Scripts, share};
 use auction_rows::Policy;
 use item_shards::OpeningBook;
 use phase_floor::Joined;
@@ -69,9 +69,9 @@ pub fn run_shown<R: Threads + Wait + Sync, G: Gate + Sync, B: Board, S: Scripts>
     ensures untouched { IfErr result (λ fault. IsFoundFirst fault → board.new ≡ board.old) }
 {
     check(book, &scripts, policy)?;
-    let compact = scripts.into_compact(alloc)?;
+    let compact = share(alloc, scripts)?;
     let work = Workload {
-        scripts: compact.as_slice(),
+        scripts: &compact,
         policy,
         gate,
     };
@@ -100,6 +100,7 @@ fn run_checked<R: Threads + Wait + Sync, G: Gate + Sync, B: Board>(
         (opening_of book.now) (rows_of_book book.now) work.entry.policy
         work.entry.scripts.now board.new) }
 {
-    let state = Joined::resume(alloc, book, work.scripts.len() as u32, work.policy.shards)?;
+    let workers = work.scripts.as_slice().len() as u32;
+    let state = Joined::resume(alloc, book, workers, work.policy.shards)?;
     run_from(rt, alloc, state, work, board)
 }

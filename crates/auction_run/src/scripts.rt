@@ -4,7 +4,7 @@ ghost use Rattle.run_laws.specs.Serving.{lists};
 
 use auction_rows::Request;
 use std::alloc::{AllocError, Global};
-use worker_journals::Script;
+use worker_journals::{Script, SharedScripts};
 
 /// The scripts of a run's workers: lists of requests, or compact ones.
 pub trait Scripts: Drop {
@@ -70,4 +70,12 @@ impl Scripts for Vec<Vec<Request>> {
         }
         Ok(compact)
     }
+}
+
+/// The same scripts, as a run shares them with its history.
+#[inline(always)]
+pub(crate) fn share<S: Scripts>(alloc: Global, scripts: S) -> Result<SharedScripts, AllocError>
+    ensures { IfOk result (λ shared. shared ≡ S.asked scripts) }
+{
+    SharedScripts::new(alloc, scripts.into_compact(alloc)?)
 }

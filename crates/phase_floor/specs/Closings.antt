@@ -2,14 +2,14 @@
 use Rattle.std.specs.Prelude.{◌≡◌, ℕ, ◌+◌, ◌<◌, ◌≤◌, Bool, true, false, List, [], map, fold, length, reverse}
 use Rattle.std.specs.List.{AllByRecursion}
 use Rattle.std.specs.List.Sorted.{IsPermutation}
-use Rattle.auction_rows.specs.declared.{requests.Object.Object, rows.Entry.Entry}
+use Rattle.auction_rows.specs.declared.{requests.Object.Object, requests.Request.Request, rows.Entry.Entry}
 use Rattle.auction_rows.specs.Book.{Book}
 use Rattle.auction_rows.specs.History.{ReplaysFrom, book_after}
 use Rattle.item_shards.specs.declared.shard.slices.Slice.{Slice}
 use Rattle.shard_boxes.specs.declared.limits.TheConstants.{MOST_COMMITS}
 use Rattle.shard_boxes.specs.Keys.{KeyState}
 use Rattle.shard_boxes.specs.States.{ShardState}
-use Rattle.worker_journals.specs.Journals.{JournalView}
+use Rattle.worker_journals.specs.Journals.{JournalView, IsJournalOf}
 use Rattle.worker_slices.specs.declared.counters.Counters.{Counters}
 use Rattle.worker_slices.specs.declared.slices.Hot.{Hot}
 use Rattle.worker_slices.specs.Slicing.{stocks_of, slices_in, HaveAtMost}
@@ -137,6 +137,10 @@ AreKnown states pairs = AllByRecursion (λ pair. IsKnown (opening_in states) pai
 -- a worker's slices, the last first
 abbrev pub from_the_last : List (Object × Hot) → List (Object × Slice)
 from_the_last slices = reverse (slices_in slices)
+
+-- the requests of receipts' entries are those of scripts: each the one at its worker and index
+abbrev pub AreOfScripts : List (List Request) → List WorkerState → Type 0
+AreOfScripts scripts receipts = AllByRecursion (IsJournalOf scripts) (map journal_of receipts)
 
 -- the parts of receipts, each kind by itself
 pub record ArePartsOf (receipts : List WorkerState) (journals : List JournalView)

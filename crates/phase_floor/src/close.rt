@@ -2,12 +2,13 @@
 //! shards.
 ghost use Rattle.std.specs.Prelude.{length, IfOk, OnOk, ◌≡◌, ◌≤◌, ◌<◌, ◌+◌, [], ◌∷◌, map, fold, ◌++◌, true, false, OnErr, vec_len, vec_capacity};
 ghost use Rattle.std.specs.List.{AllByRecursion, flat_map};
+ghost use Rattle.std.specs.Option.{ForSome};
 ghost use Rattle.phase_laws.specs.Replay.{SawInTurn};
 ghost use Rattle.worker_journals.specs.Merged.{added, merged};
 ghost use Rattle.shard_boxes.specs.States.{state_of};
 ghost use Rattle.auction_shards.specs.Merging.{CanMerge, after_merge};
 ghost use Rattle.auction_shards.specs.Shards.{AreOfOne, at_start};
-ghost use Rattle.phase_floor.specs.Closings.{ArePartsOf, IsFinished, AreKnown, from_the_last, slices_kept, AreReceiptsOf, HasSettled, HasReconciled, Leaves};
+ghost use Rattle.phase_floor.specs.Closings.{AreOfScripts, ArePartsOf, IsFinished, AreKnown, from_the_last, slices_kept, AreReceiptsOf, HasSettled, HasReconciled, Leaves};
 ghost use Rattle.phase_floor.specs.States.{states_of};
 
 use crate::floor::{Floor, FloorFault};
@@ -18,7 +19,7 @@ use item_shards::Shard;
 use phase_permits::{Counters, Kind, Receipt, Slices, Stash};
 use shard_boxes::{Key, PhaseName};
 use std::alloc::{AllocError, Global};
-use worker_journals::{History, Journal};
+use worker_journals::{History, Journal, SharedScripts};
 
 /// The journals, stashes, keys, counters and slices of a phase's workers, each in the order of the
 /// workers.
@@ -163,6 +164,35 @@ impl<N: PhaseName, K: Kind> Floor<N, K> {
             Leaves N.initial self receipts.items (added history.old.entries history.new.entries)
             closed.0 closed.1.items) }
     {
+        self.close_on(alloc, history, receipts, None)
+    }
+
+    /// As `close`. If each entry's request is the one of its worker's script at its index, the
+    /// scripts may be given: then the history reads the requests there, and keeps no copy of them.
+    pub fn close_on(
+        self,
+        alloc: Global,
+        history: &mut History,
+        receipts: Vec<Receipt<N, K>>,
+        scripts: Option<&SharedScripts>,
+    ) -> Result<(Joined, Vec<Stash>), FloorFault>
+        requires receipts { AreReceiptsOf self receipts.items }
+        requires asked { ForSome scripts (λ scripts. AreOfScripts scripts.now receipts.items) }
+        ensures history { history.new.entries
+            ≡ history.old.entries ++ added history.old.entries history.new.entries }
+        ensures refused { OnErr result (history.new.entries ≡ history.old.entries) }
+        ensures last { OnOk result
+            (merged history.new.last ≡ added history.old.entries history.new.entries) }
+        ensures closed { IfOk result (λ closed.
+            HasReconciled N.initial self receipts.items (states_of closed.0)
+            (added history.old.entries history.new.entries)) }
+        ensures joined { IfOk result (λ closed. K.IS_JOINED ≡ true →
+            HasSettled N.initial self receipts.items (states_of closed.0)
+            (added history.old.entries history.new.entries)) }
+        ensures leaves { IfOk result (λ closed.
+            Leaves N.initial self receipts.items (added history.old.entries history.new.entries)
+            closed.0 closed.1.items) }
+    {
         let Floor {
             opening,
             limit,
@@ -180,7 +210,7 @@ impl<N: PhaseName, K: Kind> Floor<N, K> {
             slices,
         } = Parts::of(alloc, receipts, counters)?;
         memory.spent.reserve(slices.len())?;
-        history.add_phase_kept(journals, &mut memory.lists)?;
+        history.add_phase_on(journals, scripts, &mut memory.lists)?;
         let (given, spare) = boxes.close_kept(keys);
         let shards = reconciled(given, slices, &mut memory);
         let state = Joined {

@@ -1,11 +1,11 @@
 -- What a short request says, with facts at the end of the list and with more of them.
-use Rattle.std.proofs.Common.{◌≡◌, ℕ, List, [], ◌∷◌, ◌++◌, length, ap, refl, sym, ◌∙◌, arith, length-append}
+use Rattle.std.proofs.Common.{◌≡◌, ◌≤◌, ℕ, List, [], ◌∷◌, ◌++◌, length, ap, refl, sym, ◌∙◌, arith, length-append}
 use Rattle.std.proofs.lemmas.List.{get_or_append_left, get_or_push}
 use Rattle.auction_rows.specs.declared.requests.{Facts.Facts, Request.Request}
-use Rattle.auction_rows.specs.declared.requests.Request.TheVariants.{StoreItem}
+use Rattle.auction_rows.specs.declared.requests.Request.TheVariants.{StoreItem, StoreBid, StoreComment, BuyNow, ViewItem, ViewBids, ViewCategory, ViewUser}
 use Rattle.request_scripts.specs.declared.short_request.ShortRequest.{ShortRequest}
 use Rattle.request_scripts.specs.declared.short_request.ShortRequest.TheVariants as ask
-use Rattle.request_scripts.specs.ShortRequests.{facts_at, request_from, HasRequest, SaysRequest}
+use Rattle.request_scripts.specs.ShortRequests.{facts_at, facts_in, request_from, HasRequest, SaysRequest}
 
 -- the facts at the end of a list are said with their place
 pub says_facts : (all old : List Facts) (facts : Facts) (place time : ℕ) (request : Request) → all ≡ old ++ facts ∷ [] → place ≡ length old →
@@ -28,3 +28,14 @@ request_stays all more (ask.ViewItem item) h = record { within = tt; is = refl }
 request_stays all more (ask.ViewBids item) h = record { within = tt; is = refl }
 request_stays all more (ask.ViewCategory category) h = record { within = tt; is = refl }
 request_stays all more (ask.ViewUser user) h = record { within = tt; is = refl }
+
+-- a request stores no more facts than one
+pub one_fact_at_most : (request : Request) → length (facts_in request) ≤ 1
+one_fact_at_most (StoreItem facts time) = omega arith
+one_fact_at_most (StoreBid bidder item amount time) = omega arith
+one_fact_at_most (StoreComment author about item stars) = omega arith
+one_fact_at_most (BuyNow buyer item quantity time) = omega arith
+one_fact_at_most (ViewItem item) = omega arith
+one_fact_at_most (ViewBids item) = omega arith
+one_fact_at_most (ViewCategory category) = omega arith
+one_fact_at_most (ViewUser user) = omega arith

@@ -3,7 +3,7 @@ use Rattle.std.proofs.Common.{◌≡◌, ◌<◌, ◌+◌, ℕ, List, [], ◌∷
 use Rattle.std.proofs.lemmas.List.{map-append, map_push, take_more}
 use Rattle.auction_rows.specs.declared.requests.{Facts.Facts, Request.Request}
 use Rattle.request_scripts.specs.declared.short_request.ShortRequest.{ShortRequest}
-use Rattle.request_scripts.specs.ShortRequests.{HaveRequests, SaysRequest, request_from, requests_from}
+use Rattle.request_scripts.specs.ShortRequests.{HasRequest, HaveRequests, SaysRequest, request_from, requests_from}
 use Rattle.request_scripts.proofs.RequestLemmas.{request_stays}
 
 -- what short requests say stays where facts are added
@@ -14,6 +14,11 @@ requests_stay all more (short ∷ shorts) have =
     let here = request_stays all more short have.0 in
     let rest = requests_stay all more shorts have.1 in
     ((here.within, rest.0), ap (λ r. r ∷ requests_from (all ++ more) shorts) here.is ∙ ap (λ rs. request_from all short ∷ rs) rest.1)
+
+-- one short request more has its facts too
+have_pushed : (all : List Facts) (shorts : List ShortRequest) (short : ShortRequest) → HaveRequests all shorts → HasRequest all short → HaveRequests all (shorts ++ short ∷ [])
+have_pushed all [] short have has = (has, tt)
+have_pushed all (first ∷ shorts) short have has = (have.0, have_pushed all shorts short have.1 has)
 
 -- one request more, at the end
 module _ (all more facts : List Facts) (shorts now : List ShortRequest) (short : ShortRequest) (request : Request) (have : HaveRequests all shorts)
@@ -27,6 +32,11 @@ module _ (all more facts : List Facts) (shorts now : List ShortRequest) (short :
       ∙ map-append (request_from (all ++ more)) shorts (short ∷ [])
       ∙ ap (λ rs. rs ++ request_from (all ++ more) short ∷ []) (requests_stay all more shorts have).1
       ∙ ap (λ r. requests_from all shorts ++ r ∷ []) said.is
+
+  pub pushed_have : HaveRequests facts now
+  pushed_have =
+      subst (λ fs. HaveRequests fs now) (sym grown)
+      (subst (HaveRequests (all ++ more)) (sym pushed) (have_pushed (all ++ more) shorts short (requests_stay all more shorts have).0 said.within))
 
 -- one value more, made of the next of a list
 pub one_more : {X Y : Type 0} (f : X → Y) (xs : List X) (n : ℕ) (x : X) (old now : List Y) (y : Y) → n < length xs → x ≡ get_or xs n x →

@@ -1,2 +1,3 @@
 pub mod ShortRequests
 pub mod Scripts
+pub mod KeptLists

@@ -40,6 +40,10 @@ module _ {R : Type 0} where
     numbered_are script (suc k) rs (λ i. subst (λ n. slice_get script n ≡ slice_get rs i) (omega arith) (same (suc i))),
   )
 
+  -- so it is from the first on
+  pub all_numbered : (script : List R) → AllByRecursion (λ call. slice_get script call.0 ≡ Some call.1) (numbered 0 script)
+  all_numbered script = numbered_are script 0 script (λ i. ap (slice_get script) (omega arith))
+
   numbered_from : (k : ℕ) (rs : List R) → AllByRecursion (λ call. k ≤ call.0) (numbered k rs)
   numbered_from k [] = tt
   numbered_from k (r ∷ rs) = (omega arith, all-weaker (λ call. suc k ≤ call.0) (λ call. k ≤ call.0) (λ call less. omega arith) (numbered (suc k) rs) (numbered_from (suc k) rs))
@@ -137,8 +141,7 @@ module _ {R : Type 0} where
 
     -- with its request
     pub requests_in_turns : (n : ℕ) (script : List R) → AllByRecursion (λ call. slice_get script call.0 ≡ Some call.1) (turns commit n script)
-    requests_in_turns n script = all_turns (λ call. slice_get script call.0 ≡ Some call.1) n script
-        (numbered_are script 0 script (λ i. ap (slice_get script) (omega arith)))
+    requests_in_turns n script = all_turns (λ call. slice_get script call.0 ≡ Some call.1) n script (all_numbered script)
 
 -- another test of the phase that agrees before phase n gives the same turns
 pub turns_alike : {R : Type 0} (commit commit' : ℕ × R → ℕ) (n : ℕ) (script : List R) →

@@ -4,5 +4,6 @@ pub mod PhaseLemmas
 pub mod HotThere
 pub mod StableLemmas
 pub mod RunLemmas
+pub mod AskedLemmas
 pub mod BoardLemmas
 pub mod CourseLemmas

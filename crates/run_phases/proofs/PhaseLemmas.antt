@@ -25,21 +25,22 @@ use Rattle.phase_transactions.specs.Workers.{WorkerState}
 use Rattle.phase_transactions.specs.Performing.{HaveOpening}
 use Rattle.closing_laws.specs.Phases.{no_receipt, receipt_at, journal_of, counters_of}
 use Rattle.closing_laws.specs.Standing.{StandFor, counters_at}
-use Rattle.worker_journals.specs.Journals.{entry_worker}
+use Rattle.worker_journals.specs.Journals.{IsJournalOf, IsOfScript, entry_worker}
 use Rattle.phase_floor.specs.declared.floor.BeginFault.{BeginFault}
 use Rattle.phase_floor.specs.declared.floor.BeginFault.TheVariants.{UnknownHot, TooLong, Memory}
 use Rattle.phase_floor.specs.Begins.{IsTooLong, empty_stash}
-use Rattle.phase_floor.specs.Closings.{AreReceiptsOf, Leaves, stash_of}
+use Rattle.phase_floor.specs.Closings.{AreOfScripts, AreReceiptsOf, Leaves, stash_of}
 use Rattle.phase_floor.specs.Floors.{FloorState, IsNewPermit, stash_at}
 use Rattle.phase_floor.specs.States.{JoinedState, states_of, StandsFor}
 use Rattle.run_phases.specs.inner.Closed.{HasClosedPhase}
-use Rattle.run_phases.specs.Phases.{told, IsMet, MayPerform, waiting_in, quota_of}
+use Rattle.run_phases.specs.Phases.{told, IsCallOf, IsMet, MayPerform, waiting_in, quota_of}
 use Rattle.run_phases.specs.inner.Serving.{CanPerform, HasBegunPhase, HasEnded}
 use Rattle.phase_workers.specs.declared.round.ServingFault.{ServingFault}
 use Rattle.phase_workers.specs.declared.round.ServingFault.TheVariants as serving
 use Rattle.phase_workers.specs.Tasks.{Task, task, tasks, to_do, calls_for, CanBeDone, HasDoneTask, IsFaultBy, IsFirstFault}
 use Rattle.phase_workers.specs.Working.{committed, stashed, taken, still_waiting, hot_for, put_off, not_put_off, AreOfPhase, IsSamePermit, IsPermitOf, ArePermitsOf}
 use Rattle.phase_workers.proofs.WorkLemmas.{cold_kept, cold_off}
+use Rattle.run_phases.proofs.AskedLemmas.{all_journals, done_asked}
 use Rattle.run_phases.proofs.ScriptLemmas.{past_stashes}
 
 -- ---- tasks, by worker
@@ -355,6 +356,16 @@ module _ {policy : Policy} {scripts : List (List Request)} {state : JoinedState}
           commits = commits_are receipts count same entries law.parts (λ w. (counters_at next.counters w).commits) left.commits;
         }
 
+  -- the entries of those who have done their tasks are of the scripts
+  own_asked : (takes : Bool) (receipts : List WorkerState) → AllZip (HasDoneTask takes) (tasks permits scripts first) receipts → AreOfScripts scripts receipts
+  own_asked takes receipts all = all_journals (IsJournalOf scripts) receipts (λ w below.
+      let less : w < length scripts = omega (arith, below, done_count (HasDoneTask takes) permits receipts scripts first as_many all, as_many) in
+      let done = done_at (HasDoneTask takes) permits receipts scripts first as_many all w (omega (arith, less, as_many)) in
+      let writer : (receipt_at receipts w).journal.worker ≡ w = done.same.writer ∙ ap (λ (p : WorkerState). p.journal.worker) (begins w less).new in
+      let waits = subst (AllByRecursion (IsCallOf (script_of scripts w))) (sym (stash_is w less)) (may.asked w) in
+      subst (λ n. AllByRecursion (IsOfScript (script_of scripts n)) (journal_of (receipt_at receipts w)).entries) (sym writer)
+      (done_asked takes (receipt_at permits w) (receipt_at receipts w) (script_of scripts w) first done (none_committed w less) waits))
+
   -- the workers can perform their parts, in a round that has the phase's number
   pub can_perform : {initial : List ShardState} {phase : ℕ} → phase ≡ state.phase → (takes : Bool) → CanPerform takes initial floor permits scripts phase first
   can_perform {initial} now takes = record {
@@ -363,6 +374,7 @@ module _ {policy : Policy} {scripts : List (List Request)} {state : JoinedState}
     of = own_permits now;
     can = can_all initial;
     receipts_are = own_receipts takes;
+    asked = own_asked takes;
   }
 
   -- all that a run knows of the phase, once it has ended

@@ -31,7 +31,7 @@ use Rattle.run_phases.specs.declared.phase.Running.{Running}
 use Rattle.run_phases.specs.Beginning.{HasQuotas, AreShortFor}
 use Rattle.run_phases.specs.inner.Closed.{HasClosedPhase}
 use Rattle.run_phases.specs.Outcomes.{IsOutcome}
-use Rattle.run_phases.specs.Phases.{hot_sets, waiting_in, quota_of, MayPerform}
+use Rattle.run_phases.specs.Phases.{AreAsked, hot_sets, waiting_in, quota_of, MayPerform}
 use Rattle.run_phases.specs.inner.Running.{IsRunning, CanGoOn}
 use Rattle.run_phases.proofs.HotThere.{chosen_exist}
 
@@ -199,13 +199,14 @@ module _ (policy : Policy) (scripts : List (List Request)) (running : Running) (
           (subst (λ o. StandsFor running.state (book_after o on.rows running.history.entries)) (sym run.opening_is) run.replayed.stands))
       go (inr joined) = subst (DoAllExist running.state.opening (states_of running.state)) (sym (not_chosen joined)) tt
 
-  pub may_perform : MayPerform policy scripts running.state running.stashes.items hot_now
-  may_perform = record {
+  pub may_perform : AreAsked scripts running.stashes.items → MayPerform policy scripts running.state running.stashes.items hot_now
+  may_perform asked = record {
     counted = counted;
     scripts_are = sym run.workers_are;
     stashes_are = run.stashes_are ∙ sym run.workers_are;
     shards_are = run.shards_are;
     short = all_short running.state.limit on.rows scripts on.short;
+    asked = asked;
     waits = λ w. few_wait _ (script_of scripts w) (waiting_in running.stashes.items w) 1000000 (run.run.stashed w) (all_short running.state.limit on.rows scripts on.short w);
     room = λ w known. let own : w < length scripts = subst (λ n. w < n) run.workers_are known in
         room_left running.state.limit (counters_at running.state.counters w).commits (length (waiting_in running.stashes.items w)) (rows_by on.rows w)

@@ -12,7 +12,7 @@ use Rattle.phase_floor.specs.States.{JoinedState, states_of, DoesExist, DoAllExi
 use Rattle.run_laws.specs.Phases.{is_split}
 use Rattle.run_laws.specs.Serving.{script_of}
 use Rattle.shard_boxes.specs.States.{ShardState}
-use Rattle.run_phases.specs.Phases.{waiting_in, quota_of, MayPerform}
+use Rattle.run_phases.specs.Phases.{waiting_in, quota_of, AreAsked, MayPerform}
 
 pub at_most : (a b : ℕ) → ¬ ¬ (a ≤ b) → a ≤ b
 at_most a b never = at (cases_lt b a) where
@@ -50,13 +50,14 @@ module _ (opening : Opening) (states : List ShardState) where
 
 -- a run may perform the next phase of a state where it cannot be that it may not
 pub may_still : (policy : Policy) (scripts : List (List Request)) (state : JoinedState) (stashes : List StashState) (hot : List Object) → state.phase + 1 < 2 ^ 64 →
-    (is_split state.phase ≡ false → hot ≡ []) → ¬ ¬ MayPerform policy scripts state stashes hot → MayPerform policy scripts state stashes hot
-may_still policy scripts state stashes hot counted joined never = record {
+    AreAsked scripts stashes → (is_split state.phase ≡ false → hot ≡ []) → ¬ ¬ MayPerform policy scripts state stashes hot → MayPerform policy scripts state stashes hot
+may_still policy scripts state stashes hot counted asked joined never = record {
   counted = counted;
   scripts_are = same (length scripts) (length state.counters) (λ n. never (λ may. n may.scripts_are));
   stashes_are = same (length stashes) (length state.counters) (λ n. never (λ may. n may.stashes_are));
   shards_are = same (length state.shards) policy.shards (λ n. never (λ may. n may.shards_are));
   short = λ w. at_most (length (script_of scripts w)) 1000000 (λ n. never (λ may. n (may.short w)));
+  asked = asked;
   waits = λ w. at_most (length (waiting_in stashes w)) 1000000 (λ n. never (λ may. n (may.waits w)));
   room = λ w known. at_most ((counters_at state.counters w).commits + length (waiting_in stashes w) + quota_of policy state.phase (script_of scripts w)) state.limit
       (λ n. never (λ may. n (may.room w known)));

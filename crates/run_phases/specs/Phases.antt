@@ -1,6 +1,7 @@
 -- What a phase of a run begins with, and the faults that it meets.
-use Rattle.std.specs.Prelude.{ℕ, ◌≡◌, ◌+◌, ◌<◌, ◌≤◌, ◌^◌, Bool, true, false, List, [], map, length, ⊤}
+use Rattle.std.specs.Prelude.{ℕ, ◌≡◌, ◌+◌, ◌<◌, ◌≤◌, ◌^◌, Bool, true, false, List, [], Some, map, length, slice_get, ⊤}
 use Rattle.std.specs.HashSet.{HashSet}
+use Rattle.std.specs.List.{AllByRecursion}
 use Rattle.auction_rows.specs.declared.limits.TheConstants.{MOST_OF_A_WORKER}
 use Rattle.auction_rows.specs.declared.{limits.Policy.Policy, requests.Object.Object, requests.Request.Request}
 use Rattle.shard_boxes.specs.States.{ShardState}
@@ -16,7 +17,7 @@ use Rattle.phase_transactions.specs.declared.done.PermitFault.TheVariants as wor
 use Rattle.phase_workers.specs.declared.round.ServingFault.{ServingFault}
 use Rattle.phase_workers.specs.declared.round.ServingFault.TheVariants as serving
 use Rattle.phase_workers.specs.Tasks.{IsFirstFault, tasks}
-use Rattle.run_phases.specs.declared.phase.PhasePlan.{PhasePlan}
+use Rattle.run_phases.specs.declared.plan.PhasePlan.{PhasePlan}
 use Rattle.run_phases.specs.declared.faults.RunFault.{RunFault}
 use Rattle.run_phases.specs.declared.faults.RunFault.TheVariants.{Workers, Shards, Quota, TooLong, Spawn, Memory, NumberFull}
 
@@ -27,6 +28,15 @@ hot_sets sets = map (λ set. set.keys) sets
 -- the calls that wait in a worker's stash
 abbrev pub waiting_in : List StashState → ℕ → List (ℕ × Request)
 waiting_in stashes worker = (stash_at stashes worker).requests
+
+-- a call is one of a script: its request is the one at its index
+abbrev pub IsCallOf : List Request → ℕ × Request → Type 0
+IsCallOf script call = slice_get script call.0 ≡ Some call.1
+
+-- the calls that wait in each worker's stash are of its script
+abbrev pub AreAsked : List (List Request) → List StashState → Type 0
+AreAsked scripts stashes = (worker : ℕ) →
+    AllByRecursion (IsCallOf (script_of scripts worker)) (waiting_in stashes worker)
 
 -- how many requests of its script a phase gives a worker
 abbrev pub quota_of : Policy → ℕ → List Request → ℕ
@@ -47,7 +57,8 @@ pub record MayPerform (policy : Policy) (scripts : List (List Request)) (state :
   pub stashes_are : length stashes ≡ length state.counters
   pub shards_are : length state.shards ≡ policy.shards
   pub short : (worker : ℕ) → length (script_of scripts worker) ≤ MOST_OF_A_WORKER
-  -- no more waits than a script has
+  -- what waits is of the scripts, and no more than a script has
+  pub asked : AreAsked scripts stashes
   pub waits : (worker : ℕ) → length (waiting_in stashes worker) ≤ MOST_OF_A_WORKER
   -- what a worker committed, what waits and its quota are no more than the limit
   pub room : (worker : ℕ) → worker < length state.counters →

@@ -14,12 +14,13 @@ ghost use Rattle.auction_window.specs.Published.{book_of};
 ghost use Rattle.run_phases.specs.Beginning.{BeginsWith, CannotBegin, CanShowRun, HasShards, HasQuotas};
 ghost use Rattle.run_phases.specs.Boards.{CanShow, HasShownAfter};
 ghost use Rattle.run_phases.specs.Outcomes.{HasShownFirstAfter, IsOutcome};
-ghost use Rattle.run_phases.specs.Phases.{waiting_in, IsPlanOf, IsMet};
+ghost use Rattle.run_phases.specs.Phases.{waiting_in, AreAsked, IsPlanOf, IsMet};
 ghost use Rattle.run_phases.specs.inner.Running.{IsRunning, CanGoOn};
 
 use crate::board::Board;
 use crate::faults::RunFault;
-use crate::phase::{PhasePlan, Running, Workload, perform_phase};
+use crate::phase::{Running, Workload, perform_phase};
+use crate::plan::PhasePlan;
 use auction_rows::{MOST_OF_A_WORKER, Object, Policy};
 use auction_window::last_rows;
 use hot_choice::choose_hot_after;
@@ -30,7 +31,7 @@ use phase_workers::Gate;
 use std::alloc::{AllocError, Global};
 use std::sync::Wait;
 use std::thread::Threads;
-use worker_journals::{History, Script};
+use worker_journals::{History, Script, SharedScripts};
 
 // Scripts have fewer phases.
 const MOST_PHASES: u64 = 2 * MOST_OF_A_WORKER + 3;
@@ -102,17 +103,18 @@ pub fn run_from<R: Threads + Wait + Sync, G: Gate + Sync, B: Board>(
 
 // A run before its first phase.
 #[inline(always)]
-fn begin(alloc: Global, state: Joined, scripts: &[Script]) -> Result<Running, AllocError>
+fn begin(alloc: Global, state: Joined, scripts: &SharedScripts) -> Result<Running, AllocError>
     ensures running { IfOk result (λ running. (rows : Book) (policy : Rule) →
         BeginsWith state rows policy scripts.now →
         IsRunning state.opening rows policy scripts.now 0 running) }
+    ensures asked { IfOk result (λ running. AreAsked scripts.now running.stashes.items) }
     ensures limit { IfOk result (λ running. running.state.limit ≡ state.limit) }
 {
     Ok(Running {
         state,
         history: History::new(alloc),
         hot: Vec::new(alloc),
-        stashes: no_stashes(alloc, scripts.len())?,
+        stashes: no_stashes(alloc, scripts.as_slice().len())?,
     })
 }
 
@@ -129,7 +131,20 @@ fn no_stashes(alloc: Global, workers: usize) -> Result<Vec<Stash>, AllocError>
 }
 
 // Whether a worker has a request or a stash left.
-fn is_left(scripts: &[Script], stashes: &[Stash], first: u64) -> bool
+fn is_left(scripts: &SharedScripts, stashes: &[Stash], first: u64) -> bool
+    requires { length stashes.now ≡ length scripts.now }
+    ensures some { IsTrue result → (worker : ℕ)
+        × ((first < length (script_of scripts.now worker))
+        ⊎ (0 < length (waiting_in stashes.now worker))) }
+    ensures none { ¬ IsTrue result → (worker : ℕ) →
+        (length (script_of scripts.now worker) ≤ first)
+        × (length (waiting_in stashes.now worker) ≡ 0) }
+{
+    is_left_of(scripts.as_slice(), stashes, first)
+}
+
+// The same of scripts that are lent.
+fn is_left_of(scripts: &[Script], stashes: &[Stash], first: u64) -> bool
     requires { length stashes.now ≡ length scripts.now }
     ensures some { IsTrue result → (worker : ℕ)
         × ((first < length (script_of scripts.now worker))
@@ -166,6 +181,7 @@ fn next_phase<R: Threads + Wait + Sync, G: Gate + Sync>(
     requires counted { running.state.phase + 1 < 2 ^ 64 }
     requires plan { IsPlanOf plan running.state.phase }
     requires running { ¬ ¬ CanGoOn plan.policy plan.round.scripts.now running }
+    requires asked { AreAsked plan.round.scripts.now running.stashes.items }
     requires left { (worker : ℕ) × HasLeft plan.policy plan.round.scripts.now
         running.state.phase (waiting_in running.stashes.items) worker }
     ensures running { IfOk result (λ next. (opening : Numbers) (rows : Book) → IsBook opening rows →
@@ -175,6 +191,8 @@ fn next_phase<R: Threads + Wait + Sync, G: Gate + Sync>(
         (suc running.state.phase) next) }
     ensures grown { IfOk result (λ next. next.history.entries
         ≡ running.history.entries ++ merged next.history.last) }
+    ensures asked { IfOk result (λ next.
+        AreAsked plan.entry.round.scripts.now next.stashes.items) }
     ensures limit { IfOk result (λ next. next.state.limit ≡ running.state.limit) }
     ensures fault { IfErr result (IsMet plan.entry.round.scripts.now) }
 {

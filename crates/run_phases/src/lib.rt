@@ -5,6 +5,7 @@ mod board;
 mod course;
 mod faults;
 mod phase;
+mod plan;
 
 pub use board::{Board, NoBoard, WindowBoard};
 pub use course::{Outcome, run_from};

@@ -14,6 +14,7 @@ ghost use Rattle.run_phases.specs.inner.Closed.{HasPerformedPhase};
 ghost use Rattle.run_phases.specs.inner.Serving.{CanPerform, HasBegunPhase, HasEnded};
 
 use crate::faults::RunFault;
+use crate::plan::PhasePlan;
 use auction_rows::{Object, Policy};
 use indexmap::IndexSet;
 use phase_floor::{BeginFault, Floor, Joined, JoinedFloor, SplitFloor};
@@ -24,13 +25,13 @@ use std::alloc::{AllocError, Global};
 use std::marker::Brand;
 use std::sync::Wait;
 use std::thread::Threads;
-use worker_journals::{History, Script};
+use worker_journals::{History, Script, SharedScripts};
 
 /// What a run performs.
 #[derive(Drop)]
 pub struct Workload<'a, G> {
     /// The scripts of its workers.
-    pub scripts: &'a [Script],
+    pub scripts: &'a SharedScripts,
     /// How they are divided into phases.
     pub policy: Policy,
     /// What is told of each request, before and after it.
@@ -46,14 +47,6 @@ pub(crate) struct Running {
     pub(crate) stashes: Vec<Stash>,
 }
 
-/// A phase of a run: how the scripts are divided, and the round that goes on with each.
-#[derive(Drop)]
-pub(crate) struct PhasePlan<'a, G> {
-    pub(crate) policy: Policy,
-    // It goes on at the first index that reaches the phase.
-    pub(crate) round: Round<'a, G>,
-}
-
 impl<'a, G> PhasePlan<'a, G> {
     ghost use Rattle.run_phases.specs.Phases.{IsPlanOf};
 
@@ -65,13 +58,14 @@ impl<'a, G> PhasePlan<'a, G> {
         ensures plan { IsPlanOf result phase }
     {
         let round = Round {
-            scripts: work.scripts,
+            scripts: work.scripts.as_slice(),
             first: first_index(work.policy, phase),
             phase,
             gate: work.gate,
         };
         PhasePlan {
             policy: work.policy,
+            scripts: work.scripts,
             round,
         }
     }
@@ -249,7 +243,7 @@ where
         stashes,
     } = running;
     let begun = K::begin::<N, G>(alloc, (state, stashes), hot, &plan)?;
-    let (state, stashes) = perform_begun(rt, alloc, &mut history, begun, plan.round)?;
+    let (state, stashes) = perform_begun(rt, alloc, &mut history, begun, plan)?;
     Ok(Running {
         state,
         history,
@@ -264,7 +258,7 @@ fn perform_begun<N, K, R, G>(
     alloc: Global,
     history: &mut History,
     begun: (Floor<N, K>, Vec<Permit<N, K>>),
-    round: Round<'_, G>,
+    plan: PhasePlan<'_, G>,
 ) -> Result<(Joined, Vec<Stash>), RunFault>
 where
     N: PhaseName + Send + Sync,
@@ -272,18 +266,18 @@ where
     R: Threads + Wait + Sync,
     G: Gate + Sync,
     requires ready { CanPerform K.IS_JOINED N.initial begun.0 begun.1.items
-        round.scripts.now round.phase round.first }
+        plan.round.scripts.now plan.round.phase plan.round.first }
     ensures history { OnOk result (history.new.entries
         ≡ history.old.entries ++ added history.old.entries history.new.entries) }
     ensures last { OnOk result
         (merged history.new.last ≡ added history.old.entries history.new.entries) }
     ensures ended { IfOk result (λ ended. HasEnded K.IS_JOINED N.initial begun.0
-        (tasks begun.1.items round.entry.scripts.now round.entry.first)
+        (tasks begun.1.items plan.entry.round.scripts.now plan.entry.round.first)
         (added history.old.entries history.new.entries) ended.0 ended.1.items) }
-    ensures fault { IfErr result (IsMet round.entry.scripts.now) }
+    ensures fault { IfErr result (IsMet plan.entry.round.scripts.now) }
 {
     let (floor, permits) = begun;
-    let receipts = serve_all(rt, alloc, floor.boxes(), permits, round)?;
-    let ended = floor.close(alloc, history, receipts)?;
+    let receipts = serve_all(rt, alloc, floor.boxes(), permits, plan.round)?;
+    let ended = floor.close_on(alloc, history, receipts, Some(plan.scripts))?;
     Ok(ended)
 }

@@ -3,18 +3,17 @@ use Rattle.std.proofs.Common.{◌≡◌, ◌<◌, ◌≤◌, ◌+◌, ℕ, List,
 use Rattle.std.specs.List.{AllByRecursion}
 use Rattle.std.proofs.lemmas.List.{get_or_append_left, drop-append-le, take-append-le, map-append, length-map}
 use Rattle.phase_laws.proofs.OrderLemmas.{all_push, all-weaker}
-use Rattle.auction_rows.specs.declared.{requests.Request.Request, replies.Reply.Reply, replies.ItemView.ItemView, replies.BidShown.BidShown, replies.ItemShown.ItemShown, rows.Entry.Entry}
+use Rattle.auction_rows.specs.declared.{replies.Reply.Reply, replies.ItemView.ItemView, replies.BidShown.BidShown, replies.ItemShown.ItemShown, rows.Entry.Entry}
 use Rattle.auction_rows.specs.declared.replies.Reply.TheVariants.{BidsSeen, CategorySeen}
-use Rattle.worker_journals.specs.declared.heads.Head.{Head}
 use Rattle.worker_journals.specs.declared.heads.ShortReply.{ShortReply}
 use Rattle.worker_journals.specs.declared.heads.ShortReply.TheVariants as told
 use Rattle.worker_journals.specs.declared.heads.UserSeen.{UserSeen as SeenUser}
-use Rattle.worker_journals.specs.Journals.{JournalView, ComesAfter, IsLawfulJournal, closed_journal, seen, with_commit}
+use Rattle.auction_rows.specs.declared.requests.Request.{Request}
+use Rattle.worker_journals.specs.HeadLists.{AskedHead, IsHeadOf}
+use Rattle.worker_journals.specs.Journals.{JournalView, IsOfScript, ComesAfter, IsLawfulJournal, closed_journal, seen, with_commit}
 use Rattle.auction_rows.specs.ItemViews.{item_reply}
-use Rattle.request_scripts.specs.ShortRequests.{request_from, SaysRequest}
-use Rattle.worker_journals.specs.Sides.{SideLists, reply_from, HasReply, SaysReply, with_commit_of, user_reply}
+use Rattle.worker_journals.specs.Sides.{SideLists, reply_from, HasReply, SaysReply, with_reply_of, user_reply}
 use Rattle.worker_journals.specs.Entries.{entry_from, HasHead, shown, IsKept}
-use Rattle.request_scripts.proofs.RequestLemmas.{request_stays}
 use Rattle.worker_journals.proofs.JournalLemmas.{lawful_after}
 
 part_stays : {X : Type 0} (xs more : List X) (place count : ℕ) → place + count ≤ length xs →
@@ -48,25 +47,21 @@ module _ (items items' : List ItemView) (users users' : List SeenUser) (bids bid
   }
   reply_stays (told.Refused reason) h = record { within = tt; is = refl }
 
--- an entry by the request and the reply of its head
-abbrev entry_by : ℕ → ℕ → Head → Request → Reply → Entry
-entry_by phase worker head request reply =
-    record { phase = phase; number = head.number; worker = worker; index = head.index; request = request; reply = reply }
+-- an entry by the reply of its head
+abbrev entry_by : ℕ → ℕ → AskedHead → Reply → Entry
+entry_by phase worker head reply =
+    record { phase = phase; number = head.head.number; worker = worker; index = head.head.index; request = head.request; reply = reply }
 
-module _ (phase worker : ℕ) (sides : SideLists) (request : Request) (reply : Reply) where
+module _ (phase worker : ℕ) (sides : SideLists) (reply : Reply) where
   abbrev after : SideLists
-  after = with_commit_of sides request reply
+  after = with_reply_of sides reply
 
-  head_stays : (head : Head) → HasHead sides head → HasHead after head × (entry_from phase worker after head ≡ entry_from phase worker sides head)
+  head_stays : (head : AskedHead) → HasHead sides head → HasHead after head × (entry_from phase worker after head ≡ entry_from phase worker sides head)
   head_stays head h =
-      let asked = request_stays sides.facts _ head.request h.0 in
-      let answered = reply_stays sides.items _ sides.users _ sides.bids _ sides.latest _ head.reply h.1 in (
-        (asked.within, answered.within),
-        ap (λ r. entry_by phase worker head r (reply_from after.items after.users after.bids after.latest head.reply)) asked.is
-            ∙ ap (entry_by phase worker head (request_from sides.facts head.request)) answered.is,
-      )
+      let answered = reply_stays sides.items _ sides.users _ sides.bids _ sides.latest _ head.head.reply h in
+      (answered.within, ap (entry_by phase worker head) answered.is)
 
-  heads_stay : (heads : List Head) → AllByRecursion (HasHead sides) heads →
+  heads_stay : (heads : List AskedHead) → AllByRecursion (HasHead sides) heads →
       map (entry_from phase worker after) heads ≡ map (entry_from phase worker sides) heads
   heads_stay [] all = refl
   heads_stay (head ∷ heads) all =
@@ -74,74 +69,66 @@ module _ (phase worker : ℕ) (sides : SideLists) (request : Request) (reply : R
       ∙ ap (λ es. entry_from phase worker sides head ∷ es) (heads_stay heads all.1)
 
   -- a head that says the commit, at the end of the heads
-  module _ (heads : List Head) (head : Head) (capacity : ℕ) (kept : IsKept phase worker heads capacity sides) (some : 0 < sides.left)
-      (asked : SaysRequest after.facts head.request request) (answered : SaysReply after.items after.users after.bids after.latest head.reply reply) where
+  module _ (heads : List AskedHead) (head : AskedHead) (capacity : ℕ) (kept : IsKept phase worker heads capacity sides) (some : 0 < sides.left)
+      (answered : SaysReply after.items after.users after.bids after.latest head.head.reply reply) where
     abbrev said : Entry
-    said = entry_by phase worker head request reply
-
-    says : entry_from phase worker after head ≡ said
-    says =
-        ap (λ r. entry_by phase worker head r (reply_from after.items after.users after.bids after.latest head.reply)) asked.is
-        ∙ ap (entry_by phase worker head request) answered.is
+    said = entry_by phase worker head reply
 
     entries_after : map (entry_from phase worker after) (heads ++ head ∷ []) ≡ map (entry_from phase worker sides) heads ++ said ∷ []
     entries_after =
         map-append (entry_from phase worker after) heads (head ∷ [])
         ∙ ap (λ es. es ++ entry_from phase worker after head ∷ []) (heads_stay heads kept.within)
-        ∙ ap (λ e. map (entry_from phase worker sides) heads ++ e ∷ []) says
+        ∙ ap (λ r. map (entry_from phase worker sides) heads ++ entry_by phase worker head r ∷ []) answered.is
 
     room_after : length (heads ++ head ∷ []) + after.left ≡ length heads + sides.left
     room_after = omega (arith, length-append heads (head ∷ []))
 
-    pub shown_after : shown phase worker (heads ++ head ∷ []) after ≡ with_commit (shown phase worker heads sides) head.number head.index request reply
+    pub shown_after : shown phase worker (heads ++ head ∷ []) after ≡ with_commit (shown phase worker heads sides) head.head.number head.head.index head.request reply
     shown_after =
         ap (seen phase worker (length (heads ++ head ∷ []) + after.left)) entries_after
         ∙ ap (λ n. seen phase worker n (map (entry_from phase worker sides) heads ++ said ∷ [])) room_after
 
-    pub kept_after : ComesAfter (map (entry_from phase worker sides) heads) head.number → IsKept phase worker (heads ++ head ∷ []) capacity after
+    pub kept_after : ComesAfter (map (entry_from phase worker sides) heads) head.head.number → IsKept phase worker (heads ++ head ∷ []) capacity after
     kept_after comes = record {
       lawful = subst IsLawfulJournal (sym shown_after) (lawful_after (shown phase worker heads sides) _ kept.lawful (refl, refl) comes);
-      within = all_push (HasHead after) heads head (all-weaker (HasHead sides) (HasHead after) (λ h has. (head_stays h has).0) heads kept.within) (asked.within, answered.within);
+      within = all_push (HasHead after) heads head (all-weaker (HasHead sides) (HasHead after) (λ h has. (head_stays h has).0) heads kept.within) answered.within;
       room = omega (arith, kept.room, length-append heads (head ∷ []));
     }
 
 -- the same, of a journal that shows this, and side lists and heads that are equal to these
-module _ (phase worker : ℕ) (heads new : List Head) (capacity capacity' : ℕ) (sides sides' : SideLists) (head : Head) (request : Request) (reply : Reply)
+module _ (phase worker : ℕ) (heads new : List AskedHead) (capacity capacity' : ℕ) (sides sides' : SideLists) (head : AskedHead) (reply : Reply)
     (kept : IsKept phase worker heads capacity sides) (some : 0 < sides.left) (pushed : new ≡ heads ++ head ∷ []) (same : capacity' ≡ capacity)
-    (grown : sides' ≡ with_commit_of sides request reply) (asked : SaysRequest sides'.facts head.request request)
-    (answered : SaysReply sides'.items sides'.users sides'.bids sides'.latest head.reply reply) where
-  asked' : SaysRequest (with_commit_of sides request reply).facts head.request request
-  asked' = subst (λ (s : SideLists). SaysRequest s.facts head.request request) grown asked
-
-  answered' : SaysReply (with_commit_of sides request reply).items (with_commit_of sides request reply).users (with_commit_of sides request reply).bids
-      (with_commit_of sides request reply).latest head.reply reply
-  answered' = subst (λ (s : SideLists). SaysReply s.items s.users s.bids s.latest head.reply reply) grown answered
+    (grown : sides' ≡ with_reply_of sides reply)
+    (answered : SaysReply sides'.items sides'.users sides'.bids sides'.latest head.head.reply reply) where
+  answered' : SaysReply (with_reply_of sides reply).items (with_reply_of sides reply).users (with_reply_of sides reply).bids
+      (with_reply_of sides reply).latest head.head.reply reply
+  answered' = subst (λ (s : SideLists). SaysReply s.items s.users s.bids s.latest head.head.reply reply) grown answered
 
   pub pushed_shown : (journal : JournalView) → shown phase worker heads sides ≡ journal →
-      shown phase worker new sides' ≡ with_commit journal head.number head.index request reply
+      shown phase worker new sides' ≡ with_commit journal head.head.number head.head.index head.request reply
   pushed_shown journal is =
       ap (λ hs. shown phase worker hs sides') pushed ∙ ap (λ s. shown phase worker (heads ++ head ∷ []) s) grown
-      ∙ shown_after phase worker sides request reply heads head capacity kept some asked' answered'
-      ∙ ap (λ j. with_commit j head.number head.index request reply) is
+      ∙ shown_after phase worker sides reply heads head capacity kept some answered'
+      ∙ ap (λ j. with_commit j head.head.number head.head.index head.request reply) is
 
-  pub pushed_kept : (journal : JournalView) → shown phase worker heads sides ≡ journal → ComesAfter journal.entries head.number →
+  pub pushed_kept : (journal : JournalView) → shown phase worker heads sides ≡ journal → ComesAfter journal.entries head.head.number →
       IsKept phase worker new capacity' sides'
   pushed_kept journal is comes =
-      let after = subst (λ (j : JournalView). ComesAfter j.entries head.number) (sym is) comes in
-      let here = kept_after phase worker sides request reply heads head capacity kept some asked' answered' after in
+      let after = subst (λ (j : JournalView). ComesAfter j.entries head.head.number) (sym is) comes in
+      let here = kept_after phase worker sides reply heads head capacity kept some answered' after in
       subst (λ hs. IsKept phase worker hs capacity' sides') (sym pushed)
       (subst (λ n. IsKept phase worker (heads ++ head ∷ []) n sides') (sym same)
       (subst (λ s. IsKept phase worker (heads ++ head ∷ []) capacity s) (sym grown) here))
 
 -- where there is room for more entries than there are, some room is left
-pub some_left : (phase worker : ℕ) (heads : List Head) (sides : SideLists) (journal : JournalView) → shown phase worker heads sides ≡ journal →
+pub some_left : (phase worker : ℕ) (heads : List AskedHead) (sides : SideLists) (journal : JournalView) → shown phase worker heads sides ≡ journal →
     length journal.entries < journal.room → 0 < sides.left
 some_left phase worker heads sides journal is room =
     let here = subst (λ (j : JournalView). length j.entries < j.room) (sym is) room in
     omega (arith, here, length-map heads (entry_from phase worker sides))
 
 -- the last commit: the heads stay, and no room is left
-module _ (phase worker : ℕ) (heads new : List Head) (sides sides' : SideLists) (same : new ≡ heads) (closed : sides' ≡ record sides { left = 0 }) where
+module _ (phase worker : ℕ) (heads new : List AskedHead) (sides sides' : SideLists) (same : new ≡ heads) (closed : sides' ≡ record sides { left = 0 }) where
   pub closed_shown : (journal : JournalView) → shown phase worker heads sides ≡ journal → shown phase worker new sides' ≡ closed_journal journal
   closed_shown journal is =
       ap (λ hs. shown phase worker hs sides') same
@@ -149,12 +136,18 @@ module _ (phase worker : ℕ) (heads new : List Head) (sides sides' : SideLists)
       ∙ ap (λ n. seen phase worker n (map (entry_from phase worker sides) heads)) (omega (arith, length-map heads (entry_from phase worker sides)))
       ∙ ap closed_journal is
 
-  pub closed_kept : (capacity capacity' : ℕ) → IsKept phase worker heads capacity sides → length new ≤ capacity' → IsKept phase worker new capacity' sides'
-  closed_kept capacity capacity' kept fits =
+  pub closed_kept : (capacity capacity' : ℕ) → IsKept phase worker heads capacity sides → IsKept phase worker new capacity' sides'
+  closed_kept capacity capacity' kept =
       let here : IsKept phase worker heads capacity' (record sides { left = 0 }) = record {
         lawful = record { own = kept.lawful.own; ascending = kept.lawful.ascending };
         within = kept.within;
-        room = omega (arith, fits, ap length same);
+        room = omega arith;
       } in
       subst (λ hs. IsKept phase worker hs capacity' sides') (sym same)
       (subst (λ s. IsKept phase worker heads capacity' s) (sym closed) here)
+
+-- entries' requests are those of a script exactly if their heads' are
+pub of_script : (phase worker : ℕ) (sides : SideLists) (script : List Request) (heads : List AskedHead) → AllByRecursion (IsOfScript script) (map (entry_from phase worker sides) heads) →
+    AllByRecursion (IsHeadOf script) heads
+of_script phase worker sides script [] all = tt
+of_script phase worker sides script (head ∷ heads) all = (all.0, of_script phase worker sides script heads all.1)

@@ -1,41 +1,77 @@
--- Heads by their two parts: how many, one more at the end, and the one at a place.
-use Rattle.std.proofs.Common.{◌≡◌, ◌<◌, ℕ, zero, suc, List, [], ◌∷◌, ◌++◌, length, get_or, None, Some, refl, ap, arith}
-use Rattle.std.specs.Prelude.{slice_get}
-use Rattle.std.proofs.lemmas.Option.{none-some, same_Some, slice_get_read}
-use Rattle.worker_journals.specs.declared.heads.AskedHead.{AskedHead}
+-- Heads with their requests: how many, one more at the end, each by itself, and those of a script.
+use Rattle.std.proofs.Common.{◌≡◌, ◌<◌, ◌∙◌, ℕ, zero, suc, List, [], ◌∷◌, ◌++◌, map, length, None, Some, refl, ap, arith}
+use Rattle.std.specs.Prelude.{slice_get, unwrap_or}
+use Rattle.std.specs.List.{AllByRecursion}
+use Rattle.std.proofs.lemmas.Option.{none-some, same_Some}
+use Rattle.auction_rows.specs.declared.requests.Request.{Request}
 use Rattle.worker_journals.specs.declared.heads.Head.{Head}
-use Rattle.worker_journals.specs.declared.heads.ToldHead.{ToldHead}
-use Rattle.worker_journals.specs.HeadLists.{head_of, heads_of}
+use Rattle.worker_journals.specs.Asked.{IsWithin, asked_at, no_request}
+use Rattle.worker_journals.specs.HeadLists.{AskedHead, IsHeadOf, asked_head, head_in, heads_of, request_in}
 
--- as many as there are of each part
-pub as_many : (askeds : List AskedHead) (tolds : List ToldHead) → length askeds ≡ length tolds → length (heads_of askeds tolds) ≡ length tolds
+-- as many as there are heads
+pub as_many : (requests : List Request) (heads : List Head) → length requests ≡ length heads → length (heads_of requests heads) ≡ length heads
 as_many [] [] same = refl
-as_many [] (told ∷ tolds) same = same
-as_many (asked ∷ askeds) [] same = absurd (omega (arith, same))
-as_many (asked ∷ askeds) (told ∷ tolds) same = ap suc (as_many askeds tolds (omega (arith, same)))
+as_many [] (head ∷ heads) same = same
+as_many (request ∷ requests) [] same = absurd (omega (arith, same))
+as_many (request ∷ requests) (head ∷ heads) same = ap suc (as_many requests heads (omega (arith, same)))
 
--- one part more of each is one head more
-pub one_more_head : (askeds : List AskedHead) (tolds : List ToldHead) (asked : AskedHead) (told : ToldHead) → length askeds ≡ length tolds →
-    heads_of (askeds ++ asked ∷ []) (tolds ++ told ∷ []) ≡ heads_of askeds tolds ++ head_of asked told ∷ []
-one_more_head [] [] asked told same = refl
-one_more_head [] (next ∷ tolds) asked told same = absurd (omega (arith, same))
-one_more_head (next ∷ askeds) [] asked told same = absurd (omega (arith, same))
-one_more_head (first ∷ askeds) (next ∷ tolds) asked told same = ap (λ hs. head_of first next ∷ hs) (one_more_head askeds tolds asked told (omega (arith, same)))
-
-found_head : (askeds : List AskedHead) (tolds : List ToldHead) (place : ℕ) (asked : AskedHead) (told : ToldHead) →
-    slice_get askeds place ≡ Some asked → slice_get tolds place ≡ Some told → slice_get (heads_of askeds tolds) place ≡ Some (head_of asked told)
-found_head [] tolds place asked told at there = absurd (none-some asked at)
-found_head (first ∷ askeds) [] place asked told at there = absurd (none-some told there)
-found_head (first ∷ askeds) (next ∷ tolds) zero asked told at there = λ i. Some (head_of (same_Some first asked at i) (same_Some next told there i))
-found_head (first ∷ askeds) (next ∷ tolds) (suc place) asked told at there = found_head askeds tolds place asked told at there
-
--- the head at a place is of the parts that are read there
-pub read_head : (askeds : List AskedHead) (tolds : List ToldHead) (place : ℕ) (asked : AskedHead) (told : ToldHead) → place < length askeds → place < length tolds →
-    asked ≡ get_or askeds place asked → told ≡ get_or tolds place told → slice_get (heads_of askeds tolds) place ≡ Some (head_of asked told)
-read_head askeds tolds place asked told within within' at there =
-    found_head askeds tolds place asked told (slice_get_read askeds (length askeds) place asked refl within at) (slice_get_read tolds (length tolds) place told refl within' there)
+-- a place of a head is one of the list
+pub within_heads : (requests : List Request) (heads : List Head) (place : ℕ) → length requests ≡ length heads → place < length (heads_of requests heads) → place < length heads
+within_heads requests heads place same within = omega (arith, within, as_many requests heads same)
 
 -- of no heads there is no first one
-pub no_first : (heads : List Head) → length heads ≡ 0 → None ≡ slice_get heads 0
+pub no_first : (askeds : List AskedHead) → length askeds ≡ 0 → None ≡ slice_get (map head_in askeds) 0
 no_first [] none = refl
-no_first (head ∷ heads) none = absurd (omega (arith, none))
+no_first (asked ∷ askeds) none = absurd (omega (arith, none))
+
+-- one more of each is one more
+pub one_more_head : (requests : List Request) (heads : List Head) (request : Request) (head : Head) → length requests ≡ length heads →
+    heads_of (requests ++ request ∷ []) (heads ++ head ∷ []) ≡ heads_of requests heads ++ asked_head head request ∷ []
+one_more_head [] [] request head same = refl
+one_more_head [] (next ∷ heads) request head same = absurd (omega (arith, same))
+one_more_head (asked ∷ requests) [] request head same = absurd (omega (arith, same))
+one_more_head (asked ∷ requests) (next ∷ heads) request head same = ap (λ hs. asked_head next asked ∷ hs) (one_more_head requests heads request head (omega (arith, same)))
+
+-- the heads
+pub heads_alone : (requests : List Request) (heads : List Head) → length requests ≡ length heads → map head_in (heads_of requests heads) ≡ heads
+heads_alone [] [] same = refl
+heads_alone [] (head ∷ heads) same = absurd (omega (arith, same))
+heads_alone (request ∷ requests) [] same = absurd (omega (arith, same))
+heads_alone (request ∷ requests) (head ∷ heads) same = ap (λ hs. head ∷ hs) (heads_alone requests heads (omega (arith, same)))
+
+-- the requests
+pub requests_alone : (requests : List Request) (heads : List Head) → length requests ≡ length heads → map request_in (heads_of requests heads) ≡ requests
+requests_alone [] heads same = refl
+requests_alone (request ∷ requests) [] same = absurd (omega (arith, same))
+requests_alone (request ∷ requests) (head ∷ heads) same = ap (λ rs. request ∷ rs) (requests_alone requests heads (omega (arith, same)))
+
+-- a head and its request are those of one place
+pub both_there : (askeds : List AskedHead) (place : ℕ) (head : Head) (request : Request) → slice_get (map head_in askeds) place ≡ Some head →
+    slice_get (map request_in askeds) place ≡ Some request → slice_get askeds place ≡ Some (asked_head head request)
+both_there [] place head request at there = absurd (none-some head at)
+both_there (asked ∷ askeds) zero head request at there = λ i. Some (asked_head (same_Some asked.head head at i) (same_Some asked.request request there i))
+both_there (asked ∷ askeds) (suc place) head request at there = both_there askeds place head request at there
+
+-- a list has a value at a place within it alone
+some_within : {X : Type 0} (xs : List X) (place : ℕ) (x : X) → slice_get xs place ≡ Some x → place < length xs
+some_within [] place x is = absurd (none-some x is)
+some_within (y ∷ xs) zero x is = omega arith
+some_within (y ∷ xs) (suc place) x is = omega (arith, some_within xs place x is)
+
+-- where heads' requests are those of a script, the script says the same heads
+pub heads_of_script : (script : List Request) (requests : List Request) (heads : List Head) → length requests ≡ length heads →
+    AllByRecursion (IsHeadOf script) (heads_of requests heads) → heads_of (map (asked_at script) heads) heads ≡ heads_of requests heads
+heads_of_script script [] [] same all = refl
+heads_of_script script [] (head ∷ heads) same all = absurd (omega (arith, same))
+heads_of_script script (request ∷ requests) [] same all = absurd (omega (arith, same))
+heads_of_script script (request ∷ requests) (head ∷ heads) same all =
+    ap (λ r. asked_head head r ∷ heads_of (map (asked_at script) heads) heads) (ap (λ o. unwrap_or o no_request) all.0)
+    ∙ ap (λ hs. asked_head head request ∷ hs) (heads_of_script script requests heads (omega (arith, same)) all.1)
+
+-- and has their requests
+pub within_script : (script : List Request) (requests : List Request) (heads : List Head) → length requests ≡ length heads →
+    AllByRecursion (IsHeadOf script) (heads_of requests heads) → AllByRecursion (IsWithin script) heads
+within_script script requests [] same all = tt
+within_script script [] (head ∷ heads) same all = absurd (omega (arith, same))
+within_script script (request ∷ requests) (head ∷ heads) same all =
+    (some_within script head.index request all.0, within_script script requests heads (omega (arith, same)) all.1)

@@ -162,9 +162,14 @@ pub last_are_phase : (phases : List (Vec JournalView)) (phase : Vec JournalView)
     slice_get phases (length phases - 1) ≡ Some phase → ArePhase phase.items
 last_are_phase phases phase all is = subst ArePhase (last_read phases phase is) (last_is_phase (journals_of phases) all)
 
--- one more journal is closed
-module _ (journals now : List JournalView) (i : ℕ) (journal closed : JournalView) (within : i < length now) (is : journal ≡ get_or now i journal)
-    (done : closed ≡ closed_journal (get_or now i journal)) (open_yet : drop i now ≡ drop i journals) where
+all_at : {X : Type 0} (P : X → Type 0) (xs : List X) (i : ℕ) (x : X) → i < length xs → AllByRecursion P xs → P (get_or xs i x)
+all_at P [] i x within all = absurd (omega (arith, within))
+all_at P (y ∷ xs) zero x within all = all.0
+all_at P (y ∷ xs) (suc i) x within all = all_at P xs i x (omega (arith, within)) all.1
+
+-- the next of journals, of which those before it are closed
+module _ (journals now : List JournalView) (i : ℕ) (journal : JournalView) (within : i < length now) (is : journal ≡ get_or now i journal)
+    (open_yet : drop i now ≡ drop i journals) where
   within_journals : i < length journals
   within_journals = omega (arith, ap length open_yet, length-drop i now, length-drop i journals)
 
@@ -174,14 +179,20 @@ module _ (journals now : List JournalView) (i : ℕ) (journal closed : JournalVi
       ap (λ k. get_or journals k journal) (sym here) ∙ sym (get_or-drop i journals 0 journal) ∙ ap (λ js. get_or js 0 journal) (sym open_yet)
       ∙ get_or-drop i now 0 journal ∙ ap (λ k. get_or now k journal) here ∙ sym is
 
-  pub one_closed : take i now ≡ map closed_journal (take i journals) → take (i + 1) (set now i closed) ≡ map closed_journal (take (i + 1) journals)
-  one_closed front =
-      take_more_set now i closed within ∙ ap (λ js. js ++ closed ∷ []) front ∙ ap (λ j. map closed_journal (take i journals) ++ j ∷ []) done
-      ∙ ap (λ j. map closed_journal (take i journals) ++ closed_journal j ∷ []) (sym is ∙ sym same_journal)
-      ∙ sym (map-append closed_journal (take i journals) (get_or journals i journal ∷ []))
-      ∙ ap (map closed_journal) (sym (take_more journals i journal within_journals))
+  -- what held of all journals holds of it
+  pub holds_yet : (P : JournalView → Type 0) → AllByRecursion P journals → P journal
+  holds_yet P all = subst P same_journal (all_at P journals i journal within_journals all)
 
-  pub others_open : drop (i + 1) (set now i closed) ≡ drop (i + 1) journals
-  others_open =
-      let less : i < i + 1 = omega arith in
-      drop-set-lt (i + 1) now i closed less ∙ drop_one now i ∙ ap (drop 1) open_yet ∙ sym (drop_one journals i)
+  -- it is closed too
+  module _ (closed : JournalView) (done : closed ≡ closed_journal (get_or now i journal)) where
+    pub one_closed : take i now ≡ map closed_journal (take i journals) → take (i + 1) (set now i closed) ≡ map closed_journal (take (i + 1) journals)
+    one_closed front =
+        take_more_set now i closed within ∙ ap (λ js. js ++ closed ∷ []) front ∙ ap (λ j. map closed_journal (take i journals) ++ j ∷ []) done
+        ∙ ap (λ j. map closed_journal (take i journals) ++ closed_journal j ∷ []) (sym is ∙ sym same_journal)
+        ∙ sym (map-append closed_journal (take i journals) (get_or journals i journal ∷ []))
+        ∙ ap (map closed_journal) (sym (take_more journals i journal within_journals))
+
+    pub others_open : drop (i + 1) (set now i closed) ≡ drop (i + 1) journals
+    others_open =
+        let less : i < i + 1 = omega arith in
+        drop-set-lt (i + 1) now i closed less ∙ drop_one now i ∙ ap (drop 1) open_yet ∙ sym (drop_one journals i)

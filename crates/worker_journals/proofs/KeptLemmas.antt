@@ -3,11 +3,10 @@ use Rattle.std.proofs.Common.{◌≡◌, ℕ, zero, suc, ◌+◌, ◌-◌, ◌*�
 use Rattle.std.specs.Prelude.{IsSome}
 use Rattle.std.proofs.lemmas.List.{length-take, take_more}
 use Rattle.std.proofs.lemmas.Option.{get_or_from_slice_get}
-use Rattle.auction_rows.specs.declared.{requests.Request.Request, replies.Reply.Reply, replies.ItemView.ItemView, replies.BidShown.BidShown, replies.ItemShown.ItemShown}
-use Rattle.auction_rows.specs.declared.requests.Request.TheVariants.{StoreItem, StoreBid, StoreComment, BuyNow, ViewItem, ViewBids, ViewCategory, ViewUser}
+use Rattle.auction_rows.specs.declared.{replies.Reply.Reply, replies.ItemView.ItemView, replies.BidShown.BidShown, replies.ItemShown.ItemShown}
 use Rattle.worker_journals.specs.declared.heads.ShortReply.{ShortReply}
 use Rattle.worker_journals.specs.declared.heads.UserSeen.{UserSeen as SeenUser}
-use Rattle.request_scripts.specs.ShortRequests.{HasListRoom, facts_in}
+use Rattle.request_scripts.specs.ShortRequests.{HasListRoom}
 use Rattle.worker_journals.specs.Sides.{SaysReply}
 
 module _ {X : Type 0} (start shown : List X) (place : ℕ) where
@@ -65,17 +64,6 @@ part_left list start count place read within so_far few =
 pub said_of : (items : List ItemView) (users : List SeenUser) (bids : List BidShown) (latest : List ItemShown) (short : ShortReply) (one other : Reply) → one ≡ other →
     SaysReply items users bids latest short one → SaysReply items users bids latest short other
 said_of items users bids latest short one other same says = subst (λ (reply : Reply). SaysReply items users bids latest short reply) same says
-
--- a request stores no more facts than one
-pub one_fact_at_most : (request : Request) → length (facts_in request) ≤ 1
-one_fact_at_most (StoreItem facts time) = omega arith
-one_fact_at_most (StoreBid bidder item amount time) = omega arith
-one_fact_at_most (StoreComment author about item stars) = omega arith
-one_fact_at_most (BuyNow buyer item quantity time) = omega arith
-one_fact_at_most (ViewItem item) = omega arith
-one_fact_at_most (ViewBids item) = omega arith
-one_fact_at_most (ViewCategory category) = omega arith
-one_fact_at_most (ViewUser user) = omega arith
 
 -- ---- the room of new lists
 

@@ -14,3 +14,4 @@ pub mod LastLemmas
 pub mod AddedLemmas
 pub mod RisingLemmas
 pub mod HeadListLemmas
+pub mod AskedLemmas

@@ -1,23 +1,40 @@
--- The heads of a journal, by their two parts.
-use Rattle.std.specs.Prelude.{ℕ, List, [], ◌∷◌}
-use Rattle.worker_journals.specs.declared.heads.AskedHead.{AskedHead}
+-- The heads of a journal, with their requests.
+use Rattle.std.specs.Prelude.{◌≡◌, ℕ, List, [], ◌∷◌, Some, slice_get}
+use Rattle.auction_rows.specs.declared.requests.Request.{Request}
 use Rattle.worker_journals.specs.declared.heads.Head.{Head}
-use Rattle.worker_journals.specs.declared.heads.ToldHead.{ToldHead}
+use Rattle.worker_journals.specs.declared.heads.ShortReply.{ShortReply}
+
+-- a head by its parts
+abbrev pub head_by : ℕ → ℕ → ShortReply → Head
+head_by number index reply = record { number = number; index = index; reply = reply }
+
+-- a head with its request
+pub record AskedHead : Type 0 where
+  pub head : Head
+  pub request : Request
+
+abbrev pub asked_head : Head → Request → AskedHead
+asked_head head request = record { head = head; request = request }
+
+abbrev pub head_in : AskedHead → Head
+head_in asked = asked.head
+
+abbrev pub request_in : AskedHead → Request
+request_in asked = asked.request
 
 -- the heads of a journal
 pub record HeadList : Type 0 where
   -- the heads
-  pub heads : List Head
+  pub heads : List AskedHead
   -- for how many heads in all there is room
   pub room : ℕ
 
--- the head of two parts
-abbrev pub head_of : AskedHead → ToldHead → Head
-head_of asked told =
-    record { number = asked.number; request = asked.request; index = told.index; reply = told.reply }
+-- heads with these requests, in their order
+abbrev pub heads_of : List Request → List Head → List AskedHead
+heads_of [] heads = []
+heads_of (request ∷ requests) [] = []
+heads_of (request ∷ requests) (head ∷ heads) = asked_head head request ∷ heads_of requests heads
 
--- the heads of which these are the parts, in their order
-abbrev pub heads_of : List AskedHead → List ToldHead → List Head
-heads_of [] tolds = []
-heads_of (asked ∷ askeds) [] = []
-heads_of (asked ∷ askeds) (told ∷ tolds) = head_of asked told ∷ heads_of askeds tolds
+-- a head's request is that of a script at its index
+abbrev pub IsHeadOf : List Request → AskedHead → Type 0
+IsHeadOf script asked = slice_get script asked.head.index ≡ Some asked.request

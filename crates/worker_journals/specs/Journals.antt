@@ -1,8 +1,9 @@
 -- What a worker commits in one phase.
-use Rattle.std.specs.Prelude.{◌≡◌, ℕ, ◌<◌, List, [], ◌∷◌, ◌++◌, length, ⊤}
+use Rattle.std.specs.Prelude.{◌≡◌, ℕ, ◌<◌, List, [], ◌∷◌, ◌++◌, Some, length, slice_get, ⊤}
 use Rattle.std.specs.List.{AllByRecursion}
 use Rattle.phase_laws.specs.Order.{IsAscendingByNumber}
 use Rattle.phase_laws.specs.Numbers.{last_by}
+use Rattle.request_scripts.specs.Scripts.{script_at}
 use Rattle.auction_rows.specs.declared.{requests.Request.Request, replies.Reply.Reply, rows.Entry.Entry}
 
 -- what a journal shows
@@ -77,3 +78,12 @@ pub record IsLawfulJournal (journal : JournalView) : Type 0 where
   pub own : AllByRecursion (IsOf journal.phase journal.worker) journal.entries
   -- the entries ascend in number
   pub ascending : IsAscendingByNumber entry_number journal.entries
+
+-- an entry's request is that of a script at its index
+abbrev pub IsOfScript : List Request → Entry → Type 0
+IsOfScript script entry = slice_get script entry.index ≡ Some entry.request
+
+-- the request of each entry is that of its worker's script at its index
+abbrev pub IsJournalOf : List (List Request) → JournalView → Type 0
+IsJournalOf scripts journal =
+    AllByRecursion (IsOfScript (script_at scripts journal.worker)) journal.entries

@@ -7,3 +7,4 @@ pub mod Histories
 pub mod Places
 pub mod Rising
 pub mod HeadLists
+pub mod Asked

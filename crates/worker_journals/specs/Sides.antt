@@ -1,18 +1,15 @@
 -- What a journal keeps beside its heads, and what is said with it.
 use Rattle.std.specs.Prelude.{◌≡◌, ℕ, pos, ◌+◌, ◌-◌, ◌<◌, ◌≤◌, List, [], ◌∷◌, ◌++◌, ⊤, None, length, take, drop, slice_index_or}
 use Rattle.auction_rows.specs.declared.limits.TheConstants.{MOST_SHOWN}
-use Rattle.auction_rows.specs.declared.{requests.Facts.Facts, requests.Request.Request, replies.Reply.Reply, replies.ItemView.ItemView, replies.BidShown.BidShown, replies.ItemShown.ItemShown}
+use Rattle.auction_rows.specs.declared.{replies.Reply.Reply, replies.ItemView.ItemView, replies.BidShown.BidShown, replies.ItemShown.ItemShown}
 use Rattle.auction_rows.specs.declared.replies.Reply.TheVariants.{ItemStored, BidStored, CommentStored, Bought, ItemSeen, BidsSeen, CategorySeen, UserSeen, Refused}
 use Rattle.auction_rows.specs.ItemViews.{item_reply}
-use Rattle.request_scripts.specs.ShortRequests.{facts_in}
 use Rattle.worker_journals.specs.declared.heads.ShortReply.{ShortReply}
 use Rattle.worker_journals.specs.declared.heads.ShortReply.TheVariants as told
 use Rattle.worker_journals.specs.declared.heads.UserSeen.{UserSeen as SeenUser}
 
--- the side lists of a journal: what its requests store and its views show
+-- the side lists of a journal: what its views show
 pub record SideLists : Type 0 where
-  -- the facts that requests store
-  pub facts : List Facts
   -- what views of items show
   pub items : List ItemView
   -- what views of users show
@@ -26,7 +23,7 @@ pub record SideLists : Type 0 where
 
 -- side lists before the first commit
 abbrev pub no_sides : ℕ → SideLists
-no_sides room = record { facts = []; items = []; users = []; bids = []; latest = []; left = room }
+no_sides room = record { items = []; users = []; bids = []; latest = []; left = room }
 
 -- what a reply shows, of each kind
 pub record ShownLists : Type 0 where
@@ -70,10 +67,9 @@ shown_in (UserSeen rating comments) = record nothing_shown {
 }
 shown_in (Refused reason) = nothing_shown
 
--- the side lists with what a request stores and a reply shows, each at the end of its list
-abbrev pub with_commit_of : SideLists → Request → Reply → SideLists
-with_commit_of sides request reply = record {
-  facts = sides.facts ++ facts_in request;
+-- the side lists with what a reply shows, each at the end of its list
+abbrev pub with_reply_of : SideLists → Reply → SideLists
+with_reply_of sides reply = record {
   items = sides.items ++ (shown_in reply).items;
   users = sides.users ++ (shown_in reply).users;
   bids = sides.bids ++ (shown_in reply).bids;

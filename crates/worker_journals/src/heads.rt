@@ -4,38 +4,23 @@ ghost use Rattle.std.specs.Prelude.{◌≡◌, List};
 ghost use Rattle.auction_rows.specs.declared.replies.ItemView.{ItemView};
 ghost use Rattle.auction_rows.specs.declared.replies.BidShown.{BidShown};
 ghost use Rattle.auction_rows.specs.declared.replies.ItemShown.{ItemShown};
+ghost use Rattle.auction_rows.specs.Choosing.{written_by};
+ghost use Rattle.auction_rows.specs.History.{commit};
 ghost use Rattle.auction_rows.specs.StoreReplies.{is_refusal, store_reply};
 ghost use Rattle.worker_journals.specs.declared.heads.UserSeen.{UserSeen as SeenUser};
 ghost use Rattle.worker_journals.specs.Sides.{reply_from};
 
-use auction_rows::{BidId, BuyId, CommentId, ItemId, Refusal, StoreReply};
-use request_scripts::{ShortRequest, SideIndex};
+use auction_rows::{BidId, BuyId, CommentId, ItemId, Object, Refusal, Request, StoreReply};
+use request_scripts::SideIndex;
 
-// A quarter of a cache line.
-const _: () = prove!(size_of::<ToldHead>() == 16);
+// Three words.
+const _: () = prove!(size_of::<Head>() == 24);
 
-// Five words.
-const _: () = prove!(size_of::<AskedHead>() == 40);
-
-/// A commit, but for its phase and worker, which are the journal's.
+/// What is small of a commit, but for its request, and for its phase and worker, which are the
+/// journal's.
 #[derive(Clone, Copy)]
 pub(crate) struct Head {
     pub(crate) number: u64,
-    pub(crate) request: ShortRequest,
-    pub(crate) index: u32,
-    pub(crate) reply: ShortReply,
-}
-
-/// The part of a head that no text of replies reads.
-#[derive(Clone, Copy)]
-pub(crate) struct AskedHead {
-    pub(crate) number: u64,
-    pub(crate) request: ShortRequest,
-}
-
-/// The part of a head that a text of replies reads.
-#[derive(Clone, Copy)]
-pub(crate) struct ToldHead {
     pub(crate) index: u32,
     pub(crate) reply: ShortReply,
 }
@@ -98,6 +83,27 @@ impl ShortReply {
             result ≡ is_refusal (reply_from items users bids latest self) }
     {
         matches!(self, ShortReply::Refused(_))
+    }
+
+    /// The object that a request of a worker writes, to which this is the reply, if it is an
+    /// accepted splittable store.
+    #[inline(always)]
+    pub(crate) fn object_written(self, worker: u32, request: &Request) -> Option<Object>
+        ensures { (items : List ItemView) (users : List SeenUser) (bids : List BidShown)
+            (latest : List ItemShown) →
+            result ≡ written_by (commit worker request.now
+            (reply_from items users bids latest self)) }
+    {
+        match (request, self) {
+            (Request::StoreItem { facts, .. }, ShortReply::ItemStored(id)) if id.worker == worker =>
+                { Some(Object::Category(facts.category)) }
+            (Request::StoreBid { item, .. }, ShortReply::BidStored(id)) if id.worker == worker => {
+                Some(Object::Item(*item))
+            }
+            (Request::StoreComment { about, .. }, ShortReply::CommentStored(id))
+                if id.worker == worker => { Some(Object::User(*about)) }
+            _ => None,
+        }
     }
 }
 

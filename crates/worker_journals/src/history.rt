@@ -1,9 +1,10 @@
 //! The commits of all phases that have closed.
 ghost use Rattle.std.specs.Prelude.{◌≡◌, ℕ, ◌+◌, ◌<◌, ◌^◌, ◌==◌, ◌≤◌, length, map, slice_get, vec_len, IfOk, OnOk, OnErr, IfSome};
 ghost use Rattle.std.specs.List.{AllByRecursion};
+ghost use Rattle.std.specs.Option.{ForSome};
 ghost use Rattle.std.specs.Iterator.{YieldsFirst, item_count};
 ghost use Rattle.phase_laws.specs.Order.{part};
-ghost use Rattle.worker_journals.specs.Journals.{IsLawfulJournal, closed_journal, entry_worker};
+ghost use Rattle.worker_journals.specs.Journals.{IsJournalOf, IsLawfulJournal, closed_journal, entry_worker};
 ghost use Rattle.worker_journals.specs.Merged.{AreByWorker, entries_of, merged};
 ghost use Rattle.worker_journals.specs.Histories.{ArePhase, no_history, with_phase};
 ghost use Rattle.worker_journals.specs.Places.{first_entries};
@@ -13,6 +14,7 @@ use crate::entries::EntryRef;
 use crate::journal::{Journal, SpareLists};
 use crate::merge::{Merging, count_of};
 use auction_rows::{Entry, MOST_WORKERS};
+use request_scripts::SharedScripts;
 use std::alloc::{AllocError, Global};
 use std::marker::Model;
 
@@ -59,17 +61,22 @@ impl History {
         ensures refused { OnErr result (self.new ≡ self.old) }
     {
         let mut lists = Vec::new(*self.phases.allocator());
-        self.add_phase_kept(journals, &mut lists)
+        self.add_phase_on(journals, None, &mut lists)
     }
 
-    /// As `add_phase`, and adds the memory of no entry to what is kept for other journals.
-    pub fn add_phase_kept(
+    /// As `add_phase`, and adds the memory of no entry to what is kept for other journals. If each
+    /// entry's request is the one of its worker's script at its index, the scripts may be given:
+    /// then the requests are read there from now on.
+    pub fn add_phase_on(
         &mut self,
         journals: Vec<Journal>,
+        scripts: Option<&SharedScripts>,
         kept: &mut Vec<SpareLists>,
     ) -> Result<(), AllocError>
         requires few { vec_len journals ≤ MOST_WORKERS }
         requires by_worker { AreByWorker journals.items }
+        requires asked { ForSome scripts (λ scripts.
+            AllByRecursion (IsJournalOf scripts.now) journals.items) }
         ensures added { OnOk result (self.new ≡ with_phase self.old journals.items) }
         ensures lawful { OnOk result (AllByRecursion IsLawfulJournal journals.items) }
         ensures refused { OnErr result (self.new ≡ self.old) }
@@ -77,7 +84,7 @@ impl History {
         let count = count_of(&journals).ok_or(AllocError)?;
         let len = self.len.checked_add(count).ok_or(AllocError)?;
         let mut journals = journals;
-        close_all(&mut journals, kept)?;
+        close_all(&mut journals, scripts, kept)?;
         self.phases.push(journals)?;
         self.len = len;
         Ok(())
@@ -351,12 +358,34 @@ fn later(worker: u32, other: u32) -> u32
     if worker < other { other } else { worker }
 }
 
-// Closes all journals, and adds their memory of no entry to what is kept.
-fn close_all(journals: &mut [Journal], kept: &mut Vec<SpareLists>) -> Result<(), AllocError>
+// Closes all journals, on scripts if there are any, and adds their memory of no entry to what is
+// kept.
+fn close_all(
+    journals: &mut [Journal],
+    scripts: Option<&SharedScripts>,
+    kept: &mut Vec<SpareLists>,
+) -> Result<(), AllocError>
+    requires asked { ForSome scripts (λ scripts.
+        AllByRecursion (IsJournalOf scripts.now) journals.old) }
     ensures { OnOk result (journals.new ≡ map closed_journal journals.old) }
 {
     for journal in journals.iter_mut() {
-        kept.push(journal.close_kept())?;
+        kept.push(close_one(journal, scripts)?)?;
     }
     Ok(())
+}
+
+// Closes a journal, on its worker's script if there are any.
+fn close_one(
+    journal: &mut Journal,
+    scripts: Option<&SharedScripts>,
+) -> Result<SpareLists, AllocError>
+    requires asked { ForSome scripts (λ scripts. IsJournalOf scripts.now journal.old) }
+    ensures { OnOk result (journal.new ≡ closed_journal journal.old) }
+{
+    let Some(scripts) = scripts else {
+        return Ok(journal.close_kept());
+    };
+    let own = scripts.own(journal.worker())?;
+    Ok(journal.close_on(own))
 }

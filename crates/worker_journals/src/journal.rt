@@ -1,17 +1,17 @@
 //! What one worker commits in one phase.
 ghost use Rattle.std.specs.Prelude.{◌≡◌, ◌<◌, ◌≤◌, true, ◌+◌, ◌^◌, ◌==◌, Some, length, map, option_map, option_to_list, slice_get, IfOk, IfSome};
 ghost use Rattle.std.specs.Iterator.{YieldsFirst, item_count};
+ghost use Rattle.std.specs.List.{AllByRecursion};
 ghost use Rattle.auction_rows.specs.Choosing.{written_by};
-ghost use Rattle.worker_journals.specs.Journals.{IsLawfulJournal, ComesAfter, closed_journal, empty_journal, entry_index, entry_number, with_commit};
+ghost use Rattle.worker_journals.specs.Journals.{IsLawfulJournal, IsOfScript, ComesAfter, closed_journal, empty_journal, entry_index, entry_number, with_commit};
 ghost use Rattle.worker_journals.specs.Rising.{EntriesRiseTo};
-ghost use Rattle.worker_journals.specs.Sides.{no_sides};
 ghost use Rattle.worker_journals.specs.Places.{entry_items, entry_reply, entry_request, entry_store_reply, is_refused};
 
 use crate::entries::{Answer, EntryRef};
 use crate::head_list::Heads;
-use crate::heads::Head;
 use crate::sides::Sides;
 use auction_rows::{Entry, ItemView, Object, Reply, Request, StoreReply};
+use request_scripts::{KeptRequests, OwnScript};
 use std::alloc::{AllocError, Global};
 use std::marker::Model;
 
@@ -19,8 +19,8 @@ use std::marker::Model;
 /// asked for ahead. Contracts see the phase, the worker, the entries, and the room: for how many
 /// entries in all a place was asked.
 ///
-/// An entry is kept as a short head; the facts of an item, and what views show, lie in lists of
-/// their own.
+/// An entry is kept as a short head. What views show lies in lists of their own, and so do requests,
+/// until the journal is closed on the script that they are of.
 pub struct Journal {
     phase: u64,
     worker: u32,
@@ -50,13 +50,15 @@ impl Drop for Journal {
 
 /// Memory that a journal left, for what another one keeps beside the heads of its entries.
 pub struct SpareLists {
+    asked: KeptRequests,
     sides: Sides,
 }
 
 // Not derived: a derived drop is made and proved anew in each crate that lets one go.
 impl Drop for SpareLists {
     fn drop(self) {
-        let Self { sides } = self;
+        let Self { asked, sides } = self;
+        drop(asked);
         drop(sides);
     }
 }
@@ -70,12 +72,18 @@ impl Model for SpareLists {
 }
 
 impl SpareLists {
-    // What a journal of so many entries may have beside their heads: none yet.
-    fn emptied(self, room: usize) -> Result<Sides, AllocError>
-        ensures { IfOk result (λ sides. sides ≡ no_sides room) }
-    {
-        let Self { sides } = self;
-        sides.emptied(room)
+    // No memory yet.
+    fn none(alloc: Global) -> SpareLists {
+        SpareLists {
+            asked: KeptRequests::new(alloc),
+            sides: Sides::none(alloc),
+        }
+    }
+
+    // The list of requests, and what lies beside them.
+    fn parts(self) -> (KeptRequests, Sides) {
+        let Self { asked, sides } = self;
+        (asked, sides)
     }
 }
 
@@ -117,11 +125,12 @@ impl Journal {
     ) -> Result<Journal, AllocError>
         ensures { IfOk result (λ journal. journal ≡ empty_journal phase worker room) }
     {
+        let (asked, sides) = lists.unwrap_or(SpareLists::none(alloc)).parts();
         Ok(Journal {
             phase,
             worker,
-            heads: Heads::with_room(alloc, room)?,
-            sides: sides_in(alloc, room, lists)?,
+            heads: Heads::with_room(alloc, room, asked)?,
+            sides: sides.emptied(room)?,
             is_rising: true,
             next: 0,
         })
@@ -147,13 +156,8 @@ impl Journal {
     {
         self.is_rising = still_rise(self.is_rising, self.next, index);
         self.next = u64::from(index) + 1;
-        let (request, reply) = self.sides.keep(request, reply);
-        self.heads.push(Head {
-            number,
-            request,
-            index,
-            reply,
-        });
+        let short = self.sides.keep(reply);
+        self.heads.push(number, index, request, short);
     }
 
     /// The index after the last one, if the indexes rise from this one on.
@@ -179,8 +183,23 @@ impl Journal {
         ensures { self.new ≡ closed_journal self.old }
     {
         self.heads.shrink_to_fit();
+        let sides = self.sides.close();
         SpareLists {
-            sides: self.sides.close(),
+            asked: KeptRequests::new(sides.allocator()),
+            sides,
+        }
+    }
+
+    /// As `close_kept`, of entries whose requests are those of a script by their indexes: they are
+    /// read there from now on, and the memory of their list is given too.
+    pub fn close_on(&mut self, script: OwnScript) -> SpareLists
+        requires { AllByRecursion (IsOfScript script) self.old.entries }
+        ensures { self.new ≡ closed_journal self.old }
+    {
+        let sides = self.sides.close();
+        SpareLists {
+            asked: self.heads.close_on(sides.allocator(), script),
+            sides,
         }
     }
 
@@ -233,13 +252,13 @@ impl Journal {
         requires { place < length self.now.entries }
         ensures { slice_get self.now.entries place ≡ Some result }
     {
-        let head = self.heads.get(place);
+        let head = self.heads.head(place);
         Entry {
             phase: self.phase,
             number: head.number,
             worker: self.worker,
             index: head.index,
-            request: self.sides.request(head.request),
+            request: self.heads.request(place),
             reply: self.sides.reply(head.reply),
         }
     }
@@ -249,7 +268,7 @@ impl Journal {
         requires { place < length self.now.entries }
         ensures { slice_get (map entry_number self.now.entries) place ≡ Some result }
     {
-        self.heads.get(place).number
+        self.heads.head(place).number
     }
 
     /// The index of the entry at a place from 0.
@@ -257,7 +276,7 @@ impl Journal {
         requires { place < length self.now.entries }
         ensures { slice_get (map entry_index self.now.entries) place ≡ Some result }
     {
-        self.heads.get(place).index
+        self.heads.head(place).index
     }
 
     /// What was asked at a place from 0.
@@ -265,7 +284,7 @@ impl Journal {
         requires { place < length self.now.entries }
         ensures { slice_get (map entry_request self.now.entries) place ≡ Some result }
     {
-        self.sides.request(self.heads.get(place).request)
+        self.heads.request(place)
     }
 
     /// The reply at a place from 0, made whole.
@@ -273,7 +292,7 @@ impl Journal {
         requires { place < length self.now.entries }
         ensures { slice_get (map entry_reply self.now.entries) place ≡ Some result }
     {
-        self.sides.reply(self.heads.get(place).reply)
+        self.sides.reply(self.heads.head(place).reply)
     }
 
     /// The reply at a place from 0, if it shows nothing.
@@ -281,7 +300,7 @@ impl Journal {
         requires { place < length self.now.entries }
         ensures { slice_get (map entry_store_reply self.now.entries) place ≡ Some result }
     {
-        self.heads.get(place).reply.as_store_reply()
+        self.heads.head(place).reply.as_store_reply()
     }
 
     /// What the entry at a place from 0 shows of an item, if it is a view of one.
@@ -291,7 +310,7 @@ impl Journal {
         ensures { slice_get (map entry_items self.now.entries) place
             ≡ Some (option_to_list (option_map (λ seen. seen.now) result)) }
     {
-        self.sides.item_seen(self.heads.get(place).reply)
+        self.sides.item_seen(self.heads.head(place).reply)
     }
 
     /// Whether the entry at a place from 0 is refused.
@@ -299,7 +318,7 @@ impl Journal {
         requires { place < length self.now.entries }
         ensures { slice_get (map is_refused self.now.entries) place ≡ Some result }
     {
-        self.heads.get(place).reply.is_refusal()
+        self.heads.head(place).reply.is_refusal()
     }
 
     /// The object that the entry at a place from 0 writes, if it is an accepted splittable store.
@@ -308,9 +327,8 @@ impl Journal {
         requires { place < length self.now.entries }
         ensures { slice_get (map written_by self.now.entries) place ≡ Some result }
     {
-        let head = self.heads.get(place);
-        self.sides
-            .object_written(self.worker, head.request, head.reply)
+        let reply = self.heads.head(place).reply;
+        reply.object_written(self.worker, &self.heads.request(place))
     }
 
     /// For how many entries in all there is a place.
@@ -334,17 +352,6 @@ impl Journal {
         ensures { result ≡ self.now.worker }
     {
         self.worker
-    }
-}
-
-// What a journal of so many entries may have beside their heads: none yet, in lists that another
-// journal left, if there are any.
-fn sides_in(alloc: Global, room: usize, lists: Option<SpareLists>) -> Result<Sides, AllocError>
-    ensures { IfOk result (λ sides. sides ≡ no_sides room) }
-{
-    match lists {
-        Some(lists) => lists.emptied(room),
-        None => Sides::with_room(alloc, room),
     }
 }
 

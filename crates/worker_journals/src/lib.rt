@@ -2,6 +2,7 @@
 //! history, which keeps the journals of all phases and merges them by number while it is read.
 #![tactic(auto)]
 
+mod asked;
 mod entries;
 mod head_list;
 mod heads;
@@ -15,4 +16,4 @@ pub use entries::{Answer, EntryRef, ReplyForm};
 pub use history::{Entries, History, WorkerEntries};
 pub use journal::{Journal, JournalEntries, SpareLists};
 pub use merge::{entries_by_worker, journals_merge, merge_journals, numbers_come_after};
-pub use request_scripts::{BidRequest, Script};
+pub use request_scripts::{BidRequest, Script, SharedScripts};

@@ -1,21 +1,19 @@
 //! What a journal keeps beside its heads.
 ghost use Rattle.std.specs.Prelude.{◌≡◌, ◌+◌, ◌<◌, ◌≤◌, ◌++◌, [], length, take, drop, option_map, option_to_list, vec_len, vec_capacity, IfOk};
-ghost use Rattle.request_scripts.specs.ShortRequests.{HasListRoom, SaysRequest};
+ghost use Rattle.request_scripts.specs.ShortRequests.{HasListRoom};
 ghost use Rattle.worker_journals.specs.Sides.{SaysReply, shown_in};
 
 use crate::entries::{Answer, ReplyForm};
 use crate::heads::{ShortReply, UserSeen};
-use auction_rows::{BidShown, Facts, ItemShown, ItemView, MOST_SHOWN, Object, Reply, Request, Ten};
-use request_scripts::{ShortRequest, SideIndex, keep_one, keep_request};
+use auction_rows::{BidShown, ItemShown, ItemView, MOST_SHOWN, Reply, Ten};
+use request_scripts::{SideIndex, emptied, keep_one};
 use std::alloc::{AllocError, Global};
 use std::marker::Model;
 use std::mem::replace;
 
-/// The facts that the requests of a journal store, and what its views show, with room for those of
-/// `left` commits more.
+/// What the views of a journal show, with room for that of `left` commits more.
 #[derive(Drop)]
 pub(crate) struct Sides {
-    facts: Vec<Facts>,
     items: Vec<ItemView>,
     users: Vec<UserSeen>,
     bids: Vec<BidShown>,
@@ -32,7 +30,6 @@ impl Model for Sides {
     ghost Value = { SideLists };
 
     ghost view = { λ s. record {
-      facts = s.facts.items;
       items = s.items.items;
       users = s.users.items;
       bids = s.bids.items;
@@ -40,33 +37,31 @@ impl Model for Sides {
       left = s.left;
     } };
 
-    ghost invariant = { λ s. HasListRoom s.left (vec_len s.facts) (vec_capacity s.facts)
-        × HasListRoom s.left (vec_len s.items) (vec_capacity s.items)
+    ghost invariant = { λ s. HasListRoom s.left (vec_len s.items) (vec_capacity s.items)
         × HasListRoom s.left (vec_len s.users) (vec_capacity s.users)
         × HasListRoom (MOST_SHOWN * s.left) (vec_len s.bids) (vec_capacity s.bids)
         × HasListRoom (MOST_SHOWN * s.left) (vec_len s.latest) (vec_capacity s.latest) };
 }
 
 impl Sides {
-    ghost use Rattle.auction_rows.specs.Choosing.{written_by};
-    ghost use Rattle.auction_rows.specs.History.{commit};
-    ghost use Rattle.request_scripts.specs.ShortRequests.{HasRequest, SaysRequest, request_from};
-    ghost use Rattle.worker_journals.specs.Sides.{HasReplyWith, SaysReplyWith, no_sides, reply_with, with_commit_of};
+    ghost use Rattle.worker_journals.specs.Sides.{HasReplyWith, SaysReplyWith, no_sides, reply_with, with_reply_of};
 
-    /// Empty lists with room for those of so many commits.
-    pub(crate) fn with_room(alloc: Global, room: usize) -> Result<Sides, AllocError>
-        ensures { IfOk result (λ sides. sides ≡ no_sides room) }
+    /// Empty lists without room.
+    pub(crate) fn none(alloc: Global) -> Sides
+        ensures { result ≡ no_sides 0 }
     {
-        // Past 64 bits there is no such room.
-        let shown = room.saturating_mul(MOST_SHOWN);
-        Ok(Sides {
-            facts: Vec::with_capacity(alloc, room)?,
-            items: Vec::with_capacity(alloc, room)?,
-            users: Vec::with_capacity(alloc, room)?,
-            bids: Vec::with_capacity(alloc, shown)?,
-            latest: Vec::with_capacity(alloc, shown)?,
-            left: room,
-        })
+        Sides {
+            items: Vec::new(alloc),
+            users: Vec::new(alloc),
+            bids: Vec::new(alloc),
+            latest: Vec::new(alloc),
+            left: 0,
+        }
+    }
+
+    /// Where the lists have their memory.
+    pub(crate) fn allocator(&self) -> Global {
+        *self.items.allocator()
     }
 
     /// These lists, emptied, with room for those of so many commits.
@@ -74,7 +69,6 @@ impl Sides {
         ensures { IfOk result (λ sides. sides ≡ no_sides room) }
     {
         let Sides {
-            facts,
             items,
             users,
             bids,
@@ -84,7 +78,6 @@ impl Sides {
         // Past 64 bits there is no such room.
         let shown = room.saturating_mul(MOST_SHOWN);
         Ok(Sides {
-            facts: emptied(facts, room)?,
             items: emptied(items, room)?,
             users: emptied(users, room)?,
             bids: emptied(bids, shown)?,
@@ -107,7 +100,6 @@ impl Sides {
     {
         self.left = 0;
         Sides {
-            facts: close_list(&mut self.facts),
             items: close_list(&mut self.items),
             users: close_list(&mut self.users),
             bids: close_list(&mut self.bids),
@@ -116,46 +108,26 @@ impl Sides {
         }
     }
 
-    /// Keeps what is large of a commit, and gives what is small with the places of the rest. It
-    /// takes no memory.
+    /// Keeps what a reply shows, and gives what is small of it, with the place of the rest. It takes
+    /// no memory.
     #[inline(always)]
-    pub(crate) fn keep(
-        &mut self,
-        request: &Request,
-        reply: &Answer<'_>,
-    ) -> (ShortRequest, ShortReply)
+    pub(crate) fn keep(&mut self, reply: &Answer<'_>) -> ShortReply
         requires { 0 < self.old.left }
-        ensures kept { self.new ≡ with_commit_of self.old request.now reply.now }
-        ensures request { SaysRequest self.new.facts result.0 request.now }
-        ensures reply { SaysReplyWith self.new result.1 reply.now }
+        ensures kept { self.new ≡ with_reply_of self.old reply.now }
+        ensures reply { SaysReplyWith self.new result reply.now }
     {
-        let short_request = keep_request(&mut self.facts, request);
         self.left -= 1;
         match reply.form {
-            ReplyForm::Store(store) => (short_request, ShortReply::of_store(store)),
-            ReplyForm::Item(seen) => {
-                let place = keep_one(&mut self.items, *seen);
-                (short_request, ShortReply::ItemSeen(place))
-            }
-            ReplyForm::Whole(whole) => {
-                let short_reply = keep_reply(
-                    &mut self.items,
-                    &mut self.users,
-                    &mut self.bids,
-                    &mut self.latest,
-                    whole,
-                );
-                (short_request, short_reply)
-            }
+            ReplyForm::Store(store) => ShortReply::of_store(store),
+            ReplyForm::Item(seen) => ShortReply::ItemSeen(keep_one(&mut self.items, *seen)),
+            ReplyForm::Whole(whole) => keep_reply(
+                &mut self.items,
+                &mut self.users,
+                &mut self.bids,
+                &mut self.latest,
+                whole,
+            ),
         }
-    }
-
-    /// The request of a head of this journal.
-    pub(crate) fn request(&self, short: ShortRequest) -> Request
-        requires { HasRequest self.now.facts short }
-        ensures { result ≡ request_from self.now.facts short }
-    {
-        short.whole(&self.facts)
     }
 
     /// The reply of a head of this journal.
@@ -198,53 +170,6 @@ impl Sides {
             _ => None,
         }
     }
-
-    /// The object that a head of this journal writes, if it is an accepted splittable store of the
-    /// worker.
-    #[inline(always)]
-    pub(crate) fn object_written(
-        &self,
-        worker: u32,
-        request: ShortRequest,
-        reply: ShortReply,
-    ) -> Option<Object>
-        requires { HasRequest self.now.facts request }
-        ensures { result ≡ written_by (commit worker (request_from self.now.facts request)
-            (reply_with self.now reply)) }
-    {
-        match request {
-            ShortRequest::StoreItem(facts, _) => match reply {
-                ShortReply::ItemStored(id) if id.worker == worker => {
-                    Some(Object::Category(self.facts[facts.get()].category))
-                }
-                _ => None,
-            },
-            ShortRequest::StoreBid(_, item, ..) => match reply {
-                ShortReply::BidStored(id) if id.worker == worker => Some(Object::Item(item)),
-                _ => None,
-            },
-            ShortRequest::StoreComment(_, about, ..) => match reply {
-                ShortReply::CommentStored(id) if id.worker == worker => Some(Object::User(about)),
-                _ => None,
-            },
-            _ => None,
-        }
-    }
-}
-
-// This list, emptied, if it has so much room, else a new one: to enlarge it would move its memory.
-fn emptied<T: Copy>(mut list: Vec<T>, room: usize) -> Result<Vec<T>, AllocError>
-    ensures items { IfOk result (λ list. list.items ≡ []) }
-    ensures len { IfOk result (λ list. vec_len list ≡ 0) }
-    ensures capacity { IfOk result (λ list. room ≤ vec_capacity list) }
-{
-    if room <= list.capacity() {
-        list.clear();
-        return Ok(list);
-    }
-    let alloc = *list.allocator();
-    drop(list);
-    Vec::with_capacity(alloc, room)
 }
 
 // Gives back the memory that a list does not fill, and if it is empty all to the caller.

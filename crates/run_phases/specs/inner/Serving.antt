@@ -7,7 +7,7 @@ use Rattle.phase_transactions.specs.Performing.{HaveOpening}
 use Rattle.worker_slices.specs.Slicing.{hot_objects}
 use Rattle.worker_slices.specs.Stashes.{StashState}
 use Rattle.phase_transactions.specs.Workers.{WorkerState}
-use Rattle.phase_floor.specs.Closings.{AreReceiptsOf, Leaves}
+use Rattle.phase_floor.specs.Closings.{AreOfScripts, AreReceiptsOf, Leaves}
 use Rattle.phase_floor.specs.Floors.{FloorState, AreBegun, stash_at}
 use Rattle.phase_floor.specs.States.{JoinedState}
 use Rattle.phase_workers.specs.Tasks.{Task, tasks, CanBeDone, HasDoneTask}
@@ -48,6 +48,10 @@ pub record CanPerform (takes : Bool) (initial : List ShardState) (floor : FloorS
   pub receipts_are : (receipts : List WorkerState) →
       AllZip (HasDoneTask takes) (tasks permits scripts first) receipts →
       AreReceiptsOf floor receipts
+  -- with entries whose requests are the scripts'
+  pub asked : (receipts : List WorkerState) →
+      AllZip (HasDoneTask takes) (tasks permits scripts first) receipts →
+      AreOfScripts scripts receipts
 
 -- The workers of a phase have done these tasks, and it has closed with these entries: it leaves
 -- this state and these stashes.

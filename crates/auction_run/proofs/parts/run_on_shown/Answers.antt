@@ -1,4 +1,4 @@
-use Rattle.std.proofs.Common.{◌≡◌, ◌≤◌, ◌∙◌, length, refl, subst, sym}
+use Rattle.std.proofs.Common.{◌≡◌, ◌≤◌, length, refl, subst, sym}
 use Rattle.std.specs.Prelude.{IfErr}
 use Rattle.auction_rows.specs.declared.limits.TheConstants.{MOST_WORKERS}
 use Rattle.job_threads.proofs.ThreadLemmas.{err_as}
@@ -11,11 +11,11 @@ use Rattle.auction_run.proofs.parts.run_on_shown.Goals as goal
 
 pub run_on_checked-requires-clause-ready : goal.run_on_checked-requires-clause-ready
 run_on_checked-requires-clause-ready g c κs within =
-    subst (IsReadyFor c.args.state c.args.policy) (sym (c.as_slice.ensures.value ∙ c.in_ok-compact.ensures)) c.in_default.ensures.checked
+    subst (IsReadyFor c.args.state c.args.policy) (sym c.in_ok-compact.ensures) c.in_default.ensures.checked
 
 pub run_on_checked-requires-clause-few : goal.run_on_checked-requires-clause-few
 run_on_checked-requires-clause-few g c κs within =
-    subst (λ scripts. length scripts ≤ MOST_WORKERS) (sym (c.as_slice.ensures.value ∙ c.in_ok-compact.ensures)) c.in_default.ensures.few
+    subst (λ scripts. length scripts ≤ MOST_WORKERS) (sym c.in_ok-compact.ensures) c.in_default.ensures.few
 
 pub run_on_checked-requires-clause-board : goal.run_on_checked-requires-clause-board
 run_on_checked-requires-clause-board g c κs within = c.requires
@@ -23,13 +23,13 @@ run_on_checked-requires-clause-board g c κs within = c.requires
 pub returns-clause-answer : goal.returns-clause-answer
 returns-clause-answer g c =
     subst (λ scripts. AnswersNextRun c.args.state c.args.policy scripts c.run_on_checked.result)
-    (c.as_slice.ensures.value ∙ c.in_ok-compact.ensures) c.run_on_checked.ensures.answer
+    c.in_ok-compact.ensures c.run_on_checked.ensures.answer
 
 pub returns-clause-board_after_fault : goal.returns-clause-board_after_fault
 returns-clause-board_after_fault g c =
     let B = g.B.Board in let state = c.args.state in
     subst (λ scripts. IfErr c.run_on_checked.result (HasShownFirstNext B.has B.has_refused state c.args.policy scripts c.args.board.now c.run_on_checked.new.board))
-    (c.as_slice.ensures.value ∙ c.in_ok-compact.ensures) c.run_on_checked.ensures.board_after_fault
+    c.in_ok-compact.ensures c.run_on_checked.ensures.board_after_fault
 
 pub returns-in_err-compact-clause-answer : goal.returns-in_err-compact-clause-answer
 returns-in_err-compact-clause-answer g c =

@@ -1,4 +1,4 @@
-use Rattle.std.proofs.Common.{◌≡◌, ◌∙◌, [], subst, sym}
+use Rattle.std.proofs.Common.{◌≡◌, [], subst, sym}
 use Rattle.std.specs.Prelude.{IfErr}
 use Rattle.item_shards.specs.OpeningBooks.{opening_of, rows_of_book}
 use Rattle.job_threads.proofs.ThreadLemmas.{err_as}
@@ -11,7 +11,7 @@ use Rattle.auction_run.proofs.runs.run_shown.Goals as goal
 
 pub run_checked-requires-clause-workers : goal.run_checked-requires-clause-workers
 run_checked-requires-clause-workers g c κs within =
-    subst (HaveWorkers (rows_of_book c.args.book.now)) (sym (c.as_slice.ensures.value ∙ c.in_ok-compact.ensures)) c.in_ok-check.ensures.0
+    subst (HaveWorkers (rows_of_book c.args.book.now)) (sym c.in_ok-compact.ensures) c.in_ok-check.ensures.0
 
 pub run_checked-requires-clause-shards : goal.run_checked-requires-clause-shards
 run_checked-requires-clause-shards g c κs within = c.in_ok-check.ensures.1.0
@@ -21,7 +21,7 @@ run_checked-requires-clause-quotas g c κs within = c.in_ok-check.ensures.1.1.0
 
 pub run_checked-requires-clause-short : goal.run_checked-requires-clause-short
 run_checked-requires-clause-short g c κs within =
-    subst (AreShort (rows_of_book c.args.book.now)) (sym (c.as_slice.ensures.value ∙ c.in_ok-compact.ensures)) c.in_ok-check.ensures.1.1.1
+    subst (AreShort (rows_of_book c.args.book.now)) (sym c.in_ok-compact.ensures) c.in_ok-check.ensures.1.1.1
 
 pub run_checked-requires-clause-board : goal.run_checked-requires-clause-board
 run_checked-requires-clause-board g c κs within = c.requires
@@ -30,14 +30,14 @@ pub returns-clause-answer : goal.returns-clause-answer
 returns-clause-answer g c =
     let book = c.args.book.now in
     subst (λ scripts. AnswersRun (opening_of book) (rows_of_book book) c.args.policy scripts c.run_checked.result)
-    (c.as_slice.ensures.value ∙ c.in_ok-compact.ensures) c.run_checked.ensures.answer
+    c.in_ok-compact.ensures c.run_checked.ensures.answer
 
 pub returns-clause-board_after_fault : goal.returns-clause-board_after_fault
 returns-clause-board_after_fault g c =
     let B = g.B.Board in
     let book = c.args.book.now in
     subst (λ scripts. IfErr c.run_checked.result (HasShownFirst B.has B.has_refused (opening_of book) (rows_of_book book) c.args.policy scripts c.run_checked.new.board))
-    (c.as_slice.ensures.value ∙ c.in_ok-compact.ensures) c.run_checked.ensures.board_after_fault
+    c.in_ok-compact.ensures c.run_checked.ensures.board_after_fault
 
 pub returns-in_err-check-clause-answer : goal.returns-in_err-check-clause-answer
 returns-in_err-check-clause-answer g c =

@@ -1,23 +1,18 @@
-use Rattle.std.proofs.Common.{◌∙◌, sym}
-use Rattle.std.proofs.lemmas.Bool.{false≢true}
-use Rattle.run_phases.proofs.ScriptLemmas.{nothing_left, something_left, one_worker_more, nobody}
+use Rattle.std.proofs.Common.{◌≡◌, ◌<◌, ◌≤◌, ◌⊎◌, ◌∙◌, ℕ, List, ap, length, subst, sym}
+use Rattle.auction_rows.specs.declared.requests.Request.{Request}
+use Rattle.run_laws.specs.Serving.{script_of}
+use Rattle.run_phases.specs.Phases.{waiting_in}
 use Rattle.run_phases.proofs.course.is_left.Goals as goal
 
-pub loop-worker-preserved : goal.loop-worker-preserved
-loop-worker-preserved c = one_worker_more _ c.loop-worker.worker c.loop-worker.invariant
-    (nothing_left c.args.scripts.now c.args.stashes.now c.args.first c.loop-worker.worker c.index-scripts-worker.result c.index-stashes-worker.result c.loop-worker-test.true c.requires
-    c.index-scripts-worker.is c.index-stashes-worker.is
-    (λ some. absurd (false≢true (sym c.if-has_left.false ∙ c.has_left.ensures.1 some))))
+pub is_left_of-requires : goal.is_left_of-requires
+is_left_of-requires c = c.requires ∙ sym (ap length c.as_slice.ensures)
 
-pub returns-then-has_left-clause-some : goal.returns-then-has_left-clause-some
-returns-then-has_left-clause-some c = λ yes. (
-  c.loop-worker.worker,
-  something_left c.args.scripts.now c.args.stashes.now c.args.first c.loop-worker.worker c.index-scripts-worker.result c.index-stashes-worker.result c.loop-worker-test.true c.requires
-      c.index-scripts-worker.is c.index-stashes-worker.is
-      (c.has_left.ensures.0 c.if-has_left.true),
-)
+pub returns-clause-some : goal.returns-clause-some
+returns-clause-some c = λ yes.
+    subst (λ (scripts : List (List Request)). (worker : ℕ) × ((c.args.first < length (script_of scripts worker)) ⊎ (0 < length (waiting_in c.args.stashes.now worker))))
+    c.as_slice.ensures (c.is_left_of.ensures.some yes)
 
 pub returns-clause-none : goal.returns-clause-none
-returns-clause-none c = λ none.
-    nobody c.args.scripts.now c.args.stashes.now c.args.first c.loop-worker.worker c.loop-worker-test.false
-    c.requires c.loop-worker.invariant
+returns-clause-none c = λ no.
+    subst (λ (scripts : List (List Request)). (worker : ℕ) → (length (script_of scripts worker) ≤ c.args.first) × (length (waiting_in c.args.stashes.now worker) ≡ 0))
+    c.as_slice.ensures (c.is_left_of.ensures.none no)

@@ -9,7 +9,7 @@ use Rattle.run_phases.specs.declared.faults.RunFault.TheVariants.{Memory}
 use Rattle.run_phases.specs.Beginning.{HasShards, HasQuotas, BeginsWith}
 use Rattle.run_phases.specs.Boards.{HasShownAfter}
 use Rattle.run_phases.specs.Outcomes.{HasShownFirstAfter}
-use Rattle.run_phases.specs.Phases.{waiting_in, IsMet}
+use Rattle.run_phases.specs.Phases.{waiting_in, AreAsked, IsMet}
 use Rattle.run_phases.specs.inner.Running.{IsRunning}
 use Rattle.run_phases.proofs.BoardLemmas.{begins_shown, can_show, first_shown, has_shown, next_runs, none_shown, not_shown}
 use Rattle.run_phases.proofs.CourseLemmas.{few_phases_now, phase_now, stashes_now, still_goes_on}
@@ -64,6 +64,9 @@ next_phase-requires-clause-running g c κs within =
     let same = c.new-plan.ensures in
     still_goes_on c.args.state c.args.work.policy c.args.work.scripts.now c.requires.begins c.loop-phase._phase c.loop-phase.running c.loop-phase.invariant.running c.loop-phase.invariant.limit same.policy same.scripts
 
+pub next_phase-requires-clause-asked : goal.next_phase-requires-clause-asked
+next_phase-requires-clause-asked g c κs within = subst (λ scripts. AreAsked scripts c.loop-phase.running.stashes.items) (sym c.new-plan.ensures.scripts) c.loop-phase.invariant.asked
+
 pub next_phase-requires-clause-left : goal.next_phase-requires-clause-left
 next_phase-requires-clause-left g c κs within =
     let some = c.is_left.ensures.some (search rules) in
@@ -79,6 +82,7 @@ next_phase-requires-clause-left g c κs within =
 pub loop-phase-init : goal.loop-phase-init
 loop-phase-init g c = record {
   limit = c.in_ok-running.ensures.limit;
+  asked = c.in_ok-running.ensures.asked;
   running = λ rows begins. c.in_ok-running.ensures.running rows c.args.work.policy begins;
   shown = λ rows before begins has. begins_shown g.B.Board.has c.args.state.opening rows before c.args.work.policy c.args.work.scripts.now c.in_ok-running.running c.args.board.now
       (c.in_ok-running.ensures.running (book_of rows before) c.args.work.policy begins) has;
@@ -105,6 +109,7 @@ loop-phase-preserved g c =
     c.in_ok-running-2.running same.policy same.scripts (c.loop-phase.invariant.running rows begins) c.in_ok-running-2.ensures.running in
     record {
       limit = c.in_ok-running-2.ensures.limit ∙ c.loop-phase.invariant.limit;
+      asked = subst (λ scripts. AreAsked scripts c.in_ok-running-2.running.stashes.items) same.scripts c.in_ok-running-2.ensures.asked;
       running = λ rows begins. subst (λ n. IsRunning c.args.state.opening rows c.args.work.policy scripts n c.in_ok-running-2.running) one_more (next rows begins);
       shown = λ rows before begins has. subst (λ n. HasShownAfter g.B.Board.has c.args.state.opening rows before n c.in_ok-running-2.running.history.entries c.show_phase.new.board) one_more
           (has_shown c.args.state.opening (book_of rows before) begins.is_book c.args.work.policy scripts begins.few begins.own c.loop-phase._phase c.in_ok-running-2.running

@@ -7,4 +7,4 @@ pub returns-then-is_empty : goal.returns-then-is_empty
 returns-then-is_empty c = no_first c.args.self.now.heads (eqb-true _ _ (sym c.is_empty.ensures ∙ c.if-is_empty.true))
 
 pub returns : goal.returns
-returns c = sym c.get.ensures
+returns c = sym c.head.ensures

@@ -1,21 +1,15 @@
-use Rattle.std.proofs.Common.{◌∙◌, ap, arith, length, sym}
+use Rattle.std.proofs.Common.{◌∙◌, ap, subst, sym}
+use Rattle.worker_journals.specs.Asked.{HaveRequests, requests_of}
 use Rattle.worker_journals.specs.HeadLists.{HeadList, heads_of}
-use Rattle.worker_journals.proofs.HeadListLemmas.{as_many}
 use Rattle.worker_journals.proofs.head_list.Heads.shrink_to_fit.Goals as goal
 
 pub invariant_of-self : goal.invariant_of-self
 invariant_of-self c =
+    subst (HaveRequests c.shrink_to_fit.new.self) (sym c.shrink_to_fit-2.ensures.items) (c.shrink_to_fit.ensures.have c.self.inside.heads.items c.self.invariant)
+
+pub returns : goal.returns
+returns c =
     let h = c.self.inside in
-    c.shrink_to_fit.new.self.ok.0 ∙ ap length c.shrink_to_fit.ensures.items ∙ sym h.asked.ok.0 ∙ c.self.invariant ∙ h.told.ok.0
-    ∙ sym (ap length c.shrink_to_fit-2.ensures.items) ∙ sym c.shrink_to_fit-2.new.self.ok.0
-
-pub returns-clause-heads : goal.returns-clause-heads
-returns-clause-heads c =
-    (λ i. heads_of (c.shrink_to_fit.ensures.items i) (c.shrink_to_fit-2.ensures.items i)) ∙ ap (λ (l : HeadList). l.heads) c.self.view_is
-
-pub returns-clause-room : goal.returns-clause-room
-returns-clause-room c =
-    let askeds = c.shrink_to_fit.new.self in
-    let tolds = c.shrink_to_fit-2.new.self in
-    let same = sym askeds.ok.0 ∙ invariant_of-self c ∙ tolds.ok.0 in
-    omega (arith, as_many askeds.items tolds.items same, same, askeds.ok.0, tolds.ok.0, c.shrink_to_fit.ensures.capacity, c.shrink_to_fit-2.ensures.capacity)
+    (λ i. heads_of (requests_of c.shrink_to_fit.new.self (c.shrink_to_fit-2.ensures.items i)) (c.shrink_to_fit-2.ensures.items i))
+    ∙ ap (λ rs. heads_of rs h.heads.items) (c.shrink_to_fit.ensures.requests h.heads.items)
+    ∙ ap (λ (l : HeadList). l.heads) c.self.view_is

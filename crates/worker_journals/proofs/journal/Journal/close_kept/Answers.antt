@@ -7,12 +7,11 @@ pub invariant_of-self : goal.invariant_of-self
 invariant_of-self c =
     let j = c.self.inside in
     let heads = c.shrink_to_fit in (
-      closed_kept j.phase j.worker j.heads.heads heads.new.self.heads j.sides c.close.new.self heads.ensures.heads c.close.ensures _ _ c.self.invariant.0
-          heads.ensures.room,
-      subst (λ hs. IsRising j.is_rising hs j.next) (sym heads.ensures.heads) c.self.invariant.1,
+      closed_kept j.phase j.worker j.heads.heads heads.new.self.heads j.sides c.close-sides.new.self heads.ensures c.close-sides.ensures _ _ c.self.invariant.0,
+      subst (λ hs. IsRising j.is_rising hs j.next) (sym heads.ensures) c.self.invariant.1,
     )
 
 pub returns : goal.returns
 returns c =
     let j = c.self.inside in
-    closed_shown j.phase j.worker j.heads.heads c.shrink_to_fit.new.self.heads j.sides c.close.new.self c.shrink_to_fit.ensures.heads c.close.ensures _ c.self.view_is
+    closed_shown j.phase j.worker j.heads.heads c.shrink_to_fit.new.self.heads j.sides c.close-sides.new.self c.shrink_to_fit.ensures c.close-sides.ensures _ c.self.view_is

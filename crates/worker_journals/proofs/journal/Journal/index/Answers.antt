@@ -1,3 +1,6 @@
+use Rattle.std.proofs.Common.{refl}
+use Rattle.worker_journals.specs.declared.heads.Head.{Head}
+use Rattle.worker_journals.specs.HeadLists.{head_in}
 use Rattle.worker_journals.specs.Journals.{entry_index}
 use Rattle.worker_journals.proofs.ReadLemmas.{read_part}
 use Rattle.worker_journals.proofs.journal.Journal.index.Goals as goal
@@ -5,4 +8,4 @@ use Rattle.worker_journals.proofs.journal.Journal.index.Goals as goal
 pub returns : goal.returns
 returns c =
     let j = c.self.inside in
-    rw (← c.self.view_is) (read_part entry_index j.phase j.worker j.sides j.heads.heads _ _ c.get.ensures)
+    rw (← c.self.view_is) (read_part j.phase j.worker j.sides j.heads.heads _ entry_index head_in (λ (h : Head). h.index) _ (λ h. refl) c.head.ensures)

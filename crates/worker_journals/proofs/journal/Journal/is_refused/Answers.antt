@@ -1,10 +1,14 @@
-use Rattle.std.proofs.Common.{◌∙◌, ap, sym}
+use Rattle.std.proofs.Common.{◌∙◌, ap, refl, sym}
 use Rattle.std.specs.Prelude.{Some}
+use Rattle.worker_journals.specs.declared.heads.Head.{Head}
+use Rattle.worker_journals.specs.HeadLists.{head_in}
+use Rattle.auction_rows.specs.StoreReplies.{is_refusal}
 use Rattle.worker_journals.specs.Places.{is_refused}
+use Rattle.worker_journals.specs.Sides.{reply_with}
 use Rattle.worker_journals.proofs.ReadLemmas.{read_part}
 use Rattle.worker_journals.proofs.journal.Journal.is_refused.Goals as goal
 
 pub returns : goal.returns
 returns c =
     let j = c.self.inside in
-    rw (← c.self.view_is) (read_part is_refused j.phase j.worker j.sides j.heads.heads _ _ c.get.ensures ∙ ap (λ x. Some x) (sym (c.is_refusal.ensures j.sides.items j.sides.users j.sides.bids j.sides.latest)))
+    rw (← c.self.view_is) (read_part j.phase j.worker j.sides j.heads.heads _ is_refused head_in (λ (h : Head). is_refusal (reply_with j.sides h.reply)) _ (λ h. refl) c.head.ensures ∙ ap (λ x. Some x) (sym (c.is_refusal.ensures j.sides.items j.sides.users j.sides.bids j.sides.latest)))

@@ -1,10 +1,18 @@
-use Rattle.std.proofs.Common.{◌∙◌, ap, sym}
+use Rattle.std.proofs.Common.{◌∙◌, ap, refl, sym}
 use Rattle.std.specs.Prelude.{Some}
+use Rattle.worker_journals.specs.declared.heads.Head.{Head}
+use Rattle.worker_journals.specs.HeadLists.{head_in}
 use Rattle.worker_journals.specs.Places.{entry_items}
-use Rattle.worker_journals.proofs.ReadLemmas.{read_part}
+use Rattle.worker_journals.specs.Sides.{reply_with, shown_in}
+use Rattle.worker_journals.proofs.ReadLemmas.{has_reply, read_part}
 use Rattle.worker_journals.proofs.journal.Journal.item_seen.Goals as goal
+
+pub item_seen-requires : goal.item_seen-requires
+item_seen-requires c =
+    let j = c.self.inside in
+    has_reply j.sides j.heads.heads c.args.place _ c.self.invariant.0.within c.head.ensures
 
 pub returns : goal.returns
 returns c =
     let j = c.self.inside in
-    rw (← c.self.view_is) (read_part entry_items j.phase j.worker j.sides j.heads.heads _ _ c.get.ensures ∙ ap (λ x. Some x) (sym c.item_seen.ensures))
+    rw (← c.self.view_is) (read_part j.phase j.worker j.sides j.heads.heads _ entry_items head_in (λ (h : Head). (shown_in (reply_with j.sides h.reply)).items) _ (λ h. refl) c.head.ensures ∙ ap (λ x. Some x) (sym c.item_seen.ensures))

@@ -8,9 +8,9 @@ push-requires c = omega (arith, some_left _ _ _ _ _ c.self.view_is c.requires.ro
 
 pub invariant_of-self : goal.invariant_of-self
 invariant_of-self c =
-    let kept = c.keep-request.ensures in (
-      pushed_kept _ _ _ _ _ _ _ _ _ _ _ c.self.invariant.0 (some_left _ _ _ _ _ c.self.view_is c.requires.room) c.push.ensures.heads
-          c.push.ensures.room kept.kept kept.request kept.reply _ c.self.view_is c.requires.after,
+    let kept = c.keep-short.ensures in (
+      pushed_kept _ _ _ _ _ _ _ _ _ _ c.self.invariant.0 (some_left _ _ _ _ _ c.self.view_is c.requires.room) c.push.ensures.heads
+          c.push.ensures.room kept.kept kept.reply _ c.self.view_is c.requires.after,
       (λ still.
           let both = c.still_rise-self-inside.ensures still in
           rw c.from.ensures (heads_pushed _ _ _ _ (c.self.invariant.1 both.0) both.1 c.push.ensures.heads)),
@@ -18,8 +18,8 @@ invariant_of-self c =
 
 pub returns : goal.returns
 returns c =
-    let kept = c.keep-request.ensures in
+    let kept = c.keep-short.ensures in
     record {
-      pushed = pushed_shown _ _ _ _ _ _ _ _ _ _ _ c.self.invariant.0 (some_left _ _ _ _ _ c.self.view_is c.requires.room) c.push.ensures.heads
-          c.push.ensures.room kept.kept kept.request kept.reply _ c.self.view_is;
+      pushed = pushed_shown _ _ _ _ _ _ _ _ _ _ c.self.invariant.0 (some_left _ _ _ _ _ c.self.view_is c.requires.room) c.push.ensures.heads
+          c.push.ensures.room kept.kept kept.reply _ c.self.view_is;
     }

@@ -1,7 +1,7 @@
 use Rattle.std.proofs.Common.{◌≡◌, ℕ, ◌<◌, ◌≤◌, length}
 use Rattle.run_laws.specs.Serving.{script_of}
 use Rattle.run_phases.specs.Phases.{waiting_in}
-use Rattle.run_phases.proofs.course.is_left.Given as goal
+use Rattle.run_phases.proofs.course.is_left_of.Given as goal
 
 abbrev pub invariant-loop-worker : goal.invariant-loop-worker
 invariant-loop-worker l = (w : ℕ) → w < l.worker → (length (script_of l.scripts w) ≤ l.first) × (length (waiting_in l.stashes w) ≡ 0)

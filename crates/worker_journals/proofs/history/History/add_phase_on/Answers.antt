@@ -2,11 +2,14 @@ use Rattle.std.proofs.Common.{◌≡◌, ◌∙◌, sym, ap, subst, map, length,
 use Rattle.std.proofs.lemmas.List.{length-map, with_items_is}
 use Rattle.std.specs.Vec.{with_items}
 use Rattle.std.specs.List.{AllByRecursion}
-use Rattle.worker_journals.specs.Journals.{IsLawfulJournal, closed_journal}
+use Rattle.worker_journals.specs.Journals.{IsJournalOf, IsLawfulJournal, closed_journal}
 use Rattle.worker_journals.specs.Merged.{entry_count}
 use Rattle.worker_journals.specs.Histories.{ArePhase, IsHistory, journals_of}
 use Rattle.worker_journals.proofs.HistoryLemmas.{history_after, kept_after}
-use Rattle.worker_journals.proofs.history.History.add_phase_kept.Goals as goal
+use Rattle.worker_journals.proofs.history.History.add_phase_on.Goals as goal
+
+pub close_all-requires : goal.close_all-requires
+close_all-requires c = record { asked = λ scripts is. subst (AllByRecursion (IsJournalOf scripts.now)) (sym c.deref_mut.ensures.value) (c.requires.asked scripts is) }
 
 pub invariant_of-self : goal.invariant_of-self
 invariant_of-self c =
