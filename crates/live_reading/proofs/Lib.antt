@@ -3,4 +3,5 @@ pub mod LiveLineLemmas
 pub mod LivePartLemmas
 pub mod LiveTakingLemmas
 pub mod MarkLemmas
+pub mod SkippingLemmas
 pub mod TakingLemmas

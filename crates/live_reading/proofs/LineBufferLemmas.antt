@@ -1,8 +1,8 @@
 -- What a buffer of lines holds, and has left.
-use Rattle.std.proofs.Common.{arith, ◌≡◌, ◌≤◌, ◌+◌, ◌-◌, ◌++◌, ◌∙◌, ℕ, List, Option, Some, None, drop, length, take, refl, sym, ap, ap₂}
+use Rattle.std.proofs.Common.{arith, ◌≡◌, ◌≤◌, ◌+◌, ◌-◌, ◌++◌, ◌∙◌, [], ℕ, List, Option, Some, None, drop, length, take, refl, sym, ap, ap₂}
 use Rattle.std.proofs.lemmas.Grind.{common_steps}
-use Rattle.std.proofs.lemmas.List.{drop-drop, drop-take}
-use Rattle.std.specs.Io.KnownBytes.{prepend_known}
+use Rattle.std.proofs.lemmas.List.{append-nil, drop-drop, drop-take}
+use Rattle.std.specs.Io.KnownBytes.{IsAtEnd, prepend_known}
 
 -- after so many bytes were taken
 pub held_after : (buffer : List ℕ) (at filled n : ℕ) → n ≤ length (take (filled - at) (drop at buffer))
@@ -18,6 +18,13 @@ held_after buffer at filled n fits =
 pub known_behind : (held bytes : List ℕ) (rem : Option (List ℕ)) → prepend_known held rem ≡ Some bytes → (left : List ℕ) × (rem ≡ Some left) × (bytes ≡ held ++ left)
 known_behind held bytes None e = absurd (cc e)
 known_behind held bytes (Some left) e = let same : held ++ left ≡ bytes = cc e in (left, refl, sym same)
+
+-- at a reader's end a buffer has left what it holds
+pub all_held : (held bytes : List ℕ) (rem : Option (List ℕ)) → prepend_known held rem ≡ Some bytes → IsAtEnd rem → (bytes ≡ held) × (rem ≡ Some [])
+all_held held bytes None known end = absurd (cc known)
+all_held held bytes (Some left) known end =
+    let same : held ++ left ≡ bytes = cc known in
+    (sym same ∙ ap (λ (ys : List ℕ). held ++ ys) end ∙ append-nil held, ap Some end)
 
 -- what is held at the front of a buffer
 pub at_front : (buffer : List ℕ) (at filled : ℕ) → at ≡ 0 → take (filled - at) (drop at buffer) ≡ take filled buffer

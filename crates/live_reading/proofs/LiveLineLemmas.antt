@@ -21,7 +21,7 @@ use Rattle.record_reading.specs.declared.record.Record.{Record}
 use Rattle.record_reading.specs.Lines.{EndsLine, IsLine, IsWhole, has_no_feed}
 use Rattle.live_reading.specs.LiveLines.{faulty_line, first_worker, in_front, is_long, line_says, lines_of, one_says, records_say}
 use Rattle.record_reading.specs.Records.{read_record, worker_of}
-use Rattle.live_reading.specs.LiveReading.{HasLeft, IsOneOf}
+use Rattle.live_reading.specs.inner.Lines.{HasLeft, IsOneOf}
 use Rattle.record_reading.specs.Reading.{IsPlain}
 use Rattle.record_reading.specs.RecordsLeft.{Left}
 use Rattle.record_reading.proofs.LineLemmas.{feed_no_bom, none_in_none, records_after_feed}

@@ -4,22 +4,22 @@ use Rattle.std.proofs.lemmas.Bool.{cases_Bool}
 use Rattle.std.proofs.lemmas.List.{append-nil}
 use Rattle.csv.specs.Reading.{default_config, records}
 use Rattle.auction_rows.specs.declared.requests.Opened.{Opened}
-use Rattle.record_reading.specs.declared.inputs.TheConstants.{MOST_ROWS_OF_A_PART}
 use Rattle.record_reading.specs.declared.inputs.ReadFault.{ReadFault}
 use Rattle.live_reading.specs.declared.line_buffer.LineBuffer.{LineBuffer}
 use Rattle.live_reading.specs.declared.line_taking.LineStop.{LineStop}
 use Rattle.live_reading.specs.declared.line_taking.LineStop.TheVariants as stop
 use Rattle.live_reading.specs.declared.live_lines.Said.{Said}
 use Rattle.live_reading.specs.declared.live_lines.Said.TheVariants as says
+use Rattle.live_reading.specs.declared.live_parts.LivePart.{LivePart}
 use Rattle.live_reading.specs.declared.part_records.Taken.{Taken}
 use Rattle.record_reading.specs.declared.record.Record.{Record}
 use Rattle.live_reading.specs.LineBuffers.{lines_left}
 use Rattle.live_reading.specs.LiveLines.{begun_after, is_long, line_says, lines_of, lines_say, one_says, records_say, then_say}
 use Rattle.record_reading.specs.Records.{read_record, worker_of}
-use Rattle.live_reading.specs.LiveParts.{GoesOnWith, IsLivePart, MayEndEarly, end_at, left_after, row_said, rows_said}
-use Rattle.live_reading.specs.LiveReading.{MayEnd, StopsAt, records_said, yet_said}
+use Rattle.live_reading.specs.LiveParts.{GoesOnWith, IsLivePart, KeepsLiveWorkers, MayEndEarly, row_said, rows_said}
+use Rattle.live_reading.specs.LiveReading.{records_said}
+use Rattle.live_reading.specs.inner.Taking.{MayEnd, StopsAt, end_at, left_after, yet_said}
 use Rattle.record_reading.specs.Asking.{AskFor, asked_of, nothing_asked, requests_in, rows}
-use Rattle.live_reading.specs.Taking.{KnowsBegun}
 use Rattle.record_reading.proofs.LateRows.{request_after}
 use Rattle.record_reading.proofs.AskingLemmas.{ask_is, ask_none}
 
@@ -70,54 +70,64 @@ no_rows_said workers place (line ∷ rest) =
     still (says.Fault fault) = refl
 
 -- nothing is taken yet
-pub fresh_lines : (workers : ℕ) (all : List Said) (taken : Taken) (left : List ℕ) → asked_of taken.input ≡ nothing_asked workers → taken.requests ≡ 0 → all ≡ yet_said workers taken left
-    → StopsAt workers all taken stop.Full left
-fresh_lines workers all taken left none zero is = record { said = []; front = is; asked = subst (AskFor workers []) (sym none) (ask_none workers); requests = zero }
+pub fresh_lines : (all : List Said) (taken : Taken) (left : List ℕ) → asked_of taken.input ≡ nothing_asked taken.workers → taken.requests ≡ 0 → all ≡ yet_said taken left → StopsAt all taken stop.Full left
+fresh_lines all taken left none zero is = record { said = []; front = is; asked = subst (AskFor taken.workers []) (sym none) (ask_none taken.workers); requests = zero }
 
-module _ {R : Type 0} (rem : R → Option (List ℕ)) (workers most : ℕ) (all : List Said) (taken : Taken) (lines : LineBuffer R) (to : List ℕ) (known : lines_left rem lines ≡ Some to)
-    (knows : KnowsBegun taken) (few : taken.requests ≤ most) (few_rows : vec_len taken.input.rows ≤ MOST_ROWS_OF_A_PART) where
-  goes_on_with : (said : List Record) → taken.requests ≡ requests_in said → GoesOnWith rem said (left_after taken lines workers) (yet_said workers taken to)
+-- the input is of as many workers after a part
+pub keeps_workers : {R : Type 0} (how : LineStop) (taken : Taken) (lines : LineBuffer R) (workers : ℕ) → taken.workers ≡ workers → KeepsLiveWorkers workers (end_at how (left_after taken lines))
+keeps_workers stop.Full taken lines workers same = same
+keeps_workers (stop.Fault fault) taken lines workers same = same
+keeps_workers stop.End taken lines workers same = tt
+
+module _ {R : Type 0} (rem : R → Option (List ℕ)) (all : List Said) (taken : Taken) (lines : LineBuffer R) (to : List ℕ) (known : lines_left rem lines ≡ Some to) where
+  goes_on_with : (said : List Record) → taken.requests ≡ requests_in said → GoesOnWith rem said (left_after taken lines) (yet_said taken to)
   goes_on_with said are = record {
     late = λ some.
-        let begun : taken.begun ≡ true = knows (omega (arith, some, are)) in
-        subst (λ (b : Bool). rows_said (lines_say workers (taken.count + 1) b (lines_of to)) ≡ []) (sym begun) (no_rows_said workers (taken.count + 1) (lines_of to));
+        let begun : taken.begun ≡ true = taken.knows_begun (omega (arith, some, are)) in
+        subst (λ (b : Bool). rows_said (lines_say taken.workers (taken.count + 1) b (lines_of to)) ≡ []) (sym begun) (no_rows_said taken.workers (taken.count + 1) (lines_of to));
     left_is = record { bytes = to; known = known; all_is = refl };
   }
 
   -- so many rows are taken
-  rows_taken : (said : List Record) → AskFor workers said (asked_of taken.input) → length (rows said) ≡ vec_len taken.input.rows
+  rows_taken : (said : List Record) → AskFor taken.workers said (asked_of taken.input) → length (rows said) ≡ vec_len taken.input.rows
   rows_taken said ask = ap (λ (rs : List Opened). length rs) ask.rows_are ∙ sym taken.input.rows.ok.0
 
   may_end : (said : List Record) → taken.requests ≡ requests_in said → length (rows said) ≡ vec_len taken.input.rows → MayEnd taken → MayEndEarly said
   may_end said requests count ends = elim ends [
     | inl some ↦ inl (omega (arith, requests, some))
-    | inr full ↦ inr (omega (arith, count, full, few_rows))
+    | inr full ↦ inr (omega (arith, count, full, taken.few_rows))
   ]
 
+  abbrev its_part : LineStop → LivePart R
+  its_part how = record { input = taken.input; requests = taken.requests; end = end_at how (left_after taken lines) }
+
   -- the part that ends where the taking stopped
-  pub part_at : (how : LineStop) → StopsAt workers all taken how to → (how ≡ stop.Full → MayEnd taken)
-      → IsLivePart rem workers most all (record { input = taken.input; requests = taken.requests; end = end_at how (left_after taken lines workers) })
+  part_at : (how : LineStop) → StopsAt all taken how to → (how ≡ stop.Full → MayEnd taken) → IsLivePart rem taken.workers taken.most all (its_part how)
   part_at stop.Full is some = record {
     said = is.said;
-    asked = ask_is workers is.said (asked_of taken.input) is.asked;
+    asked = ask_is taken.workers is.said (asked_of taken.input) is.asked;
     requests = is.requests;
-    few = subst (λ (n : ℕ). n ≤ most) is.requests few;
-    few_rows = omega (arith, rows_taken is.said is.asked, few_rows);
-    goes_on = (yet_said workers taken to, (may_end is.said is.requests (rows_taken is.said is.asked) (some refl), (is.front, goes_on_with is.said is.requests)));
+    few = subst (λ (n : ℕ). n ≤ taken.most) is.requests taken.few;
+    few_rows = omega (arith, rows_taken is.said is.asked, taken.few_rows);
+    goes_on = (yet_said taken to, (may_end is.said is.requests (rows_taken is.said is.asked) (some refl), (is.front, goes_on_with is.said is.requests)));
   }
   part_at (stop.Fault fault) is some = record {
     said = is.said;
-    asked = ask_is workers is.said (asked_of taken.input) is.asked;
+    asked = ask_is taken.workers is.said (asked_of taken.input) is.asked;
     requests = is.requests;
-    few = subst (λ (n : ℕ). n ≤ most) is.requests few;
-    few_rows = omega (arith, rows_taken is.said is.asked, few_rows);
-    goes_on = (yet_said workers taken to, (is.front, goes_on_with is.said is.requests));
+    few = subst (λ (n : ℕ). n ≤ taken.most) is.requests taken.few;
+    few_rows = omega (arith, rows_taken is.said is.asked, taken.few_rows);
+    goes_on = (yet_said taken to, (is.front, goes_on_with is.said is.requests));
   }
   part_at stop.End is some = record {
     said = is.said;
-    asked = ask_is workers is.said (asked_of taken.input) is.asked;
+    asked = ask_is taken.workers is.said (asked_of taken.input) is.asked;
     requests = is.requests;
-    few = subst (λ (n : ℕ). n ≤ most) is.requests few;
-    few_rows = omega (arith, rows_taken is.said is.asked, few_rows);
+    few = subst (λ (n : ℕ). n ≤ taken.most) is.requests taken.few;
+    few_rows = omega (arith, rows_taken is.said is.asked, taken.few_rows);
     goes_on = is.front ∙ append-nil (records_said is.said);
   }
+
+  pub part_for : (how : LineStop) (workers most : ℕ) → taken.workers ≡ workers → taken.most ≡ most → StopsAt all taken how to → (how ≡ stop.Full → MayEnd taken) → IsLivePart rem workers most all (its_part how)
+  part_for how workers most same_workers same_most is some =
+      subst (λ (w : ℕ). IsLivePart rem w most all (its_part how)) same_workers (subst (λ (m : ℕ). IsLivePart rem taken.workers m all (its_part how)) same_most (part_at how is some))

@@ -1,11 +1,10 @@
 -- What is taken of an input, record by record.
-use Rattle.std.proofs.Common.{arith, ◌≡◌, ◌||◌, ◌+◌, ◌∷◌, ◌++◌, ◌∙◌, [], Bool, List, true, false, refl, ap, if◌then◌else◌, inl, inr}
+use Rattle.std.proofs.Common.{arith, ◌≡◌, ◌<◌, ◌≤◌, ◌||◌, ◌+◌, ◌∷◌, ◌++◌, [], not, ℕ, Bool, List, length, true, false, refl, if◌then◌else◌, inl, inr}
 use Rattle.std.proofs.lemmas.Bool.{cases_Bool}
+use Rattle.std.proofs.lemmas.List.{length-append}
 use Rattle.std.proofs.lemmas.List.Sums.{sum_by-append}
 use Rattle.record_reading.specs.declared.record.Record.{Record}
-use Rattle.live_reading.specs.declared.part_records.Taken.{Taken}
-use Rattle.record_reading.specs.Asking.{requests_in}
-use Rattle.live_reading.specs.Taking.{HasTaken, KnowsBegun}
+use Rattle.record_reading.specs.Asking.{Asked, requests_in, with_record}
 
 pub requests_more : (said : List Record) (first : Record) → requests_in (said ++ (first ∷ [])) ≡ requests_in said + (if first.is_row then 0 else 1)
 requests_more said first = elim (cases_Bool first.is_row) [
@@ -13,15 +12,17 @@ requests_more said first = elim (cases_Bool first.is_row) [
   | inr request ↦ rw (sum_by-append, request) refl
 ]
 
--- a record that is taken is known to be a request, if it is one
-pub knows_more : (old new : Taken) (said : Record) → HasTaken old said new → KnowsBegun old → KnowsBegun new
-knows_more old new said added knows = elim (cases_Bool said.is_row) [
-  | inl row ↦ λ some.
-      let same : new.requests ≡ old.requests + 0 = added.requests ∙ ap (λ (b : Bool). old.requests + (if b then 0 else 1)) row in
-      let before : old.begun ≡ true = knows (omega (arith, some, same)) in
-      rw (added.begun, before) refl
-  | inr request ↦ λ some. rw (added.begun, request) (or_true old.begun)
+-- a record adds a row at most
+pub row_more : (one : Record) (asked : Asked) → length (with_record one asked).rows ≤ length asked.rows + 1
+row_more one asked = elim (cases_Bool one.is_row) [
+  | inl row ↦ rw (row, length-append) (omega arith)
+  | inr request ↦ rw request (omega arith)
 ]
+
+-- if a request was taken, it is known that one was
+pub knows_more : (requests new : ℕ) (begun is_row : Bool) → (0 < requests → begun ≡ true) → new ≡ requests + (if is_row then 0 else 1) → 0 < new → (begun || not is_row) ≡ true
+knows_more requests new begun true knows is some = let before : begun ≡ true = knows (omega (arith, some, is)) in rw before refl
+knows_more requests new begun false knows is some = or_true begun
   where
     or_true : (b : Bool) → (b || true) ≡ true
     or_true true = refl

@@ -7,10 +7,6 @@ use Rattle.live_reading.specs.declared.line_buffer.LineBuffer.{LineBuffer}
 abbrev pub held : {R : Type 0} → LineBuffer R → List ℕ
 held l = take (l.filled - l.at) (drop l.at l.buffer.items)
 
--- the reader underneath
-abbrev pub underneath : {R : Type 0} → LineBuffer R → R
-underneath l = l.reader
-
 -- what it holds, and then what the reader underneath has left, if that is known
 abbrev pub lines_left : {R : Type 0} → (R → Option (List ℕ)) → LineBuffer R → Option (List ℕ)
 lines_left remaining l = prepend_known (held l) (remaining l.reader)

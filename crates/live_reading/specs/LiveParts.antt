@@ -1,19 +1,15 @@
 -- The parts of an input that is read line by line.
-use Rattle.std.specs.Prelude.{ℕ, ◌≡◌, ◌≤◌, ◌+◌, ◌++◌, ◌⊎◌, List, [], ◌∷◌, length, Option, None, Some, true, if◌then◌else◌}
+use Rattle.std.specs.Prelude.{ℕ, ◌≡◌, ◌≤◌, ◌+◌, ◌++◌, ◌⊎◌, List, [], ◌∷◌, length, Option, None, Some, if◌then◌else◌}
 use Rattle.std.specs.List.{filter_map}
 use Rattle.csv.specs.Reading.{strip_bom}
 use Rattle.auction_rows.specs.declared.requests.Opened.{Opened}
 use Rattle.record_reading.specs.declared.inputs.TheConstants.{MOST_ROWS_OF_A_PART}
-use Rattle.live_reading.specs.declared.line_buffer.LineBuffer.{LineBuffer}
-use Rattle.live_reading.specs.declared.line_taking.LineStop.{LineStop}
-use Rattle.live_reading.specs.declared.line_taking.LineStop.TheVariants as stop
 use Rattle.live_reading.specs.declared.live_lines.Said.{Said}
 use Rattle.live_reading.specs.declared.live_lines.Said.TheVariants as says
 use Rattle.live_reading.specs.declared.live_parts.LiveEnd.{LiveEnd}
 use Rattle.live_reading.specs.declared.live_parts.LiveEnd.TheVariants.{More, Fault, All}
 use Rattle.live_reading.specs.declared.live_parts.LiveInput.{LiveInput}
 use Rattle.live_reading.specs.declared.live_parts.LivePart.{LivePart}
-use Rattle.live_reading.specs.declared.part_records.Taken.{Taken}
 use Rattle.record_reading.specs.declared.record.Record.{Record}
 use Rattle.live_reading.specs.LineBuffers.{lines_left}
 use Rattle.live_reading.specs.LiveLines.{lines_of, lines_say}
@@ -27,22 +23,6 @@ pub record HasToSay {R : Type 0} (remaining : R → Option (List ℕ)) (left : L
   pub known : lines_left remaining left.lines ≡ Some bytes
   pub all_is : all ≡ lines_say left.workers (left.count + 1) left.begun
       (lines_of (if left.is_unmarked then bytes else strip_bom bytes))
-
--- what is left of an input after what was taken of it, if its byte order mark was
-abbrev pub left_after : {R : Type 0} → Taken → LineBuffer R → ℕ → LiveInput R
-left_after taken lines workers = record {
-  lines = lines;
-  workers = workers;
-  count = taken.count;
-  begun = taken.begun;
-  is_unmarked = true;
-}
-
--- how it goes on where the taking stopped so
-abbrev pub end_at : {R : Type 0} → LineStop → LiveInput R → LiveEnd R
-end_at stop.Full left = More left
-end_at (stop.Fault fault) left = Fault fault left
-end_at stop.End left = All
 
 -- of how many workers an input is
 abbrev pub live_workers : {R : Type 0} → LiveInput R → ℕ

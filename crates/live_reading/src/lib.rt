@@ -4,6 +4,7 @@
 #![tactic(auto)]
 
 mod line_buffer;
+mod line_skipping;
 mod line_taking;
 mod live_lines;
 mod live_parts;

@@ -20,7 +20,8 @@ pub struct LineBuffer<R> {
 }
 
 impl<R> LineBuffer<R> {
-    ghost use Rattle.live_reading.specs.LineBuffers.{held, underneath};
+    ghost use Rattle.live_reading.specs.LineBuffers.{held};
+    ghost use Rattle.live_reading.specs.inner.Lines.{underneath};
 
     /// What was read and not taken yet.
     pub fn held(&self) -> &[u8]
@@ -83,7 +84,8 @@ impl<R: Read + Drop> LineBuffer<R> {
 
 impl<R: Read> LineBuffer<R> {
     ghost use Rattle.std.specs.Io.KnownBytes.{IsAtEnd};
-    ghost use Rattle.live_reading.specs.LineBuffers.{held, lines_left, underneath};
+    ghost use Rattle.live_reading.specs.LineBuffers.{held, lines_left};
+    ghost use Rattle.live_reading.specs.inner.Lines.{underneath};
 
     /// Reads more, and returns whether there was any, and room for it.
     pub fn read_on(&mut self) -> Result<bool, ReadFault>

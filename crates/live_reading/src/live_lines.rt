@@ -6,7 +6,7 @@ ghost use Rattle.std.specs.Io.Chain.{chain_remaining};
 ghost use Rattle.csv.specs.Reading.{default_config, records};
 ghost use Rattle.record_reading.specs.Lines.{IsLine, IsWhole, has_no_feed};
 ghost use Rattle.live_reading.specs.LiveLines.{first_worker, line_says, one_says, records_say};
-ghost use Rattle.live_reading.specs.LiveReading.{HasLeft, IsOneOf};
+ghost use Rattle.live_reading.specs.inner.Lines.{HasLeft, IsOneOf};
 ghost use Rattle.record_reading.specs.Reading.{IsInputFault};
 ghost use Rattle.record_reading.specs.declared.buffers.TheConstants.{ROOM_TO_READ};
 
@@ -66,7 +66,11 @@ fn worker_in<R: Read>(
 }
 
 /// The worker that a text's first record names, if it is one of so many.
-pub fn first_worker(alloc: Global, text: &[u8], workers: u32) -> Result<Option<u32>, ReadFault>
+pub(crate) fn first_worker(
+    alloc: Global,
+    text: &[u8],
+    workers: u32,
+) -> Result<Option<u32>, ReadFault>
     ensures value { IfOk result (λ worker.
         worker ≡ first_worker workers (records default_config text.now)) }
     ensures fails { IfErr result (λ fault. IsInputFault fault → ⊥) }
@@ -113,7 +117,7 @@ fn said_in<R: Read>(
 
 /// What a line says, as `csv` reads it: nothing if it is blank.
 #[inline(never)]
-pub fn said_of(
+pub(crate) fn said_of(
     alloc: Global,
     line: &[u8],
     workers: u32,
@@ -160,7 +164,7 @@ fn whole_record(
 
 /// What a line says, if it is plain and its record has no fault.
 #[inline(always)]
-pub fn plain_record(line: &[u8], workers: u32, begun: bool) -> Option<Record>
+pub(crate) fn plain_record(line: &[u8], workers: u32, begun: bool) -> Option<Record>
     requires whole { IsWhole line.now }
     requires room { length line.now ≤ ROOM_TO_READ }
     ensures says { IfSome result (λ one. (place : ℕ) →
@@ -172,7 +176,7 @@ pub fn plain_record(line: &[u8], workers: u32, begun: bool) -> Option<Record>
 
 /// How long the first line of a text is, with its line feed; none if it has no line feed.
 #[inline(always)]
-pub fn line_len(text: &[u8]) -> Option<usize>
+pub(crate) fn line_len(text: &[u8]) -> Option<usize>
     ensures len { MatchOption result (has_no_feed text.now ≡ true)
         (λ len. IsWhole (take len text.now)) }
     ensures within { IfSome result (λ len. len ≤ length text.now) }

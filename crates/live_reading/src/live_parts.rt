@@ -4,12 +4,14 @@ ghost use Rattle.std.specs.Prelude.{ℕ, ◌≡◌, ◌≤◌, List, Some, vec_l
 ghost use Rattle.csv.specs.Reading.{strip_bom};
 ghost use Rattle.live_reading.specs.LineBuffers.{lines_left};
 ghost use Rattle.live_reading.specs.LiveLines.{live_says};
-ghost use Rattle.live_reading.specs.LiveParts.{HasToSay, IsLivePart, KeepsLiveWorkers, end_at, left_after, live_workers};
+ghost use Rattle.live_reading.specs.LiveParts.{HasToSay, IsLivePart, KeepsLiveWorkers, live_workers};
+ghost use Rattle.live_reading.specs.inner.Taking.{end_at, left_after};
 ghost use Rattle.record_reading.specs.Reading.{IsInputFault};
 ghost use Rattle.live_reading.specs.declared.live_lines.Said.{Said as Says};
 
 use crate::line_buffer::LineBuffer;
-use crate::line_taking::{LineStop, skip_mark, take_lines};
+use crate::line_skipping::{Front, skip};
+use crate::line_taking::{LineStop, take_lines};
 use crate::live_lines::LineFault;
 use crate::part_records::Taken;
 use record_reading::{CompactInput, ReadFault};
@@ -62,24 +64,21 @@ fn unmarked<R: Read + Drop>(
     if is_unmarked {
         return Ok(lines);
     }
-    skip_mark(&mut lines)?;
+    skip(&mut lines, Front::Mark)?;
     Ok(lines)
 }
 
 // The part that was taken, after which the input goes on with these lines.
-fn part_before<R: Drop>(
-    taken: Taken,
-    lines: LineBuffer<R>,
-    workers: u32,
-    stop: LineStop,
-) -> LivePart<R>
+fn part_before<R: Drop>(taken: Taken, lines: LineBuffer<R>, stop: LineStop) -> LivePart<R>
     ensures { result ≡ record {
       input = taken.input;
       requests = taken.requests;
-      end = end_at stop (left_after taken lines workers);
+      end = end_at stop (left_after taken lines);
     } }
 {
     let Taken {
+        workers,
+        most: _,
         input,
         requests,
         count,
@@ -144,12 +143,14 @@ impl<R: Read + Drop> LiveInput<R> {
         let mut lines = unmarked(lines, is_unmarked)?;
         let input = CompactInput::new(alloc, workers)?;
         let mut taken = Taken {
+            workers,
+            most,
             input,
             requests: 0,
             count,
             begun,
         };
-        let stop = take_lines(alloc, &mut lines, &mut taken, workers, most)?;
-        Ok(part_before(taken, lines, workers, stop))
+        let stop = take_lines(alloc, &mut lines, &mut taken)?;
+        Ok(part_before(taken, lines, stop))
     }
 }

@@ -1,7 +1,7 @@
 use Rattle.std.proofs.Common.{◌≡◌, ◌∙◌, IfNone, ap, drop, subst, sym, true}
 use Rattle.live_reading.specs.LineBuffers.{held}
 use Rattle.record_reading.specs.Lines.{has_no_feed}
-use Rattle.live_reading.specs.LiveReading.{HasRoom, TakesText, stop_at}
+use Rattle.live_reading.specs.inner.Taking.{HasRoom, TakesText, stop_at}
 use Rattle.live_reading.proofs.line_taking.take_held.Goals as goal
 
 pub returns-clause-takes : goal.returns-clause-takes
@@ -9,10 +9,10 @@ returns-clause-takes g c =
     let old = c.args.taken.now in
     let new = c.take_text.new.taken in
     let how = stop_at c.in_ok-at.fault in
-    subst (λ to. TakesText c.args.workers old (held c.args.lines.now) new how to) (sym c.take.ensures.held)
-    (subst (λ xs. TakesText c.args.workers old xs new how (drop c.in_ok-at.at xs)) c.held.ensures.value c.in_ok-at.ensures.takes)
+    subst (λ to. TakesText old (held c.args.lines.now) new how to) (sym c.take.ensures.held)
+    (subst (λ xs. TakesText old xs new how (drop c.in_ok-at.at xs)) c.held.ensures.value c.in_ok-at.ensures.takes)
 
 pub returns-clause-up : goal.returns-clause-up
 returns-clause-up g c =
-    subst (λ xs. IfNone c.in_ok-at.fault (HasRoom c.args.most c.take_text.new.taken → has_no_feed xs ≡ true)) (ap (drop c.in_ok-at.at) c.held.ensures.value ∙ sym c.take.ensures.held)
+    subst (λ xs. IfNone c.in_ok-at.fault (HasRoom c.take_text.new.taken → has_no_feed xs ≡ true)) (ap (drop c.in_ok-at.at) c.held.ensures.value ∙ sym c.take.ensures.held)
     c.in_ok-at.ensures.up

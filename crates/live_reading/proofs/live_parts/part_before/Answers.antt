@@ -1,5 +1,5 @@
 use Rattle.std.proofs.Common.{◌≡◌, ◌∙◌, ap, sym}
-use Rattle.live_reading.specs.LiveParts.{end_at, left_after}
+use Rattle.live_reading.specs.inner.Taking.{end_at, left_after}
 use Rattle.live_reading.specs.declared.line_taking.LineStop.{LineStop}
 use Rattle.live_reading.specs.declared.live_parts.LiveEnd.{LiveEnd}
 use Rattle.live_reading.specs.declared.live_parts.LivePart.{LivePart}
@@ -12,7 +12,7 @@ part taken end = record { input = taken.input; requests = taken.requests; end = 
 
 pub returns : goal.returns
 returns g c =
-    let left = left_after c.args.taken c.args.lines c.args.workers in
+    let left = left_after c.args.taken c.args.lines in
     let end : c.match-stop.end ≡ end_at c.args.stop left = elim c.match-stop.branch [
       | in-Full w ↦ w.end-is ∙ ap (λ (stop : LineStop). end_at stop left) (sym w.in-Full.is)
       | in-Fault w ↦ w.end-is ∙ ap (λ (stop : LineStop). end_at stop left) (sym w.in-Fault.is)
