@@ -13,8 +13,8 @@ use Rattle.auction_text.specs.Replies.{lines}
 use Rattle.auction_text.specs.RowLines.{row_line, rows_text}
 use Rattle.auction_text.specs.Scripts.{asked_in, input_of, read_records, rows, script}
 use Rattle.auction_text.specs.InputLimits.{MOST_RECORDS}
-use Rattle.log_opening.specs.ReadBack.{IsWritten, book_asked, said_of}
-use Rattle.log_opening.proofs.RowLineLemmas.{IsReadAs, line_read}
+use Rattle.log_opening.specs.ReadBack.{IsWritten, book_asked}
+use Rattle.log_opening.proofs.RowLineLemmas.{IsReadAs, line_read, said_of}
 
 pub written_read : (workers : ℕ) (row : Row) → workers ≤ 2 ^ 32 → IsWritten workers row → IsReadAs (row_line row) (said_of row)
 written_read workers row few written = line_read row (omega (arith, few, written.0)) written.1

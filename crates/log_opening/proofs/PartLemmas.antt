@@ -33,7 +33,7 @@ use Rattle.auction_text.specs.Replies.{lines}
 use Rattle.auction_text.specs.RowLines.{row_line, row_text, rows_text}
 use Rattle.log_opening.specs.Lines.{AreWholeLines, line_at}
 use Rattle.log_opening.specs.Parts.{AreRowsFrom, HasAdded, HasNoEnd, IsFirstRefused, IsNotTaken, rows_from}
-use Rattle.log_opening.specs.Opening.{place_of}
+use Rattle.log_opening.specs.inner.Reading.{place_of}
 use Rattle.log_opening.specs.ReadBack.{IsInRange}
 use Rattle.log_opening.proofs.AcceptedLemmas.{joined, rows_alone}
 

@@ -19,7 +19,8 @@ use Rattle.auction_text.proofs.BufferLemmas.{held, moved}
 use Rattle.log_opening.specs.CutRows.{is_cut_row}
 use Rattle.log_opening.specs.Lines.{AreLines, AreWholeLines}
 use Rattle.log_opening.specs.Opening.{AreNotRows, HasRowsAndTail, IsRefused, IsRefusedIn, Opens, TellsFirst}
-use Rattle.log_opening.specs.Parts.{HasAdded, HasNoEnd, HasRead, IsReadTo, ReadsRows, TellsRows, TellsSome}
+use Rattle.log_opening.specs.Parts.{HasAdded, HasNoEnd}
+use Rattle.log_opening.specs.inner.Reading.{HasRead, IsReadTo, ReadsRows, TellsRows, TellsSome}
 use Rattle.log_opening.specs.ReadBack.{IsInRange, IsWritten}
 use Rattle.log_opening.specs.declared.opening.LoggedAuction.{LoggedAuction}
 use Rattle.log_opening.specs.declared.opening.OpenFault.{OpenFault}

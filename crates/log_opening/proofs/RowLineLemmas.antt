@@ -6,6 +6,7 @@ use Rattle.std.specs.Prelude.{T}
 use Rattle.std.proofs.lemmas.Fmt.{decimal_digit}
 use Rattle.auction_rows.specs.Stars.{stars_of}
 use Rattle.auction_rows.specs.Book.{worker_of}
+use Rattle.auction_rows.specs.History.{commit_of}
 use Rattle.std.proofs.lemmas.List.{append-nil}
 use Rattle.std.specs.Fmt.{decimal, signed_decimal}
 use Rattle.std.specs.List.{flat_map}
@@ -29,8 +30,12 @@ use Rattle.auction_text.specs.Record.{Record}
 use Rattle.auction_text.proofs.LineLemmas.{first_and_comma, last_and_end, next_and_comma}
 use Rattle.auction_text.proofs.NameLemmas.{name_tested}
 use Rattle.auction_text.proofs.PlainFieldLemmas.{digits_no_bom}
-use Rattle.log_opening.specs.ReadBack.{IsInRange, said_of}
+use Rattle.log_opening.specs.ReadBack.{IsInRange}
 use Rattle.log_opening.proofs.ReadBackLemmas.{digits, item_of, minus_plain, number_of, plain_item, plain_number, quantity_of}
+
+-- what the line of a row says
+abbrev pub said_of : Row → Record
+said_of row = record { is_row = true; worker = worker_of row; request = (commit_of row).request }
 
 -- A line is one record for any continuation, which says this.
 pub record IsReadAs (line : List ℕ) (said : Record) : Type 0 where

@@ -13,8 +13,9 @@ use Rattle.auction_text.specs.Replies.{lines}
 use Rattle.auction_text.specs.RowLines.{row_line}
 use Rattle.auction_text.specs.Scripts.{rows}
 use Rattle.auction_text.specs.Record.{Record}
-use Rattle.log_opening.specs.ReadBack.{IsWritten, said_of}
+use Rattle.log_opening.specs.ReadBack.{IsWritten}
 use Rattle.log_opening.proofs.BookReadLemmas.{none_read, rows_said, written_read}
+use Rattle.log_opening.proofs.RowLineLemmas.{said_of}
 
 pub same_ok : {A E : Type 0} (x y : A) (r : Result A E) → r ≡ Ok x → r ≡ Ok y → x ≡ y
 same_ok x y r one other = cc (sym one ∙ other)

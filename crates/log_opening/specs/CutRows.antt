@@ -3,7 +3,7 @@ use Rattle.std.specs.Prelude.{ℕ, Bool, ◌==◌, ◌&&◌, ◌||◌, List, len
 use Rattle.std.specs.Char.{is_ascii_digit}
 use Rattle.std.specs.List.{list_all}
 use Rattle.auction_text.specs.Fields.{is_printing}
-use Rattle.log_opening.specs.declared.tails.TheConstants.{MOST_OF_A_ROW}
+use Rattle.log_opening.specs.declared.tails.TheConstants.{LONGEST_ROW}
 
 -- the byte at a place is this one, or the text ends before it
 abbrev pub has_at : List ℕ → ℕ → ℕ → Bool
@@ -25,4 +25,4 @@ begins_row text =
 -- byte prints, and it begins as a row does
 abbrev pub is_cut_row : List ℕ → Bool
 is_cut_row text =
-    nat_le (length text) MOST_OF_A_ROW && (list_all is_printing text && begins_row text)
+    nat_le (length text) LONGEST_ROW && (list_all is_printing text && begins_row text)

@@ -22,7 +22,7 @@ use Rattle.log_opening.specs.declared.opening.LoggedAuction.{LoggedAuction}
 use Rattle.log_opening.specs.declared.opening.OpenFault.{OpenFault}
 use Rattle.log_opening.specs.declared.opening.OpenFault.TheVariants as fault
 use Rattle.log_opening.specs.declared.parts.TheConstants.{PART_LEN}
-use Rattle.log_opening.specs.declared.tails.TheConstants.{MOST_OF_A_ROW}
+use Rattle.log_opening.specs.declared.tails.TheConstants.{LONGEST_ROW}
 
 -- ---- what a text opens
 
@@ -55,14 +55,6 @@ pub record Opens (text told now : Option (List ℕ)) (opened : LoggedAuction) : 
   pub tells : Appends told now (rows_text book [])
 
 -- ---- why a text is refused
-
--- the number of the record that has a fault, 0 of other faults
-abbrev pub place_of : ReadFault → ℕ
-place_of (read.Line place cause) = place
-place_of (read.Worker place) = place
-place_of read.Read = 0
-place_of read.Memory = 0
-place_of read.Long = 0
 
 -- a fault of a record that is counted after so many others
 abbrev pub counted_after : ℕ → ReadFault → ReadFault
@@ -109,7 +101,7 @@ abbrev pub AreNotRows : OpenFault → ℕ → ℕ → Opening → Book → List 
 AreNotRows (fault.Tail line) limit workers opening book bytes behind =
     HasNoEnd bytes × (is_cut_row bytes ≡ false) × (behind ≡ []) × (line ≡ length book + 1)
 AreNotRows (fault.Long line) limit workers opening book bytes behind =
-    HasNoEnd bytes × (MOST_OF_A_ROW < length bytes) × (line ≡ length book + 1)
+    HasNoEnd bytes × (LONGEST_ROW < length bytes) × (line ≡ length book + 1)
 AreNotRows (fault.Record of) limit workers opening book bytes behind =
     AreFaulty workers (length book) bytes of
 AreNotRows (fault.Row number taken) limit workers opening book bytes behind =

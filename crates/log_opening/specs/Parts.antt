@@ -1,6 +1,5 @@
 -- Rows that are added to an auction while the text of a log is read.
-use Rattle.std.specs.Prelude.{◌≡◌, ◌≢◌, ◌≤◌, ◌<◌, ◌+◌, ◌^◌, ◌++◌, ℕ, true, List, [], ◌∷◌, All, Option, Some, fold, length, slice_index, take}
-use Rattle.std.specs.Io.KnownBytes.{Appends}
+use Rattle.std.specs.Prelude.{◌≡◌, ◌≢◌, ◌≤◌, ◌<◌, ◌++◌, ℕ, true, List, ◌∷◌, All, Some, fold, length, slice_index, take}
 use Rattle.phase_laws.specs.Replay.{Replays}
 use Rattle.auction_rows.specs.declared.{values.Opening.Opening, requests.Opened.Opened}
 use Rattle.auction_rows.specs.Book.{Book}
@@ -11,10 +10,7 @@ use Rattle.phase_floor.specs.Adding.{IsStartOf}
 use Rattle.phase_floor.specs.States.{JoinedState}
 use Rattle.phase_floor.specs.declared.adding.AddFault.{AddFault}
 use Rattle.phase_floor.specs.declared.adding.AddFault.TheVariants as add
-use Rattle.auction_text.specs.RowLines.{rows_text}
-use Rattle.auction_text.specs.Writing.{IsPartWritten}
 use Rattle.log_opening.specs.ReadBack.{IsInRange}
-use Rattle.log_opening.specs.declared.parts.ReadRows.{ReadRows}
 
 -- requests are rows from a book on, each at its place
 abbrev pub AreRowsFrom : Opening → Book → List Opened → Type 0
@@ -62,52 +58,6 @@ pub record IsFirstRefused (limit : ℕ) (fault : AddFault) (workers : ℕ) (open
   pub place_is : place ≡ length good
   pub are_rows : AreRowsFrom opening book good
   pub not_taken : IsNotTaken limit fault workers opening (rows_from opening book good) bad
-
--- ---- how far a text is read
-
--- So far a text is read: its rows are those of a book, and their text has so many bytes.
-pub record HasRead (reading : ReadRows) (book : Book) : Type 0 where
-  pub start : IsStartOf reading.auction book
-  pub in_range : All IsInRange book
-  pub rows : reading.rows ≡ length book
-  pub kept : reading.kept ≡ length (rows_text book [])
-
--- So far a text is read, and so many bytes more can be counted.
-pub record CanReadOn (reading : ReadRows) (bytes : ℕ) : Type 0 where
-  pub book : Book
-  pub has : HasRead reading book
-  pub room : reading.kept + bytes < 2 ^ 62
-
--- Bytes were read that are the text of more rows, and others behind it.
-pub record ReadsRows (new : ReadRows) (book : Book) (bytes behind : List ℕ) : Type 0 where
-  pub more : Book
-  pub has : HasRead new (book ++ more)
-  pub text : bytes ≡ rows_text more [] ++ behind
-
--- Bytes were read that are the text of more rows, and others behind it, and that text was told.
-pub record TellsRows (new : ReadRows) (book : Book) (bytes behind : List ℕ)
-    (told now : Option (List ℕ)) : Type 0 where
-  pub more : Book
-  pub has : HasRead new (book ++ more)
-  pub text : bytes ≡ rows_text more [] ++ behind
-  pub tells : Appends told now (rows_text more [])
-
--- The rows of a text's first lines are read and told, bytes behind them are held, and others are
--- left.
-pub record IsReadTo (text remaining told now : Option (List ℕ)) (reading : ReadRows)
-    (held : List ℕ) : Type 0 where
-  pub book : Book
-  pub has : HasRead reading book
-  pub tells : Appends told now (rows_text book [])
-  pub known : (all : List ℕ) → text ≡ Some all →
-      (left : List ℕ) × (remaining ≡ Some left) × (all ≡ rows_text book [] ++ (held ++ left))
-
--- At a fault a prefix of the text of rows was told. They are the first of the bytes that were read.
-pub record TellsSome (bytes : List ℕ) (told now : Option (List ℕ)) : Type 0 where
-  pub more : Book
-  pub part : IsPartWritten told now (rows_text more [])
-  pub behind : List ℕ
-  pub text : bytes ≡ rows_text more [] ++ behind
 
 -- no line ends in a text
 abbrev pub HasNoEnd : List ℕ → Type 0

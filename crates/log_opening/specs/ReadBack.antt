@@ -1,15 +1,13 @@
 -- The rows of a log, as they are read back.
-use Rattle.std.specs.Prelude.{◌<◌, ◌≤◌, ◌^◌, ℕ, true, [], map}
+use Rattle.std.specs.Prelude.{◌<◌, ◌≤◌, ◌^◌, ℕ, [], map}
 use Rattle.std.specs.List.{range_with_len}
 use Rattle.auction_rows.specs.declared.limits.TheConstants.{MOST_QUANTITY}
 use Rattle.auction_rows.specs.declared.rows.{ItemRow.ItemRow, BidRow.BidRow, CommentRow.CommentRow, BuyRow.BuyRow, Row.Row}
 use Rattle.auction_rows.specs.declared.rows.Row.TheVariants.{Item, Bid, Comment, Buy}
 use Rattle.auction_rows.specs.Book.{Book, worker_of}
-use Rattle.auction_rows.specs.History.{commit_of}
 use Rattle.auction_rows.specs.Name.{IsName}
 use Rattle.item_shards.specs.OpeningRows.{opened_of}
 use Rattle.auction_text.specs.Scripts.{Asked}
-use Rattle.auction_text.specs.Record.{Record}
 
 -- The fields of a row of each kind are in the ranges of their types. Its own serial is not written.
 pub record IsBidInRange (row : BidRow) : Type 0 where
@@ -53,10 +51,6 @@ IsInRange (Buy row) = IsBuyInRange row
 -- a row that is written: of one of so many workers, with fields in the ranges of their types
 abbrev pub IsWritten : ℕ → Row → Type 0
 IsWritten workers row = (worker_of row < workers) × IsInRange row
-
--- what the line of a row says
-abbrev pub said_of : Row → Record
-said_of row = record { is_row = true; worker = worker_of row; request = (commit_of row).request }
 
 -- the rows of a book, and no request of so many workers
 abbrev pub book_asked : ℕ → Book → Asked

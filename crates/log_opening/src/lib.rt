@@ -7,7 +7,6 @@ mod laws;
 mod lines;
 mod opening;
 mod parts;
-mod ranges;
 mod row_texts;
 mod tails;
 
@@ -19,4 +18,4 @@ pub use laws::{
 pub use lines::{LINE_END, whole_lines};
 pub use opening::{LoggedAuction, OpenFault, open_parts};
 pub use parts::{Refused, add_rows};
-pub use tails::{MOST_OF_A_ROW, is_cut_row};
+pub use tails::{LONGEST_ROW, is_cut_row};

@@ -2,6 +2,8 @@
 ghost use Rattle.std.specs.Prelude.{◌≡◌, ◌≤◌, length};
 ghost use Rattle.log_opening.specs.Lines.{AreWholeLines, line_at};
 
+use record_reading::lines_end;
+
 /// The byte that ends a line.
 pub const LINE_END: u8 = b'\n';
 
@@ -9,11 +11,7 @@ pub const LINE_END: u8 = b'\n';
 pub fn whole_lines(text: &[u8]) -> usize
     ensures { AreWholeLines text.now result }
 {
-    let mut whole = text.len();
-    while whole > 0 && text[whole - 1] != LINE_END {
-        whole -= 1;
-    }
-    whole
+    lines_end(text)
 }
 
 /// The number, from 1, of the line in which a place of a text is.

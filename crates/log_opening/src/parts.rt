@@ -1,23 +1,25 @@
 //! How the text of a log is read part by part: each row is added to an auction as it is read, and
 //! then forgotten.
-ghost use Rattle.std.specs.Prelude.{◌≡◌, ◌≤◌, ◌<◌, ◌+◌, ◌^◌, ◌++◌, ℕ, true, List, [], Some, length, take, IfErr, IfOk, IfSome, OnOk};
+ghost use Rattle.std.specs.Prelude.{◌≡◌, ◌≤◌, ◌<◌, ◌+◌, ◌^◌, ◌++◌, ◌∷◌, ℕ, true, List, [], length, vec_capacity, vec_len, take, IfErr, IfOk, IfSome, OnOk};
 ghost use Rattle.std.specs.Io.KnownBytes.{IsAtEnd};
 ghost use Rattle.auction_rows.specs.Book.{Book};
 ghost use Rattle.phase_floor.specs.Adding.{HasBook, IsSameAuction, IsStartOf};
 ghost use Rattle.log_opening.specs.CutRows.{is_cut_row};
 ghost use Rattle.log_opening.specs.Lines.{AreLines};
-ghost use Rattle.log_opening.specs.Opening.{AreNotRows, IsRefused, IsRefusedIn, TellsFirst, counted_after, place_of};
-ghost use Rattle.log_opening.specs.Parts.{CanReadOn, HasAdded, HasAddedFirst, HasNoEnd, HasRead, IsFirstRefused, IsReadTo, ReadsRows, TellsRows, TellsSome};
+ghost use Rattle.log_opening.specs.Opening.{AreNotRows, IsRefused, IsRefusedIn, TellsFirst, counted_after};
+ghost use Rattle.log_opening.specs.Parts.{HasAdded, HasAddedFirst, HasNoEnd, IsFirstRefused};
+ghost use Rattle.log_opening.specs.ReadBack.{IsInRange};
+ghost use Rattle.log_opening.specs.inner.Reading.{CanReadOn, HasRead, IsReadTo, ReadsRows, TellsRows, TellsSome, place_of};
 
 use crate::lines::{line_at, whole_lines};
 use crate::opening::{LoggedAuction, OpenFault};
-use crate::ranges::is_in_range;
 use crate::row_texts::difference_from;
-use crate::tails::{MOST_OF_A_ROW, is_cut_row};
+use crate::tails::{LONGEST_ROW, is_cut_row};
 use auction_rows::Row;
 use auction_text::{CompactInput, ReadFault, read_compact_scripts, write_last};
 use item_shards::Opened;
 use phase_floor::{AddFault, Joined};
+use record_reading::read_more;
 use std::alloc::Global;
 use std::io::{Read, Write};
 
@@ -70,10 +72,19 @@ pub fn add_rows(alloc: Global, auction: &mut Joined, opened: &[Opened]) -> Resul
             Ok(row) => row,
             Err(fault) => return Err(Refused { place, fault }),
         };
-        is_in_range(&row);
-        rows.push_reserved(row);
+        put_row(&mut rows, row);
     }
     Ok(rows)
+}
+
+// Puts a row behind others, for which there is room. The types of its fields give their ranges:
+// contracts see numbers.
+fn put_row(rows: &mut Vec<Row>, row: Row)
+    requires { vec_len rows.old < vec_capacity rows.old }
+    ensures rows { rows.new.items ≡ rows.old.items ++ row ∷ [] }
+    ensures in_range { IsInRange row }
+{
+    rows.push_reserved(row);
 }
 
 // The fault of a record that is counted after so many others.
@@ -171,7 +182,7 @@ impl ReadRows {
         requires part { length buffer.old ≡ PART_LEN }
         requires start { HasRead self.old [] }
         ensures len { length buffer.new ≡ length buffer.old }
-        ensures few { IfOk result (λ filled. filled ≤ MOST_OF_A_ROW) }
+        ensures few { IfOk result (λ filled. filled ≤ LONGEST_ROW) }
         ensures no_end { IfOk result (λ filled. HasNoEnd (take filled buffer.new)) }
         ensures can { OnOk result (CanReadOn self.new 1) }
         ensures read { IfOk result (λ filled.
@@ -187,12 +198,14 @@ impl ReadRows {
     {
         let mut filled = 0;
         for _ in 0..MOST_PARTS {
-            let now = read_on(buffer, filled, reader)?;
+            let Ok(now) = read_more(buffer, filled, reader) else {
+                return Err(OpenFault::Record(ReadFault::Read));
+            };
             if now == filled {
                 return Ok(filled);
             }
             filled = self.take_lines(alloc, buffer, now, told)?;
-            if filled > MOST_OF_A_ROW {
+            if filled > LONGEST_ROW {
                 return Err(OpenFault::Long(self.rows + 1));
             }
         }
@@ -230,29 +243,5 @@ impl ReadRows {
             kept,
             tail,
         })
-    }
-}
-
-/// Reads on behind what a buffer holds, and returns how much it holds then: the same if nothing is
-/// left.
-pub(crate) fn read_on<R: Read>(
-    buffer: &mut [u8],
-    filled: usize,
-    reader: &mut R,
-) -> Result<usize, OpenFault>
-    requires filled { filled < length buffer.old }
-    ensures len { length buffer.new ≡ length buffer.old }
-    ensures held { take filled buffer.new ≡ take filled buffer.old }
-    ensures more { IfOk result (λ now. filled ≤ now) }
-    ensures within { IfOk result (λ now. now ≤ length buffer.new) }
-    ensures reads { IfOk result (λ now. (all : List ℕ) → R.remaining reader.old ≡ Some all →
-        (left : List ℕ) × (R.remaining reader.new ≡ Some left)
-        × (take filled buffer.old ++ all ≡ take now buffer.new ++ left)) }
-    ensures end { IfOk result (λ now. now ≡ filled → IsAtEnd (R.remaining reader.new)) }
-    ensures fails { IfErr result (λ fault. fault ≡ OpenFault.Record ReadFault.Read) }
-{
-    match reader.read(&mut buffer[filled..]) {
-        Ok(given) => Ok(filled + given),
-        Err(_) => Err(OpenFault::Record(ReadFault::Read)),
     }
 }

@@ -5,7 +5,7 @@ ghost use Rattle.auction_text.specs.Fields.{is_printing};
 ghost use Rattle.log_opening.specs.CutRows.{begins_row, has_at, has_digit_at, is_cut_row};
 
 /// The most bytes that the text of a row has, without its line end.
-pub const MOST_OF_A_ROW: usize = 189;
+pub const LONGEST_ROW: usize = 189;
 
 // Whether the byte at a place is this one, or the text ends before it.
 fn has_at(text: &[u8], at: usize, byte: u8) -> bool
@@ -46,9 +46,9 @@ fn all_print(text: &[u8]) -> bool
 
 // Whether a text is no longer than a row.
 fn is_short(text: &[u8]) -> bool
-    ensures { result ≡ nat_le (length text.now) MOST_OF_A_ROW }
+    ensures { result ≡ nat_le (length text.now) LONGEST_ROW }
 {
-    text.len() <= MOST_OF_A_ROW
+    text.len() <= LONGEST_ROW
 }
 
 /// Whether a text may be the beginning of a row that was being written: it is no longer than a row,

@@ -6,9 +6,7 @@ use crate::logs::mem_file::MemFile;
 use crate::testing::{assert_same, extend};
 use auction_rows::Refusal;
 use auction_text::{Cause, ReadFault};
-use log_opening::{
-    MOST_OF_A_ROW, OpenFault, cut_log, is_cut_row, open_parts, read_log, whole_lines,
-};
+use log_opening::{LONGEST_ROW, OpenFault, cut_log, is_cut_row, open_parts, read_log, whole_lines};
 use part_log::AppendFile;
 use phase_floor::{AddFault, Joined};
 use std::alloc::{AllocError, Global};
@@ -100,7 +98,7 @@ fn what_is_no_cut_row_behind_rows_is_not_cut(rt: HostRuntime) {
 fn what_is_cut_is_no_longer_than_a_row(rt: HostRuntime) {
     let mut tail = Vec::new(rt.alloc());
     extend(&rt, &mut tail, b"1,+");
-    for _ in tail.len()..MOST_OF_A_ROW {
+    for _ in tail.len()..LONGEST_ROW {
         tail.push(b'0').expect(&rt, "memory");
     }
     assert_same(&rt, is_cut_row(tail.as_slice()), true);

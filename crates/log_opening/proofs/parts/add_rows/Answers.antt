@@ -39,8 +39,8 @@ loop-place-preserved c =
       added = λ book start.
           let was = c.loop-place.invariant.added book start in
           let row = c.in-Ok-add.ensures.row (book ++ rows) was.start.is_of in
-          subst (HasAdded old new book (take (c.loop-place.place + 1) all)) (sym (c.push_reserved.ensures.items ∙ ap (λ (before : Book). before ++ c.in-Ok-add.row ∷ []) c.reserve.ensures.items))
-          (added_next old mid book all c.loop-place.place opened within c.index-opened-place.is rows c.loop-place.invariant.same was new c.in-Ok-add.row row.0 row.1 (c.in-Ok-add.ensures.start (book ++ rows) was.start) c.is_in_range.ensures);
+          subst (HasAdded old new book (take (c.loop-place.place + 1) all)) (sym (c.put_row.ensures.rows ∙ ap (λ (before : Book). before ++ c.in-Ok-add.row ∷ []) c.reserve.ensures.items))
+          (added_next old mid book all c.loop-place.place opened within c.index-opened-place.is rows c.loop-place.invariant.same was new c.in-Ok-add.row row.0 row.1 (c.in-Ok-add.ensures.start (book ++ rows) was.start) c.put_row.ensures.in_range);
     }
 
 pub returns-in-Err-clause-first : goal.returns-in-Err-clause-first
