@@ -54,3 +54,7 @@ serve_all-requires-clause-of g c = λ lifetimes within.
     of_one permit _
     (c.push_reserved.ensures.items ∙ ap (λ (l : List WorkerState). l ++ permit ∷ []) (IfOk-at_ok _ c.expect-permits.ensures c.with_capacity.ensures.items))
     (record { phase_is = made.phase; worker_is = ap (λ (k : KeyState). k.worker) made.key ∙ c.requires.worker })
+
+pub serve_all-requires-clause-workers : goal.serve_all-requires-clause-workers
+serve_all-requires-clause-workers g c = λ lifetimes within.
+    omega (arith, c.push_reserved.ensures.len, IfOk-at_ok _ c.expect-permits.ensures c.with_capacity.ensures.len, c.requires.one)
