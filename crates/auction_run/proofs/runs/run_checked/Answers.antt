@@ -18,22 +18,22 @@ use Rattle.auction_run.proofs.runs.run_checked.Goals as goal
 use Rattle.auction_run.proofs.runs.run_checked.Goals.{After-run_from}
 
 pub overflow_cast-workers : goal.overflow_cast-workers
-overflow_cast-workers g c = omega (arith, ap length c.as_slice-workers.ensures, c.requires.workers.few)
+overflow_cast-workers g c = omega (arith, ap length c.as_slice.ensures, c.requires.workers.few)
 
 pub resume-requires-clause-workers : goal.resume-requires-clause-workers
 resume-requires-clause-workers g c =
-    let many = ap length c.as_slice-workers.ensures in
+    let many = ap length c.as_slice.ensures in
     (omega (arith, many, c.requires.workers.some), omega (arith, many, c.requires.workers.few))
 
 pub resume-requires-clause-own : goal.resume-requires-clause-own
 resume-requires-clause-own g c =
-    subst (λ n. All (λ row. worker_of row < n) (rows_of_book c.args.book.now)) (sym (ap length c.as_slice-workers.ensures)) c.requires.workers.own
+    subst (λ n. All (λ row. worker_of row < n) (rows_of_book c.args.book.now)) (sym (ap length c.as_slice.ensures)) c.requires.workers.own
 
 pub run_from-requires-clause-begins : goal.run_from-requires-clause-begins
 run_from-requires-clause-begins g c κs within = λ cannot.
     let made = c.in_ok-state.ensures in let book = c.args.book.now in
     cannot (rows_of_book book) (begins_resumed (opening_of book) (rows_of_book book) c.args.work.policy c.args.work.scripts.now c.in_ok-state.state _
-    made.opening made.limit made.phase made.shards made.workers (sym (ap length c.as_slice-workers.ensures)) made.counters made.stands book.is_book c.requires.workers c.requires.short)
+    made.opening made.limit made.phase made.shards made.workers (sym (ap length c.as_slice.ensures)) made.counters made.stands book.is_book c.requires.workers c.requires.short)
 
 pub run_from-requires-clause-board : goal.run_from-requires-clause-board
 run_from-requires-clause-board g c κs within = λ watched.
@@ -41,7 +41,7 @@ run_from-requires-clause-board g c κs within = λ watched.
       rows = rows_of_book book;
       before = [];
       begins = begins_resumed (opening_of book) (rows_of_book book) c.args.work.policy c.args.work.scripts.now c.in_ok-state.state _
-          made.opening made.limit made.phase made.shards made.workers (sym (ap length c.as_slice-workers.ensures)) made.counters made.stands book.is_book c.requires.workers c.requires.short;
+          made.opening made.limit made.phase made.shards made.workers (sym (ap length c.as_slice.ensures)) made.counters made.stands book.is_book c.requires.workers c.requires.short;
       has_them = subst (λ o. g.B.Board.has c.args.board.now o (rows_of_book book) []) (sym made.opening) c.requires.board;
       few = omega (arith, made.limit);
     }
@@ -51,7 +51,7 @@ module _ (g : given.Over) (c : After-run_from g) where
   begins =
       let made = c.in_ok-state.ensures in let book = c.args.book.now in
       begins_resumed (opening_of book) (rows_of_book book) c.args.work.policy c.args.work.scripts.now c.in_ok-state.state _
-      made.opening made.limit made.phase made.shards made.workers (sym (ap length c.as_slice-workers.ensures)) made.counters made.stands book.is_book c.requires.workers c.requires.short
+      made.opening made.limit made.phase made.shards made.workers (sym (ap length c.as_slice.ensures)) made.counters made.stands book.is_book c.requires.workers c.requires.short
 
   has_none : g.B.Board.has c.args.board.now c.in_ok-state.state.opening (rows_of_book c.args.book.now) []
   has_none = subst (λ o. g.B.Board.has c.args.board.now o (rows_of_book c.args.book.now) []) (sym c.in_ok-state.ensures.opening) c.requires.board
