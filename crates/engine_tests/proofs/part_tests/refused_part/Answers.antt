@@ -3,7 +3,7 @@ use Rattle.std.specs.Prelude.{IfErr}
 use Rattle.auction_run.specs.Boards.{IsUpToDate}
 use Rattle.auction_run.specs.GoingOn.{GivesBack, IsStopped}
 use Rattle.auction_run.specs.declared.checks.Stopped.{Stopped}
-use Rattle.run_phases.specs.declared.course.Outcome.{Outcome}
+use Rattle.auction_run.specs.Outcome.{Outcome}
 use Rattle.engine_tests.proofs.part_tests.refused_part.Goals as goal
 
 pub returns : goal.returns
