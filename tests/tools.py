@@ -276,26 +276,24 @@ MADE_UP = {
     ("bidding mix", "Fundreivo", 1): (1, 0.9, 1.1), ("bidding mix", "Fundreivo, without splitting", 4): (2, 1, 3),
     ("bids on one item", "C, in one pass", 1): (20, 19, 21),
 }
-EXECUTED = {("bids on one item", "Fundreivo", 4): (10, 9, 11), ("bids on one item", "plain Rust, a lock per shard", 4): (30, 29, 31)}
 CLAIMS = """
 import claims
-from figures import EXECUTING, WHOLE_RATE, Figure
-rows = [Figure(table, load, system, workers, 0, 64, 4096, 8, 8, 4 * workers, 480000, measure, *(1e6 * part for part in rates))
-        for table, measure, figures in (("workers", WHOLE_RATE, {}), ("executing", EXECUTING, {})) for (load, system, workers), rates in figures.items()]
+from figures import WHOLE_RATE, Figure
+rows = [Figure("workers", load, system, workers, 0, 64, 4096, 8, 8, 4 * workers, 480000, WHOLE_RATE, *(1e6 * part for part in rates))
+        for (load, system, workers), rates in {}.items()]
 print(claims.cost(rows), claims.gain(rows), claims.level(rows), claims.rates(rows).splitlines()[3], sep="\\n")
 """
 CLAIMED = """\
 Whole commands with 4 workers reach 0.50 (bids on one item) and 0.40 (the bidding mix) of the throughput of the fastest plain Rust or C
-With `--fast` and 4 workers, splitting makes whole commands 2.0 times as fast on bids on one item; on the other loads no difference is shown
-The fastest plain Rust is 2.5 times as fast on the bidding mix; on the other loads no difference is shown. Without reading and writing it is 3.0 times as fast. \
-C in one pass is 2.0 times as fast
+With `--fast` and 4 workers, splitting makes whole commands 2.0 times as fast on bids on one item; on the bidding mix no difference is shown
+The fastest plain Rust is 2.5 times as fast on the bidding mix; on bids on one item no difference is shown
 | speed-up over 1 worker: of 4 | overlap | 2.0 |
 """
 
 
 def claims_of_figures(tally: Tally, _program: Path) -> None:
     """what README.md says of made-up figures: the fastest by its value, and where ranges overlap"""
-    got = run([*PYTHON, "-c", CLAIMS.format(MADE_UP, EXECUTED)], env=os.environ | {"PYTHONPATH": str(BENCH)})
+    got = run([*PYTHON, "-c", CLAIMS.format(MADE_UP)], env=os.environ | {"PYTHONPATH": str(BENCH)})
     tally.same("bench/claims.py", got, Outcome(0, CLAIMED.encode(), b""))
 
 
