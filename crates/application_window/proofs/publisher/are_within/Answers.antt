@@ -1,4 +1,4 @@
-use Rattle.std.proofs.Common.{subst, sym}
+use Rattle.std.proofs.Common.{subst, sym, true≢false}
 use Rattle.std.specs.List.{AllByRecursion}
 use Rattle.split_engine.specs.Serial.{IsWithin}
 use Rattle.std.proofs.lemmas.List.{take_all}
@@ -17,3 +17,6 @@ returns-clause-yes g c _ =
 pub returns-then-not-is_within-clause-no : goal.returns-then-not-is_within-clause-no
 returns-then-not-is_within-clause-no g c _ all =
     c.is_within.ensures.no c.if-not-is_within.true (all_at (λ e. IsWithin g.A.Application.rules c.args.records e.request) c.args.part.now c.loop-place.place c.index-part-place.result c.loop-place-test.true all)
+
+pub returns-clause-no : goal.returns-clause-no
+returns-clause-no g c refused = absurd (true≢false refused)
