@@ -1,22 +1,16 @@
 -- A parcel of an input, read as if nothing were before it, and then added to what was read.
-use Rattle.std.proofs.Common.{arith, ◌≡◌, ◌||◌, ◌<◌, ◌≤◌, ◌+◌, ◌∷◌, ◌++◌, ◌∙◌, [], ℕ, zero, suc, List, Bool, true, false, not, length, take, drop, take_all, refl, sym, ap, subst, append_assoc, inl, inr}
+use Rattle.std.proofs.Common.{arith, ◌≡◌, ◌||◌, ◌<◌, ◌≤◌, ◌+◌, ◌∷◌, ◌++◌, ◌∙◌, [], ℕ, zero, suc, List, Bool, true, false, not, length, refl, sym, ap, subst, append_assoc, inl, inr}
 use Rattle.std.specs.Prelude.{replicate, slice_index_or, slice_set, vec_len}
 use Rattle.std.proofs.lemmas.Bool.{cases_Bool}
-use Rattle.std.proofs.lemmas.List.{append-nil, length-set, nil_from_length, take-append-le}
+use Rattle.std.proofs.lemmas.List.{append-nil, nil_from_length}
 use Rattle.auction_rows.specs.declared.requests.{Request.Request, Opened.Opened}
 use Rattle.record_reading.specs.declared.record.Record.{Record}
 use Rattle.record_reading.specs.declared.inputs.TheConstants.{MOST_RECORDS}
 use Rattle.record_reading.specs.Asking.{Asked, as_row, nothing_asked, with_record}
+use Rattle.record_reading.proofs.AskingLemmas.{count_more}
 use Rattle.auction_reading.specs.declared.plain_text.Progress.{Progress}
 use Rattle.auction_reading.specs.inner.Said.{CanFollow, HasRead, WasRead, begun_after, read_by, with_records}
 use Rattle.auction_reading.specs.inner.Parcels.{CanJoin, joined, nothing_read, read_with, scripts_joined}
-
--- one record more changes no number of scripts
-count_more : (first : Record) (asked : Asked) → length (with_record first asked).scripts ≡ length asked.scripts
-count_more first asked = elim (cases_Bool first.is_row) [
-  | inl row ↦ rw row refl
-  | inr request ↦ rw request (length-set asked.scripts first.worker _)
-]
 
 -- one request more at the end of a second part
 set_joined : (xs ys : List (List Request)) (w : ℕ) (r : Request) → w < length ys → length xs ≡ length ys
@@ -140,7 +134,3 @@ same_workers old parcel can = old.input.scripts.ok.0 ∙ can.workers ∙ sym par
 -- and no rows after a request
 pub no_late_rows : (old parcel : Progress) → CanJoin (read_by old) (read_by parcel) → old.begun ≡ true → vec_len parcel.input.rows ≡ 0
 no_late_rows old parcel can begun = parcel.input.rows.ok.0 ∙ ap length (can.rows begun)
-
--- a list that was lent as a slice, and came back with as many elements
-pub lent_back : {X : Type 0} (len : ℕ) (xs ys : List X) → len ≡ length xs → length ys ≡ length xs → take len (ys ++ drop (length ys) xs) ≡ ys
-lent_back len xs ys is many = take-append-le len ys (drop (length ys) xs) (omega (arith, is, many)) ∙ take_all len ys (omega (arith, is, many))

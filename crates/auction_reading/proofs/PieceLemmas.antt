@@ -1,65 +1,48 @@
 -- A piece of a text, and what was read of it.
-use Rattle.std.proofs.Common.{arith, ◌≡◌, ◌<◌, ◌≤◌, ◌+◌, ◌-◌, ◌++◌, ◌∙◌, ℕ, List, IfSome, drop, get_or, length, take, take-append-drop, sym, ap, subst, append_assoc}
+use Rattle.std.proofs.Common.{arith, ◌≡◌, ◌<◌, ◌≤◌, ◌+◌, ◌-◌, ◌++◌, ◌∙◌, ℕ, List, IfSome, drop, get_or, length, take, take-append-drop, sym, ap, subst}
 use Rattle.std.proofs.lemmas.List.{drop-append-le, drop-drop, get_or-drop, get_or-take, length-drop, length-take-le, take-take}
 use Rattle.record_reading.specs.Lines.{EndsLine}
+use Rattle.record_reading.proofs.DigitLemmas.{span}
 use Rattle.auction_reading.specs.declared.plain_text.Progress.{Progress}
-use Rattle.auction_reading.specs.inner.Said.{HasRead, IsUpTo, WasRead, begun_after, read_by, with_records}
+use Rattle.auction_reading.specs.inner.Said.{HasRead, WasRead, read_by}
 use Rattle.auction_reading.specs.declared.parcels.Parcel.{Parcel}
 use Rattle.auction_reading.specs.inner.Parcels.{IsParcel, nothing_read}
-
--- what is read if there are more bytes behind
-has_read_before : (old new : WasRead) (x y tail : List ℕ) → HasRead old x new y → HasRead old (x ++ tail) new (y ++ tail)
-has_read_before old new x y tail read = record {
-  said = read.said;
-  says = λ workers bytes more count begun asked fits can up_to.
-      subst (λ (left : List ℕ). IsUpTo workers bytes (count + length read.said) (begun_after read.said begun) (with_records read.said asked) left) (sym (append_assoc y tail more))
-      (read.says workers bytes (tail ++ more) count begun asked fits can (subst (λ (left : List ℕ). IsUpTo workers bytes count begun asked left) (append_assoc x tail more) up_to));
-  follows = read.follows;
-  asked = read.asked;
-  workers = read.workers;
-  count = read.count;
-  begun = read.begun;
-  room = read.room;
-}
-
--- a piece of a text
-abbrev pub piece_of : List ℕ → ℕ → ℕ → List ℕ
-piece_of text from end = take (end - from) (drop from text)
+use Rattle.auction_reading.proofs.SaidLemmas.{has_read_before}
 
 -- a piece of a text from a place on, and what is behind it
 module _ (text : List ℕ) (from end : ℕ) (before : from ≤ end) (fits : end ≤ length text) where
-  pub piece_and_rest : piece_of text from end ++ drop end text ≡ drop from text
+  pub piece_and_rest : span text from end ++ drop end text ≡ drop from text
   piece_and_rest =
       let both : from + (end - from) ≡ end = omega (arith, before) in
-      ap (λ (l : List ℕ). piece_of text from end ++ l) (ap (λ (n : ℕ). drop n text) (sym both) ∙ sym (drop-drop (end - from) from text)) ∙ take-append-drop (end - from) (drop from text)
+      ap (λ (l : List ℕ). span text from end ++ l) (ap (λ (n : ℕ). drop n text) (sym both) ∙ sym (drop-drop (end - from) from text)) ∙ take-append-drop (end - from) (drop from text)
 
-  pub piece_length : length (piece_of text from end) ≡ end - from
+  pub piece_length : length (span text from end) ≡ end - from
   piece_length = length-take-le (end - from) (drop from text) (omega (arith, length-drop from text, fits))
 
-  pub left_and_rest : (at : ℕ) → at ≤ length (piece_of text from end) → drop at (piece_of text from end) ++ drop end text ≡ drop (from + at) text
-  left_and_rest at within = sym (drop-append-le at (piece_of text from end) (drop end text) within) ∙ ap (drop at) piece_and_rest ∙ drop-drop at from text
+  pub left_and_rest : (at : ℕ) → at ≤ length (span text from end) → drop at (span text from end) ++ drop end text ≡ drop (from + at) text
+  left_and_rest at within = sym (drop-append-le at (span text from end) (drop end text) within) ∙ ap (drop at) piece_and_rest ∙ drop-drop at from text
 
   -- what is read of the piece is read of the text
-  pub piece_read : (old new : WasRead) (at : ℕ) → at ≤ length (piece_of text from end) → HasRead old (piece_of text from end) new (drop at (piece_of text from end))
+  pub piece_read : (old new : WasRead) (at : ℕ) → at ≤ length (span text from end) → HasRead old (span text from end) new (drop at (span text from end))
       → HasRead old (drop from text) new (drop (from + at) text)
   piece_read old new at within read =
-      let left = drop at (piece_of text from end) in
+      let left = drop at (span text from end) in
       subst (λ (l : List ℕ). HasRead old (drop from text) new l) (left_and_rest at within)
-      (subst (λ (l : List ℕ). HasRead old l new (left ++ drop end text)) piece_and_rest (has_read_before old new (piece_of text from end) left (drop end text) read))
+      (subst (λ (l : List ℕ). HasRead old l new (left ++ drop end text)) piece_and_rest (has_read_before old new (span text from end) left (drop end text) read))
 
   -- a piece of whole lines
-  pub ends_piece : from < end → EndsLine (take end text) → EndsLine (piece_of text from end)
+  pub ends_piece : from < end → EndsLine (take end text) → EndsLine (span text from end)
   ends_piece some ends =
       let long : length (take end text) ≡ end = length-take-le end text fits in
       let last : end - 1 < end = omega (arith, some) in
       let inside : end - from - 1 < end - from = omega (arith, some) in
       let place : from + (end - from - 1) ≡ end - 1 = omega (arith, some) in
-      let here : get_or (piece_of text from end) (end - from - 1) 0 ≡ get_or text (end - 1) 0 =
+      let here : get_or (span text from end) (end - from - 1) 0 ≡ get_or text (end - 1) 0 =
       get_or-take (end - from) (drop from text) (end - from - 1) 0 inside ∙ get_or-drop from text (end - from - 1) 0 ∙ ap (λ (n : ℕ). get_or text n 0) place in
       let there : get_or (take end text) (end - 1) 0 ≡ get_or text (end - 1) 0 = get_or-take end text (end - 1) 0 last in
       record {
         some = omega (arith, piece_length, some);
-        feed = ap (λ (n : ℕ). get_or (piece_of text from end) (n - 1) 0) piece_length ∙ here ∙ sym there ∙ ap (λ (n : ℕ). get_or (take end text) (n - 1) 0) (sym long) ∙ ends.feed;
+        feed = ap (λ (n : ℕ). get_or (span text from end) (n - 1) 0) piece_length ∙ here ∙ sym there ∙ ap (λ (n : ℕ). get_or (take end text) (n - 1) 0) (sym long) ∙ ends.feed;
       }
 
 -- a parcel that was read from nothing on

@@ -1,14 +1,12 @@
 -- How far an input is read, line by line.
-use Rattle.std.proofs.Common.{◌≡◌, ◌==◌, ◌≤◌, ◌∷◌, ◌++◌, ◌∙◌, [], ℕ, List, Bool, Option, Some, Result, Ok, Err, true, false, refl, sym, ap, subst, append_assoc, if◌then◌else◌}
-use Rattle.std.proofs.lemmas.List.{append-nil}
+use Rattle.std.proofs.Common.{◌≡◌, ◌==◌, ◌∷◌, ◌++◌, ◌∙◌, [], ℕ, List, Bool, Option, Result, Ok, Err, true, false, refl, sym, ap, if◌then◌else◌}
 use Rattle.csv.specs.Reading.{default_config, records, strip_bom}
 use Rattle.csv.specs.declared.reader.Reader.{Reader}
 use Rattle.auction_reading.specs.declared.plain_text.Progress.{Progress}
 use Rattle.record_reading.specs.declared.record.Record.{Record}
 use Rattle.record_reading.specs.declared.inputs.CompactInput.{CompactInput}
 use Rattle.record_reading.specs.declared.inputs.ReadFault.{ReadFault}
-use Rattle.record_reading.specs.declared.inputs.TheConstants.{MOST_RECORDS}
-use Rattle.auction_reading.specs.inner.Progress.{IsAtStart, IsReadUpTo, ReadsOn, unmarked}
+use Rattle.auction_reading.specs.inner.Progress.{IsAtStart, IsReadUpTo, unmarked}
 use Rattle.record_reading.specs.Asking.{asked_of, nothing_asked}
 use Rattle.record_reading.specs.Records.{and_then}
 use Rattle.auction_reading.specs.Scripts.{input_of, read_records, records_of}
@@ -29,40 +27,6 @@ nothing_read workers bytes input empty = rw empty (record {
   read = then_all (read_records workers 1 false (records_of bytes));
   asks = ask_none workers;
 })
-
--- where nothing is read, nothing changes
-pub reads_on_none : (progress : Progress) (text : List ℕ) → progress.count ≤ MOST_RECORDS → ReadsOn progress text progress text
-reads_on_none progress text room = record { workers = refl; room = room; reads = λ workers bytes more read. read }
-
--- what is read in two steps
-pub reads_on_then : (a b c : Progress) (x y z : List ℕ) → ReadsOn a x b y → ReadsOn b y c z → ReadsOn a x c z
-reads_on_then a b c x y z first second = record {
-  workers = second.workers ∙ first.workers;
-  room = second.room;
-  reads = λ workers bytes more read. second.reads workers bytes more (first.reads workers bytes more read);
-}
-
--- what is read if there are more bytes behind
-pub reads_on_before : (old new : Progress) (x y tail : List ℕ) → ReadsOn old x new y → ReadsOn old (x ++ tail) new (y ++ tail)
-reads_on_before old new x y tail read = record {
-  workers = read.workers;
-  room = read.room;
-  reads = λ workers bytes more up_to. rw append_assoc (read.reads workers bytes (tail ++ more) (rw append_assoc at up_to));
-}
-
--- what is read once a buffer was filled on from a reader, and lines that it held are read
-pub reads_on_further : (first old new : Progress) (all before held to : List ℕ) (known next : Option (List ℕ))
-    → (left : List ℕ) × (known ≡ Some left) × ReadsOn first all old (before ++ left)
-    → ((left : List ℕ) → known ≡ Some left → (rest : List ℕ) × (next ≡ Some rest) × (before ++ left ≡ held ++ rest))
-    → ReadsOn old held new to → (rest : List ℕ) × (next ≡ Some rest) × ReadsOn first all new (to ++ rest)
-reads_on_further first old new all before held to known next (left, are, so_far) more read =
-    let (rest, now, same) = more left are in
-    let on : ReadsOn old (before ++ left) new (to ++ rest) = subst (λ (xs : List ℕ). ReadsOn old xs new (to ++ rest)) (sym same) (reads_on_before old new held to rest read) in
-    (rest, now, reads_on_then first old new all (before ++ left) (to ++ rest) so_far on)
-
--- what is read up to all bytes of an input
-pub read_on_alone : (workers : ℕ) (bytes : List ℕ) (old new : Progress) (from to : List ℕ) → ReadsOn old from new to → IsReadUpTo workers bytes old from → IsReadUpTo workers bytes new to
-read_on_alone workers bytes old new from to read up_to = rw (append-nil to) at (read.reads workers bytes [] (rw (append-nil from) up_to))
 
 pub same_if : (b : Bool) (xs ys : List ℕ) → xs ≡ ys → (if b then xs else ys) ≡ ys
 same_if true xs ys e = e

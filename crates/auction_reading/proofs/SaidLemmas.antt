@@ -1,15 +1,17 @@
 -- What the records of a text ask for, wherever it stands.
-use Rattle.std.proofs.Common.{arith, ◌≡◌, ◌==◌, ◌&&◌, ◌||◌, ◌<◌, ◌≤◌, ◌+◌, ◌∷◌, ◌++◌, ◌∙◌, [], ℕ, List, Bool, false, not, drop, length, refl, sym, ap, subst, length-append}
+use Rattle.std.proofs.Common.{arith, ◌≡◌, ◌==◌, ◌&&◌, ◌||◌, ◌<◌, ◌≤◌, ◌+◌, ◌∷◌, ◌++◌, ◌∙◌, [], ℕ, List, Bool, Option, Some, false, not, drop, length, refl, sym, ap, subst, append_assoc, length-append, vec_len}
+use Rattle.std.proofs.lemmas.List.{append-nil}
 use Rattle.csv.specs.Reading.{default_config, records, strip_bom}
 use Rattle.auction_reading.specs.declared.plain_text.Progress.{Progress}
 use Rattle.record_reading.specs.declared.record.Record.{Record}
+use Rattle.record_reading.specs.declared.inputs.CompactInput.{CompactInput}
 use Rattle.record_reading.specs.declared.inputs.TheConstants.{MOST_RECORDS}
 use Rattle.record_reading.specs.Lines.{IsLine}
-use Rattle.auction_reading.specs.inner.Said.{CanFollow, HasRead, IsUpTo, SaysRecords, WasRead, begun_after, read_by, with_records}
-use Rattle.auction_reading.specs.inner.Progress.{HasAdded, ReadsOn, unmarked}
-use Rattle.record_reading.specs.Asking.{Asked, asked_of, with_record}
+use Rattle.auction_reading.specs.inner.Said.{CanFollow, HasRead, IsUpTo, ReadsLine, SaysRecords, WasRead, begun_after, read_by, with_records}
+use Rattle.auction_reading.specs.inner.Progress.{HasAdded, IsReadUpTo, unmarked}
+use Rattle.record_reading.specs.Asking.{Asked, asked_of, nothing_asked, with_record}
 use Rattle.auction_reading.specs.Scripts.{records_of}
-use Rattle.auction_reading.proofs.ProgressLemmas.{same_if}
+use Rattle.auction_reading.proofs.ProgressLemmas.{nothing_read, same_if}
 use Rattle.auction_reading.proofs.SoFar.{so_far_more}
 
 -- records one after the other
@@ -77,36 +79,77 @@ has_read_then a b c x y z first second = record {
   room = second.room;
 }
 
+-- what is read if there are more bytes behind
+pub has_read_before : (old new : WasRead) (x y tail : List ℕ) → HasRead old x new y → HasRead old (x ++ tail) new (y ++ tail)
+has_read_before old new x y tail read = record {
+  said = read.said;
+  says = λ workers bytes more count begun asked fits can up_to.
+      subst (λ (left : List ℕ). IsUpTo workers bytes (count + length read.said) (begun_after read.said begun) (with_records read.said asked) left) (sym (append_assoc y tail more))
+      (read.says workers bytes (tail ++ more) count begun asked fits can (subst (λ (left : List ℕ). IsUpTo workers bytes count begun asked left) (append_assoc x tail more) up_to));
+  follows = read.follows;
+  asked = read.asked;
+  workers = read.workers;
+  count = read.count;
+  begun = read.begun;
+  room = read.room;
+}
+
+-- what is read once a buffer was filled on from a reader, and lines that it held are read
+pub has_read_further : (first old new : WasRead) (all before held to : List ℕ) (known next : Option (List ℕ))
+    → (left : List ℕ) × (known ≡ Some left) × HasRead first all old (before ++ left)
+    → ((left : List ℕ) → known ≡ Some left → (rest : List ℕ) × (next ≡ Some rest) × (before ++ left ≡ held ++ rest))
+    → HasRead old held new to → (rest : List ℕ) × (next ≡ Some rest) × HasRead first all new (to ++ rest)
+has_read_further first old new all before held to known next (left, are, so_far) more read =
+    let (rest, now, same) = more left are in
+    let on : HasRead old (before ++ left) new (to ++ rest) = subst (λ (xs : List ℕ). HasRead old xs new (to ++ rest)) (sym same) (has_read_before old new held to rest read) in
+    (rest, now, has_read_then first old new all (before ++ left) (to ++ rest) so_far on)
+
+-- no line is read
+pub reads_no_line : (old : Progress) (text : List ℕ) (at : ℕ) → at < length text → old.count < MOST_RECORDS → ReadsLine old text at old at
+reads_no_line old text at within room =
+    let fits : old.count ≤ MOST_RECORDS = omega (arith, room) in
+    record { after = omega arith; within = omega (arith, within); reads = has_read_none (read_by old) (drop at text) fits }
+
 -- one line more
-pub has_read_line : (old new : Progress) (text : List ℕ) (at : ℕ) (said : Record) (next : ℕ) → IsLine text at said next → HasAdded old said new → old.count < MOST_RECORDS
-    → said.worker < length old.input.scripts.items → (said.is_row && old.begun) ≡ false → HasRead (read_by old) (drop at text) (read_by new) (drop next text)
-has_read_line old new text at said next line added room below early =
+pub reads_line : (old new : Progress) (text : List ℕ) (at : ℕ) (said : Record) (next : ℕ) → IsLine text at said next → HasAdded old said new → old.count < MOST_RECORDS
+    → said.worker < length old.input.scripts.items → (said.is_row && old.begun) ≡ false → ReadsLine old text at new next
+reads_line old new text at said next line added room below early =
     let many : length new.input.scripts.items ≡ length old.input.scripts.items = omega (arith, added.workers, old.input.scripts.ok.0, new.input.scripts.ok.0) in
     let fits : new.count ≤ MOST_RECORDS = omega (arith, added.count, room) in
     record {
-      said = said ∷ [];
-      says = line_says text at said next line;
-      follows = (below, early, tt);
-      asked = added.asked;
-      workers = many;
-      count = added.count;
-      begun = added.begun;
-      room = fits;
+      after = omega (arith, line.after);
+      within = line.within;
+      reads = record {
+        said = said ∷ [];
+        says = line_says text at said next line;
+        follows = (below, early, tt);
+        asked = added.asked;
+        workers = many;
+        count = added.count;
+        begun = added.begun;
+        room = fits;
+      };
     }
 
--- what is read on
-pub read_on : (old new : Progress) (text left : List ℕ) → HasRead (read_by old) text (read_by new) left → ReadsOn old text new left
-read_on old new text left read =
-    let many : length new.input.scripts.items ≡ length old.input.scripts.items = read.workers in
+-- as many workers have scripts
+pub scripts_stay : (old new : Progress) (text left : List ℕ) → HasRead (read_by old) text (read_by new) left → vec_len new.input.scripts ≡ vec_len old.input.scripts
+scripts_stay old new text left read = new.input.scripts.ok.0 ∙ read.workers ∙ sym old.input.scripts.ok.0
+
+-- what was read up to a text is read on
+read_on : (old new : Progress) (text left : List ℕ) → HasRead (read_by old) text (read_by new) left
+    → (workers : ℕ) (bytes more : List ℕ) → IsReadUpTo workers bytes old (text ++ more) → IsReadUpTo workers bytes new (left ++ more)
+read_on old new text left read workers bytes more up_to =
     let counted : new.count ≡ old.count + length read.said = read.count in
     let begun_is : new.begun ≡ begun_after read.said old.begun = read.begun in
     let asks : asked_of new.input ≡ with_records read.said (asked_of old.input) = read.asked in
     let fits : new.count ≤ MOST_RECORDS = read.room in
-    record {
-      workers = omega (arith, many, old.input.scripts.ok.0, new.input.scripts.ok.0);
-      room = fits;
-      reads = λ workers bytes more up_to.
-          let all : length old.input.scripts.items ≡ workers = up_to.asks.workers_are in
-          let end = read.says workers bytes more old.count old.begun (asked_of old.input) (omega (arith, counted, fits)) (subst (λ n. CanFollow n old.begun read.said) all read.follows) up_to in
-          rw (counted, begun_is, asks) end;
-    }
+    let all : length old.input.scripts.items ≡ workers = up_to.asks.workers_are in
+    let end = read.says workers bytes more old.count old.begun (asked_of old.input) (omega (arith, counted, fits)) (subst (λ n. CanFollow n old.begun read.said) all read.follows) up_to in
+    rw (counted, begun_is, asks) end
+
+-- what is read of an input from its first byte on
+pub read_from_start : (workers : ℕ) (bytes : List ℕ) (input : CompactInput) (new : Progress) (to : List ℕ) → asked_of input ≡ nothing_asked workers
+    → HasRead (read_by (record { input = input; count = 0; begun = false })) bytes (read_by new) to → IsReadUpTo workers bytes new to
+read_from_start workers bytes input new to empty read =
+    let start : Progress = record { input = input; count = 0; begun = false } in
+    rw (append-nil to) at (read_on start new bytes to read workers bytes [] (rw (append-nil bytes) (nothing_read workers bytes input empty)))

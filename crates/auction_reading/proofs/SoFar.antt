@@ -1,6 +1,6 @@
 -- What the records that were read ask for, and the records that are left.
-use Rattle.std.proofs.Common.{◌≡◌, ◌<◌, ◌≤◌, ◌+◌, ◌∷◌, ◌∙◌, ◌++◌, ◌||◌, not, ℕ, Bool, true, false, List, [], Option, Some, Result, Ok, Err, refl, sym, ap, arith, nat_lt, append_assoc}
-use Rattle.std.proofs.lemmas.Grind.{common_steps}
+use Rattle.std.proofs.Common.{◌≡◌, ◌<◌, ◌+◌, ◌∷◌, ◌∙◌, ◌++◌, ◌||◌, not, ℕ, Bool, true, false, List, [], Option, Some, Result, Ok, Err, refl, sym, ap, arith, nat_lt, append_assoc}
+use Rattle.std.proofs.lemmas.Bool.{le-ltb}
 use Rattle.std.proofs.lemmas.List.{append-nil}
 use Rattle.csv.specs.Reading.{ReadRecord, default_config, source_of}
 use Rattle.csv.specs.declared.reader.Reader.{Reader}
@@ -21,16 +21,13 @@ one_before : (r : Result (List Record) ReadFault) (said : List Record) (first : 
 one_before (Ok others) said first = ap Ok (sym (append_assoc said (first ∷ []) others))
 one_before (Err f) said first = refl
 
-not_past : (m n : ℕ) → n ≤ m → nat_lt m n ≡ false
-not_past m n h = grind (arith, common_steps)
-
 -- a record without a fault
 pub so_far_more : (workers : ℕ) (all : List (List (List ℕ))) (count : ℕ) (begun : Bool) (fields : List (List ℕ)) (rest : List (List (List ℕ))) (asked : Asked) (first : Record)
     → SoFar workers all count begun (fields ∷ rest) asked → count < MOST_RECORDS → read_record workers (count + 1) begun fields ≡ Ok first → first.worker < workers
     → SoFar workers all (count + 1) (begun || not first.is_row) rest (with_record first asked)
 unfolding read_records
 so_far_more workers all count begun fields rest asked first so_far room e below =
-    let in_room : nat_lt MOST_RECORDS (count + 1) ≡ false = not_past MOST_RECORDS (count + 1) (omega arith) in
+    let in_room : nat_lt MOST_RECORDS (count + 1) ≡ false = le-ltb MOST_RECORDS (count + 1) (omega arith) in
     record {
       said = so_far.said ++ (first ∷ []);
       read = so_far.read ∙ (rw (in_room, e) (one_before (read_records workers (count + 1 + 1) (begun || not first.is_row) rest) so_far.said first));
@@ -43,7 +40,7 @@ so_far_fault : (workers : ℕ) (all : List (List (List ℕ))) (count : ℕ) (beg
     → read_records workers 1 false all ≡ Err f
 unfolding read_records
 so_far_fault workers all count begun fields rest asked f so_far room e =
-    let in_room : nat_lt MOST_RECORDS (count + 1) ≡ false = not_past MOST_RECORDS (count + 1) (omega arith) in
+    let in_room : nat_lt MOST_RECORDS (count + 1) ≡ false = le-ltb MOST_RECORDS (count + 1) (omega arith) in
     so_far.read ∙ (rw (in_room, e) refl)
 
 -- one record too many

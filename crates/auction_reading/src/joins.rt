@@ -1,6 +1,6 @@
 //! What was read of a parcel, joined to what was read before it.
-ghost use Rattle.std.specs.Prelude.{◌≡◌, ◌≤◌, ◌↔◌, [], length, replicate, IfErr, IsTrue, OnOk};
-ghost use Rattle.record_reading.specs.Reading.{IsInputFault};
+ghost use Rattle.std.specs.Prelude.{◌≡◌, ◌≤◌, ◌↔◌, [], length, replicate, IsTrue, OnOk};
+ghost use Rattle.record_reading.specs.Reading.{HasNoInputFault};
 ghost use Rattle.record_reading.specs.declared.inputs.TheConstants.{MOST_RECORDS};
 ghost use Rattle.auction_reading.specs.inner.Parcels.{CanJoin, but_requests, nothing_read, read_with};
 ghost use Rattle.auction_reading.specs.inner.Said.{read_by};
@@ -19,7 +19,7 @@ fn clear_scripts(scripts: &mut [Script])
 }
 
 /// Lets all that was read go, and keeps the memory.
-pub fn clear(progress: &mut Progress)
+pub(crate) fn clear(progress: &mut Progress)
     ensures { read_by progress.new ≡ nothing_read (length progress.new.input.scripts.items) }
 {
     progress.input.rows.clear();
@@ -29,7 +29,7 @@ pub fn clear(progress: &mut Progress)
 }
 
 /// Whether what a parcel asks for can follow what was read before it.
-pub fn can_join(progress: &Progress, parcel: &Progress) -> bool
+pub(crate) fn can_join(progress: &Progress, parcel: &Progress) -> bool
     requires { progress.now.count ≤ MOST_RECORDS }
     ensures { IsTrue result ↔ CanJoin (read_by progress.now) (read_by parcel.now) }
 {
@@ -44,11 +44,11 @@ pub fn can_join(progress: &Progress, parcel: &Progress) -> bool
 
 /// Adds what was read of a parcel to what was read before it, but for its requests. After a fault
 /// what was read is not known.
-pub fn join_rows(progress: &mut Progress, parcel: &Progress) -> Result<(), ReadFault>
+pub(crate) fn join_rows(progress: &mut Progress, parcel: &Progress) -> Result<(), ReadFault>
     requires { CanJoin (read_by progress.old) (read_by parcel.now) }
     ensures joins { OnOk result (read_by progress.new ≡ but_requests (read_by progress.old)
         (read_with (read_by progress.old) (read_by parcel.now))) }
-    ensures fails { IfErr result (λ fault. IsInputFault fault → ⊥) }
+    ensures fails { HasNoInputFault result }
 {
     let Ok(()) = progress.input.rows.extend_from_slice(&parcel.input.rows) else {
         return Err(ReadFault::Memory);

@@ -1,11 +1,13 @@
 //! Whole inputs: the rows and scripts that are read to the end of what a reader gives.
 //!
 //! `scripts` reads plain lines where they lie, and by `csv` from the first line on that is not
-//! plain or has a fault. `by_threads` does the same with several threads: what is read at a time is
-//! cut at ends of lines into parcels, each is read as if nothing stood before it, and they are
-//! joined in their order, the requests of each worker by one thread.
+//! plain or has a fault. `buffered_lines` takes plain lines as they come: by the thread that calls
+//! (`plain_text`), or by several (`by_threads`). What is read at a time is then cut at ends of
+//! lines into parcels, each is read as if nothing stood before it, and they are joined in their
+//! order, the requests of each worker by one thread.
 #![tactic(auto)]
 
+mod buffered_lines;
 mod by_threads;
 mod joins;
 mod laws;

@@ -1,7 +1,7 @@
 //! Parcels of a text, joined in their order: the requests of each worker by a thread of its own.
-ghost use Rattle.std.specs.Prelude.{ℕ, ◌≡◌, ◌<◌, ◌≤◌, ◌+◌, ◌^◌, ◌++◌, drop, length, take, List, IfErr, IfOk, OnOk};
+ghost use Rattle.std.specs.Prelude.{ℕ, ◌≡◌, ◌<◌, ◌≤◌, ◌+◌, ◌^◌, ◌++◌, drop, length, take, List, IfOk, OnOk};
 ghost use Rattle.std.specs.Thread.{IsSync};
-ghost use Rattle.record_reading.specs.Reading.{IsInputFault};
+ghost use Rattle.record_reading.specs.Reading.{HasNoInputFault};
 ghost use Rattle.record_reading.specs.declared.inputs.TheConstants.{MOST_RECORDS};
 ghost use Rattle.auction_reading.specs.inner.Said.{HasRead, read_by};
 ghost use Rattle.auction_reading.specs.inner.Parcels.{AreParcels, all_requests_of, but_requests, read_with_all, requests_of, scripts_with};
@@ -109,7 +109,7 @@ fn join_all_rows(progress: &mut Progress, parcels: &[Parcel]) -> Result<(usize, 
     ensures reads { IfOk result (λ p. (text : List ℕ) → AreParcels text parcels.now →
         HasRead (read_by progress.old) text
         (read_with_all (read_by progress.old) (take p.0 parcels.now)) (drop p.1 text)) }
-    ensures fails { IfErr result (λ fault. IsInputFault fault → ⊥) }
+    ensures fails { HasNoInputFault result }
 {
     let mut many = 0;
     let mut at = 0;
@@ -128,7 +128,7 @@ fn join_all_rows(progress: &mut Progress, parcels: &[Parcel]) -> Result<(usize, 
 /// Adds what was read of the parcels of a text, as far as each begins where the one before it was
 /// read to, and returns the place in the text up to which that is. How far that is, no clause says:
 /// what is left is read by `csv`.
-pub fn join_parcels<R: Threads + Sync>(
+pub(crate) fn join_parcels<R: Threads + Sync>(
     rt: &R,
     progress: &mut Progress,
     parcels: &[Parcel],
@@ -138,7 +138,7 @@ pub fn join_parcels<R: Threads + Sync>(
         at ≤ length text) }
     ensures reads { IfOk result (λ at. (text : List ℕ) → AreParcels text parcels.now →
         HasRead (read_by progress.old) text (read_by progress.new) (drop at text)) }
-    ensures fails { IfErr result (λ fault. IsInputFault fault → ⊥) }
+    ensures fails { HasNoInputFault result }
 {
     let (many, at) = join_all_rows(progress, parcels)?;
     let Ok(()) = join_requests(rt, &parcels[..many], at, &mut progress.input.scripts) else {

@@ -1,8 +1,8 @@
 //! Parcels of a text, each read as if nothing stood before it.
-ghost use Rattle.std.specs.Prelude.{◌≡◌, ◌<◌, ◌≤◌, drop, length, take, vec_len, IfErr, IfOk, IfSome};
+ghost use Rattle.std.specs.Prelude.{◌≡◌, ◌<◌, ◌≤◌, drop, length, take, vec_len, IfOk, IfSome};
 ghost use Rattle.std.specs.Thread.{IsSync};
 ghost use Rattle.record_reading.specs.Lines.{EndsLine};
-ghost use Rattle.record_reading.specs.Reading.{IsInputFault};
+ghost use Rattle.record_reading.specs.Reading.{HasNoInputFault};
 ghost use Rattle.record_reading.specs.declared.inputs.TheConstants.{MOST_RECORDS};
 ghost use Rattle.auction_reading.specs.inner.Said.{HasRead, read_by};
 ghost use Rattle.auction_reading.specs.inner.Parcels.{AreParcels, Follows, IsParcel};
@@ -14,28 +14,28 @@ use std::alloc::Global;
 use std::thread::{Threads, join_mut};
 
 /// A thread is started for no less than so many bytes.
-pub const LEAST_OF_A_THREAD: usize = 32_768;
+pub(crate) const LEAST_OF_A_THREAD: usize = 32_768;
 
 // Few lines have fewer bytes.
 const BYTES_OF_A_LINE: usize = 16;
 
 /// Whole lines of a text, and what the plain ones at their front ask for.
 #[derive(Drop)]
-pub struct Parcel {
+pub(crate) struct Parcel {
     /// Where the lines begin in the text.
-    pub from: usize,
+    pub(crate) from: usize,
     /// How far they were read: not known if memory was refused.
-    pub to: Option<usize>,
+    pub(crate) to: Option<usize>,
     /// What was read of them.
-    pub progress: Progress,
+    pub(crate) progress: Progress,
 }
 
 impl Parcel {
     /// A parcel of no lines, for so many workers, with room for what so many bytes mostly ask for.
-    pub fn new(alloc: Global, workers: u32, bytes: usize) -> Result<Parcel, ReadFault>
+    pub(crate) fn new(alloc: Global, workers: u32, bytes: usize) -> Result<Parcel, ReadFault>
         requires some { 0 < workers }
         ensures workers { IfOk result (λ parcel. vec_len parcel.progress.input.scripts ≡ workers) }
-        ensures fails { IfErr result (λ fault. IsInputFault fault → ⊥) }
+        ensures fails { HasNoInputFault result }
     {
         let requests = bytes / BYTES_OF_A_LINE / workers as usize;
         let input = CompactInput::with_room(alloc, workers, requests)?;
@@ -65,11 +65,15 @@ impl Parcel {
 
     /// Up to which place in the text all is read once the parcel follows what was read up to
     /// another one: none if its lines begin elsewhere, or cannot follow.
-    pub fn end_after(&self, progress: &Progress, at: usize) -> Result<Option<usize>, ReadFault>
+    pub(crate) fn end_after(
+        &self,
+        progress: &Progress,
+        at: usize,
+    ) -> Result<Option<usize>, ReadFault>
         requires { progress.now.count ≤ MOST_RECORDS }
         ensures follows { IfOk result (λ end. IfSome end (λ to.
             Follows (read_by progress.now) at self.now to)) }
-        ensures fails { IfErr result (λ fault. IsInputFault fault → ⊥) }
+        ensures fails { HasNoInputFault result }
     {
         if self.from != at {
             return Ok(None);
@@ -157,7 +161,7 @@ fn read_from<R: Threads + Sync>(
 /// Cuts a text of whole lines into parcels of about one length, and reads the plain lines at the
 /// front of each, by threads if the text is long. How far that is, no clause says: what is left is
 /// read by `csv`.
-pub fn read_parcels<R: Threads + Sync>(rt: &R, parcels: &mut [Parcel], text: &[u8])
+pub(crate) fn read_parcels<R: Threads + Sync>(rt: &R, parcels: &mut [Parcel], text: &[u8])
     ensures { AreParcels text.now parcels.new }
 {
     let size = (text.len() / parcels.len().max(1)).saturating_add(1);

@@ -7,7 +7,8 @@ ghost use Rattle.record_reading.specs.declared.inputs.TheConstants.{MOST_RECORDS
 ghost use Rattle.auction_reading.specs.Scripts.{asked_by, input_of};
 ghost use Rattle.record_reading.specs.Asking.{asked_of};
 
-use crate::plain_text::{Progress, add, read_lines};
+use crate::buffered_lines::{Alone, LineReading, read_lines};
+use crate::plain_text::{Progress, add};
 use auction_rows::{Opened, Request};
 use csv::{ByteRecord, Reader, ReaderBuilder};
 use record_reading::{
@@ -91,8 +92,8 @@ fn read_rest<R: Read + Drop>(
     read_all(&mut records, &mut fields, workers, progress)
 }
 
-/// Reads as `csv` does the rest of an input: what a buffer holds, and then what a reader gives.
-pub fn hand_over<R: Read + Drop>(
+// Reads as `csv` does the rest of an input: what a buffer holds, and then what a reader gives.
+fn hand_over<R: Read + Drop>(
     alloc: Global,
     held: &[u8],
     reader: R,
@@ -115,30 +116,35 @@ pub fn hand_over<R: Read + Drop>(
     read_rest(alloc, rest, workers, progress)
 }
 
-// Reads what a reader gives, of which nothing was read yet.
-fn read_input<R: Read + Drop>(
+/// Reads to its end what a reader gives, through a buffer: plain lines where they lie, and as `csv`
+/// does from the first line on that is not plain or has a fault.
+pub(crate) fn read_input<L: LineReading, R: Read + Drop>(
+    lines: &mut L,
+    buffer: &mut [u8],
     alloc: Global,
     reader: R,
     workers: u32,
-    progress: &mut Progress,
-) -> Result<(), ReadFault>
-    requires count { vec_len progress.old.input.scripts ≡ workers }
-    requires room { progress.old.count ≤ MOST_RECORDS }
-    ensures input { OnOk result (IfSome (R.remaining reader) (λ bytes.
-        IsReadUpTo workers bytes progress.old bytes →
-        input_of workers bytes ≡ Ok (asked_of progress.new.input))) }
-    ensures count { OnOk result (vec_len progress.new.input.scripts ≡ workers) }
+) -> Result<CompactInput, ReadFault>
+    requires { 0 < length buffer.old }
+    ensures input { IfOk result (λ input. IfSome (R.remaining reader) (λ bytes.
+        input_of workers bytes ≡ Ok (asked_of input))) }
+    ensures count { IfOk result (λ input. vec_len input.scripts ≡ workers) }
     ensures fault { IfErr result (λ fault. IsInputFault fault →
-        IfSome (R.remaining reader) (λ bytes. IsReadUpTo workers bytes progress.old bytes →
-        input_of workers bytes ≡ Err fault)) }
+        IfSome (R.remaining reader) (λ bytes. input_of workers bytes ≡ Err fault)) }
 {
+    let input = CompactInput::new(alloc, workers)?;
+    let mut progress = Progress {
+        input,
+        count: 0,
+        begun: false,
+    };
     let mut reader = reader;
-    let mut buffer = [0u8; ROOM_TO_READ];
-    let filled = read_lines(progress, &mut buffer, &mut reader)?;
-    if filled == 0 {
-        return Ok(());
+    let held = read_lines(lines, &mut progress, buffer, &mut reader)?;
+    if held == 0 {
+        return Ok(progress.input);
     }
-    hand_over(alloc, &buffer[..filled], reader, workers, progress)
+    hand_over(alloc, &buffer[..held], reader, workers, &mut progress)?;
+    Ok(progress.input)
 }
 
 // The requests of each script, in the scripts' order. Each script is let go once it is copied.
@@ -191,12 +197,7 @@ pub fn read_compact_scripts<R: Read + Drop>(
     ensures fault { IfErr result (λ fault. IsInputFault fault →
         IfSome (R.remaining reader) (λ bytes. input_of workers bytes ≡ Err fault)) }
 {
-    let input = CompactInput::new(alloc, workers)?;
-    let mut progress = Progress {
-        input,
-        count: 0,
-        begun: false,
-    };
-    read_input(alloc, reader, workers, &mut progress)?;
-    Ok(progress.input)
+    let mut lines = Alone;
+    let mut buffer = [0u8; ROOM_TO_READ];
+    read_input(&mut lines, &mut buffer, alloc, reader, workers)
 }

@@ -3,7 +3,7 @@ use Rattle.std.proofs.Common.{arith, ◌≡◌, ◌==◌, ◌&&◌, ◌<◌, ◌
 use Rattle.std.specs.Fmt.{option_append}
 use Rattle.std.specs.List.{prefix_len}
 use Rattle.std.specs.Option.{option_map}
-use Rattle.std.proofs.lemmas.Bool.{and_parts}
+use Rattle.std.proofs.lemmas.Bool.{and_parts, not-true}
 use Rattle.std.proofs.lemmas.Bool.Decides.{nat_tests}
 use Rattle.std.proofs.lemmas.List.{append-nil, drop-take, drop_all, length-append, length-drop, length-take-le}
 use Rattle.std.proofs.Math.Seq.{get_or-append_seam, take-append_seam}
@@ -28,25 +28,21 @@ use Rattle.record_reading.proofs.LineLemmas.{feed_no_bom, none_in_none, records_
 use Rattle.record_reading.proofs.RecordsLeft.{left_all, read_end, read_more}
 use Rattle.record_reading.proofs.WholeLineLemmas.{not_so}
 
-not_true : (b : Bool) → not b ≡ true → b ≡ false
-not_true true e = absurd (cc e)
-not_true false e = refl
-
 -- the first line of a text is what is in front of its first line feed, and that
 pub first_whole : (x rest : List ℕ) → has_no_feed x ≡ true → lines_of (x ++ (10 ∷ rest)) ≡ (x ++ (10 ∷ [])) ∷ lines_of rest
 unfolding lines_of
 first_whole [] rest none = refl
 first_whole (b ∷ x) rest none =
     let p = and_parts (not (b == 10)) (has_no_feed x) none in
-    rw (not_true _ p.0) (ap (in_front b) (first_whole x rest p.1))
+    rw (not-true _ p.0) (ap (in_front b) (first_whole x rest p.1))
 
 -- a text with no line feed is one line
 pub last_line : (b : ℕ) (x : List ℕ) → has_no_feed (b ∷ x) ≡ true → lines_of (b ∷ x) ≡ (b ∷ x) ∷ []
 unfolding lines_of
-last_line b [] none = let p = and_parts (not (b == 10)) true none in rw (not_true _ p.0) refl
+last_line b [] none = let p = and_parts (not (b == 10)) true none in rw (not-true _ p.0) refl
 last_line b (c ∷ x) none =
     let p = and_parts (not (b == 10)) (has_no_feed (c ∷ x)) none in
-    rw (not_true _ p.0) (ap (in_front b) (last_line c x p.1))
+    rw (not-true _ p.0) (ap (in_front b) (last_line c x p.1))
 
 -- how long the text in front of a line feed is
 content_len : (x rest : List ℕ) → has_no_feed x ≡ true → prefix_len (λ byte. not (byte == 10)) (x ++ (10 ∷ rest)) ≡ length x

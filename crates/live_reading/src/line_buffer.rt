@@ -1,6 +1,6 @@
 //! What was read of an input and not taken yet.
-ghost use Rattle.std.specs.Prelude.{◌≡◌, ◌≤◌, ◌<◌, [], Some, ℕ, List, drop, false, length, take, vec_len, IfOk, IfErr, OnOk};
-ghost use Rattle.record_reading.specs.Reading.{IsInputFault};
+ghost use Rattle.std.specs.Prelude.{◌≡◌, ◌≤◌, ◌<◌, [], Some, ℕ, List, drop, false, length, take, vec_len, IfOk, OnOk};
+ghost use Rattle.record_reading.specs.Reading.{HasNoInputFault};
 ghost use Rattle.record_reading.specs.declared.buffers.TheConstants.{ROOM_TO_READ};
 
 use record_reading::{ROOM_TO_READ, ReadFault, read_more};
@@ -24,7 +24,7 @@ impl<R> LineBuffer<R> {
     ghost use Rattle.live_reading.specs.inner.Lines.{underneath};
 
     /// What was read and not taken yet.
-    pub fn held(&self) -> &[u8]
+    pub(crate) fn held(&self) -> &[u8]
         ensures value { result.now ≡ held self.now }
         ensures room { length (held self.now) ≤ ROOM_TO_READ }
     {
@@ -32,7 +32,7 @@ impl<R> LineBuffer<R> {
     }
 
     /// Takes the first so many bytes of what it holds.
-    pub fn take(&mut self, count: usize)
+    pub(crate) fn take(&mut self, count: usize)
         requires { count ≤ length (held self.old) }
         ensures held { held self.new ≡ drop count (held self.old) }
         ensures underneath { underneath self.new ≡ underneath self.old }
@@ -41,7 +41,7 @@ impl<R> LineBuffer<R> {
     }
 
     /// Takes all of what it holds.
-    pub fn clear(&mut self)
+    pub(crate) fn clear(&mut self)
         ensures held { held self.new ≡ [] }
         ensures underneath { underneath self.new ≡ underneath self.old }
     {
@@ -65,10 +65,10 @@ impl<R: Read + Drop> LineBuffer<R> {
     ghost use Rattle.live_reading.specs.LineBuffers.{lines_left};
 
     /// A buffer that holds nothing yet of what a reader gives.
-    pub fn new(alloc: Global, reader: R) -> Result<LineBuffer<R>, ReadFault>
+    pub(crate) fn new(alloc: Global, reader: R) -> Result<LineBuffer<R>, ReadFault>
         ensures reads { IfOk result (λ lines. (bytes : List ℕ) → R.remaining reader ≡ Some bytes →
             lines_left R.remaining lines ≡ Some bytes) }
-        ensures fails { IfErr result (λ fault. IsInputFault fault → ⊥) }
+        ensures fails { HasNoInputFault result }
     {
         let Ok(buffer) = vec![in alloc; 0u8; ROOM_TO_READ] else {
             return Err(ReadFault::Memory);
@@ -88,7 +88,7 @@ impl<R: Read> LineBuffer<R> {
     ghost use Rattle.live_reading.specs.inner.Lines.{underneath};
 
     /// Reads more, and returns whether there was any, and room for it.
-    pub fn read_on(&mut self) -> Result<bool, ReadFault>
+    pub(crate) fn read_on(&mut self) -> Result<bool, ReadFault>
         ensures reads { OnOk result ((bytes : List ℕ) →
             lines_left R.remaining self.old ≡ Some bytes →
             lines_left R.remaining self.new ≡ Some bytes) }
@@ -96,7 +96,7 @@ impl<R: Read> LineBuffer<R> {
         ensures end { IfOk result (λ is_more. is_more ≡ false →
             length (held self.new) < ROOM_TO_READ →
             IsAtEnd (R.remaining (underneath self.new))) }
-        ensures fails { IfErr result (λ fault. IsInputFault fault → ⊥) }
+        ensures fails { HasNoInputFault result }
     {
         self.move_up();
         let now = read_more(&mut self.buffer, self.filled, &mut self.reader)?;

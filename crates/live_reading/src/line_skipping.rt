@@ -1,7 +1,7 @@
 //! What is passed over at the front of an input: its byte order mark, or a line.
-ghost use Rattle.std.specs.Prelude.{ℕ, ◌≡◌, ◌<◌, ◌≤◌, ◌++◌, drop, length, IfErr, IfNone, IfSome, List, OnOk, Some};
+ghost use Rattle.std.specs.Prelude.{ℕ, ◌≡◌, ◌<◌, ◌≤◌, ◌++◌, drop, length, IfNone, IfSome, List, OnOk, Some};
 ghost use Rattle.csv.specs.Reading.{strip_bom};
-ghost use Rattle.record_reading.specs.Reading.{IsInputFault};
+ghost use Rattle.record_reading.specs.Reading.{HasNoInputFault};
 ghost use Rattle.live_reading.specs.LineBuffers.{lines_left};
 ghost use Rattle.live_reading.specs.inner.Lines.{HasPassed, Passes};
 
@@ -67,7 +67,7 @@ fn front_len(text: &[u8], front: Front) -> (usize, bool)
 pub(crate) fn skip<R: Read>(lines: &mut LineBuffer<R>, front: Front) -> Result<(), ReadFault>
     ensures passes { OnOk result ((bytes : List ℕ) → lines_left R.remaining lines.old ≡ Some bytes →
         HasPassed R.remaining front bytes lines.new) }
-    ensures fails { IfErr result (λ fault. IsInputFault fault → ⊥) }
+    ensures fails { HasNoInputFault result }
 {
     for _ in 0..u64::MAX {
         let (len, is_whole) = front_len(lines.held(), front);

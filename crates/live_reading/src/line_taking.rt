@@ -1,8 +1,8 @@
 //! The lines of an input that are taken for a part of it, each a text of its own.
-ghost use Rattle.std.specs.Prelude.{◌≡◌, ◌<◌, ◌≤◌, drop, length, IfNone, IfOk, IfErr, IsTrue, OnOk, true, false};
+ghost use Rattle.std.specs.Prelude.{◌≡◌, ◌<◌, ◌≤◌, drop, length, IfNone, IfOk, IsTrue, OnOk, true, false};
 ghost use Rattle.std.specs.Io.KnownBytes.{IsAtEnd};
 ghost use Rattle.record_reading.specs.Lines.{EndsLine, IsWhole, has_no_feed};
-ghost use Rattle.record_reading.specs.Reading.{IsInputFault};
+ghost use Rattle.record_reading.specs.Reading.{HasNoInputFault};
 ghost use Rattle.record_reading.specs.declared.buffers.TheConstants.{ROOM_TO_READ};
 ghost use Rattle.live_reading.specs.LineBuffers.{held};
 ghost use Rattle.live_reading.specs.LiveLines.{is_long};
@@ -36,7 +36,7 @@ fn take_read(alloc: Global, taken: &mut Taken, line: &[u8]) -> Result<Option<Lin
     requires room { HasRoom taken.old }
     ensures takes { IfOk result (λ fault.
         TakesSaid taken.old (next_says taken.old line.now) taken.new fault) }
-    ensures fails { IfErr result (λ fault. IsInputFault fault → ⊥) }
+    ensures fails { HasNoInputFault result }
 {
     let Some(place) = taken.count.checked_add(1) else {
         return Err(ReadFault::Read);
@@ -63,7 +63,7 @@ fn take_other(alloc: Global, taken: &mut Taken, line: &[u8]) -> Result<Option<Li
     requires room { HasRoom taken.old }
     ensures takes { IfOk result (λ fault.
         TakesSaid taken.old (next_says taken.old line.now) taken.new fault) }
-    ensures fails { IfErr result (λ fault. IsInputFault fault → ⊥) }
+    ensures fails { HasNoInputFault result }
 {
     match plain_record(line, taken.workers, taken.begun) {
         Some(one) => {
@@ -86,7 +86,7 @@ fn take_bids(taken: &mut Taken, text: &[u8], from: usize) -> Result<usize, ReadF
     ensures takes { IfOk result (λ at.
         TakesText taken.old (drop from text.now) taken.new Full (drop at text.now)) }
     ensures none { IfOk result (λ at. at ≤ from → taken.new ≡ taken.old) }
-    ensures fails { IfErr result (λ fault. IsInputFault fault → ⊥) }
+    ensures fails { HasNoInputFault result }
 {
     let mut at = from;
     while at < text.len() && taken.requests < taken.most {
@@ -115,7 +115,7 @@ fn take_text(
         TakesText taken.old text.now taken.new (stop_at p.1) (drop p.0 text.now)) }
     ensures up { IfOk result (λ p. IfNone p.1 (HasRoom taken.new →
         has_no_feed (drop p.0 text.now) ≡ true)) }
-    ensures fails { IfErr result (λ fault. IsInputFault fault → ⊥) }
+    ensures fails { HasNoInputFault result }
 {
     let whole = &text[..lines_end(text)];
     let mut at = 0;
@@ -150,7 +150,7 @@ fn take_held<R>(
     ensures underneath { OnOk result (underneath lines.new ≡ underneath lines.old) }
     ensures up { IfOk result (λ fault. IfNone fault (HasRoom taken.new →
         has_no_feed (held lines.new) ≡ true)) }
-    ensures fails { IfErr result (λ fault. IsInputFault fault → ⊥) }
+    ensures fails { HasNoInputFault result }
 {
     let (at, fault) = take_text(alloc, taken, lines.held())?;
     lines.take(at);
@@ -167,7 +167,7 @@ fn take_long<R: Read>(
     requires no_feed { has_no_feed (held lines.old) ≡ true }
     ensures takes { IfOk result (λ fault. TakesFrom R.remaining lines.old taken.old
         lines.new taken.new (LineStop.Fault fault)) }
-    ensures fails { IfErr result (λ fault. IsInputFault fault → ⊥) }
+    ensures fails { HasNoInputFault result }
 {
     let Some(place) = taken.count.checked_add(1) else {
         return Err(ReadFault::Read);
@@ -195,7 +195,7 @@ fn take_last<R: Read>(
     ensures takes { IfOk result (λ stop. TakesFrom R.remaining lines.old taken.old
         lines.new taken.new stop) }
     ensures stops { IfOk result (λ stop. stop ≡ LineStop.Full → ⊥) }
-    ensures fails { IfErr result (λ fault. IsInputFault fault → ⊥) }
+    ensures fails { HasNoInputFault result }
 {
     if lines.held().len() >= ROOM_TO_READ {
         let fault = take_long(alloc, lines, taken)?;
@@ -229,7 +229,7 @@ pub(crate) fn take_lines<R: Read>(
     ensures takes { IfOk result (λ stop. TakesFrom R.remaining lines.old taken.old
         lines.new taken.new stop) }
     ensures some { IfOk result (λ stop. stop ≡ LineStop.Full → MayEnd taken.new) }
-    ensures fails { IfErr result (λ fault. IsInputFault fault → ⊥) }
+    ensures fails { HasNoInputFault result }
 {
     for _ in 0..u64::MAX {
         let fault = take_held(alloc, lines, taken)?;

@@ -1,13 +1,13 @@
 //! What one line says. It is a text of its own: whatever quotes are open at its end, the next line
 //! is no part of it. A quote that is open there takes the line feed into its field, which no field
 //! may have, so such a line has a fault.
-ghost use Rattle.std.specs.Prelude.{ℕ, ◌≡◌, ◌+◌, ◌<◌, ◌≤◌, List, Some, true, length, take, IfErr, IfOk, IfSome, MatchOption};
+ghost use Rattle.std.specs.Prelude.{ℕ, ◌≡◌, ◌+◌, ◌<◌, ◌≤◌, List, Some, true, length, take, IfOk, IfSome, MatchOption};
 ghost use Rattle.std.specs.Io.Chain.{chain_remaining};
 ghost use Rattle.csv.specs.Reading.{default_config, records};
 ghost use Rattle.record_reading.specs.Lines.{IsLine, IsWhole, has_no_feed};
 ghost use Rattle.live_reading.specs.LiveLines.{first_worker, line_says, one_says, records_say};
 ghost use Rattle.live_reading.specs.inner.Lines.{HasLeft, IsOneOf};
-ghost use Rattle.record_reading.specs.Reading.{IsInputFault};
+ghost use Rattle.record_reading.specs.Reading.{HasNoInputFault};
 ghost use Rattle.record_reading.specs.declared.buffers.TheConstants.{ROOM_TO_READ};
 
 use csv::{ByteRecord, Reader, ReaderBuilder};
@@ -57,7 +57,7 @@ fn worker_in<R: Read>(
 ) -> Result<Option<u32>, ReadFault>
     ensures value { IfOk result (λ worker. (rows : List (List (List ℕ))) →
         HasLeft R.remaining records.old rows → worker ≡ first_worker workers rows) }
-    ensures fails { IfErr result (λ fault. IsInputFault fault → ⊥) }
+    ensures fails { HasNoInputFault result }
 {
     if !read_next(records, fields)? {
         return Ok(None);
@@ -73,7 +73,7 @@ pub(crate) fn first_worker(
 ) -> Result<Option<u32>, ReadFault>
     ensures value { IfOk result (λ worker.
         worker ≡ first_worker workers (records default_config text.now)) }
-    ensures fails { IfErr result (λ fault. IsInputFault fault → ⊥) }
+    ensures fails { HasNoInputFault result }
 {
     let mut records = line_reader(alloc, text);
     let mut fields = ByteRecord::new(alloc);
@@ -101,7 +101,7 @@ fn said_in<R: Read>(
     ensures value { IfOk result (λ said. (rows : List (List (List ℕ))) →
         HasLeft R.remaining records.old rows → said ≡ records_say workers place begun rows) }
     ensures worker { IfOk result (λ said. IsOneOf workers said) }
-    ensures fails { IfErr result (λ fault. IsInputFault fault → ⊥) }
+    ensures fails { HasNoInputFault result }
 {
     if !read_next(records, fields)? {
         return Ok(None);
@@ -127,7 +127,7 @@ pub(crate) fn said_of(
     ensures value { IfOk result (λ said.
         said ≡ records_say workers place begun (records default_config line.now)) }
     ensures worker { IfOk result (λ said. IsOneOf workers said) }
-    ensures fails { IfErr result (λ fault. IsInputFault fault → ⊥) }
+    ensures fails { HasNoInputFault result }
 {
     let mut records = line_reader(alloc, line);
     let mut fields = ByteRecord::new(alloc);

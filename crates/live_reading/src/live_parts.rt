@@ -1,12 +1,12 @@
 //! An input that is read part by part and line by line while it goes on: a line with a fault ends a
 //! part, and not the input.
-ghost use Rattle.std.specs.Prelude.{ℕ, ◌≡◌, ◌≤◌, List, Some, vec_len, IfOk, IfErr, IfSome, if◌then◌else◌};
+ghost use Rattle.std.specs.Prelude.{ℕ, ◌≡◌, ◌≤◌, List, Some, vec_len, IfOk, IfSome, if◌then◌else◌};
 ghost use Rattle.csv.specs.Reading.{strip_bom};
 ghost use Rattle.live_reading.specs.LineBuffers.{lines_left};
 ghost use Rattle.live_reading.specs.LiveLines.{live_says};
 ghost use Rattle.live_reading.specs.LiveParts.{HasToSay, IsLivePart, KeepsLiveWorkers, live_workers};
 ghost use Rattle.live_reading.specs.inner.Taking.{end_at, left_after};
-ghost use Rattle.record_reading.specs.Reading.{IsInputFault};
+ghost use Rattle.record_reading.specs.Reading.{HasNoInputFault};
 ghost use Rattle.live_reading.specs.declared.live_lines.Said.{Said as Says};
 
 use crate::line_buffer::LineBuffer;
@@ -58,7 +58,7 @@ fn unmarked<R: Read + Drop>(
     ensures left { IfOk result (λ next. (bytes : List ℕ) →
         lines_left R.remaining lines ≡ Some bytes →
         lines_left R.remaining next ≡ Some (if is_unmarked then bytes else strip_bom bytes)) }
-    ensures fails { IfErr result (λ fault. IsInputFault fault → ⊥) }
+    ensures fails { HasNoInputFault result }
 {
     let mut lines = lines;
     if is_unmarked {
@@ -109,7 +109,7 @@ impl<R: Read + Drop> LiveInput<R> {
         ensures says { IfOk result (λ left. IfSome (R.remaining reader) (λ bytes.
             HasToSay R.remaining left (live_says workers bytes))) }
         ensures workers { IfOk result (λ left. live_workers left ≡ workers) }
-        ensures fails { IfErr result (λ fault. IsInputFault fault → ⊥) }
+        ensures fails { HasNoInputFault result }
     {
         let lines = LineBuffer::new(alloc, reader)?;
         Ok(LiveInput {
@@ -131,7 +131,7 @@ impl<R: Read + Drop> LiveInput<R> {
             IsLivePart R.remaining (live_workers self) most all part) }
         ensures count { IfOk result (λ part. vec_len part.input.scripts ≡ live_workers self) }
         ensures workers { IfOk result (λ part. KeepsLiveWorkers (live_workers self) part.end) }
-        ensures fails { IfErr result (λ fault. IsInputFault fault → ⊥) }
+        ensures fails { HasNoInputFault result }
     {
         let LiveInput {
             lines,

@@ -1,6 +1,6 @@
 //! What is taken of an input for a part of it.
-ghost use Rattle.std.specs.Prelude.{◌≡◌, ◌<◌, ◌≤◌, true, vec_len, IfErr, OnOk};
-ghost use Rattle.record_reading.specs.Reading.{IsInputFault};
+ghost use Rattle.std.specs.Prelude.{◌≡◌, ◌<◌, ◌≤◌, true, vec_len, OnOk};
+ghost use Rattle.record_reading.specs.Reading.{HasNoInputFault};
 ghost use Rattle.record_reading.specs.declared.inputs.TheConstants.{MOST_ROWS_OF_A_PART};
 
 use record_reading::{CompactInput, ReadFault, Record};
@@ -36,7 +36,7 @@ impl Taken {
         requires worker { said.now.worker < self.old.workers }
         requires room { HasRoom self.old }
         ensures adds { OnOk result (HasTaken self.old said.now self.new) }
-        ensures fails { IfErr result (λ fault. IsInputFault fault → ⊥) }
+        ensures fails { HasNoInputFault result }
     {
         let Some(count) = self.count.checked_add(1) else {
             return Err(ReadFault::Read);

@@ -9,7 +9,7 @@ use Rattle.std.specs.List.{list_all}
 use Rattle.std.specs.Str.Parse.{digits_value}
 use Rattle.auction_rows.specs.declared.limits.TheConstants.{MOST_QUANTITY}
 use Rattle.auction_text.specs.Fields.{is_numeral, item_id, number, quantity}
-use Rattle.auction_text.specs.Lines.{is_plain}
+use Rattle.record_reading.specs.inner.PlainLines.{is_plain}
 use Rattle.auction_text.specs.Replies.{id_text}
 use Rattle.auction_text.proofs.DigitLemmas.{number_is}
 use Rattle.auction_text.proofs.PlainFieldLemmas.{digits_join, digits_plain, item_of_parts, parts_plain}

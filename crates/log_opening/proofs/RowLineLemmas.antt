@@ -20,7 +20,8 @@ use Rattle.auction_rows.proofs.StarsLemmas.{stars_found}
 use Rattle.auction_rows.specs.Name.{IsName}
 use Rattle.auction_text.specs.Fields.{name, stars}
 use Rattle.auction_text.specs.Kinds.{has_count, kind_of}
-use Rattle.auction_text.specs.Lines.{HasRead, ReadsFirst, is_plain}
+use Rattle.auction_text.specs.Lines.{ReadsFirst}
+use Rattle.record_reading.specs.inner.PlainLines.{HasRead, is_plain}
 use Rattle.auction_text.specs.Records.{read_record, request_of}
 use Rattle.auction_text.specs.Replies.{id_text}
 use Rattle.auction_text.specs.RowLines.{byte_in_quotes, row_line}

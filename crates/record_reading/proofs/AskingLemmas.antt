@@ -31,7 +31,8 @@ script_more said first asked w within are = elim (cases_Bool first.is_row) [
   ]
 ]
 
-count_more : (first : Record) (asked : Asked) → length (with_record first asked).scripts ≡ length asked.scripts
+-- one record changes no number of scripts
+pub count_more : (first : Record) (asked : Asked) → length (with_record first asked).scripts ≡ length asked.scripts
 count_more first asked = elim (cases_Bool first.is_row) [
   | inl row ↦ rw row refl
   | inr request ↦ rw request (length-set asked.scripts first.worker _)

@@ -10,7 +10,8 @@ use Rattle.std.proofs.Math.Nat.{pow-le-pow_right}
 use Rattle.std.proofs.Math.Seq.{drop-cons}
 use Rattle.std.proofs.lemmas.List.{take-append-drop, drop-drop}
 use Rattle.record_reading.specs.Fields.{is_numeral, number}
-use Rattle.record_reading.specs.Lines.{EndsLine, IsFieldTo, IsNumberTo}
+use Rattle.record_reading.specs.Lines.{EndsLine}
+use Rattle.record_reading.specs.inner.PlainLines.{IsFieldTo, IsNumberTo}
 
 -- the bytes from a place up to another
 abbrev pub span : List ℕ → ℕ → ℕ → List ℕ

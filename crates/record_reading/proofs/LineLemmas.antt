@@ -1,26 +1,23 @@
 -- What `csv` reads of plain fields and lines.
-use Rattle.std.proofs.Common.{arith, ◌≡◌, ◌==◌, ◌&&◌, ◌<◌, ◌+◌, not, ◌++◌, ◌∷◌, ◌∙◌, [], ℕ, zero, suc, List, Bool, Option, Some, None, refl, ap, true, false, append_assoc, length, inl, inr}
+use Rattle.std.proofs.Common.{arith, ◌≡◌, ◌==◌, ◌&&◌, ◌<◌, ◌+◌, not, ◌++◌, ◌∷◌, ◌∙◌, [], ℕ, zero, suc, List, Option, Some, None, refl, ap, true, false, append_assoc, length, inl, inr}
 use Rattle.std.specs.List.{list_all}
 use Rattle.std.proofs.lemmas.List.{append-nil}
-use Rattle.std.proofs.lemmas.Bool.{and_parts}
+use Rattle.std.proofs.lemmas.Bool.{and_parts, not-true}
 use Rattle.csv.specs.Machine.{Read, ends_at_end, next_record}
 use Rattle.csv.specs.Reading.{default_config, records, records_from, records_next, strip_bom}
 use Rattle.csv.specs.declared.parser.State.{State}
 use Rattle.csv.specs.declared.parser.State.TheVariants as st
-use Rattle.record_reading.specs.Lines.{HasRead, IsLineEnd, ReadsFirst, is_plain, joins}
+use Rattle.record_reading.specs.Lines.{ReadsFirst}
+use Rattle.record_reading.specs.inner.PlainLines.{HasRead, IsLineEnd, is_plain, joins}
 use Rattle.record_reading.specs.RecordsLeft.{Left}
 use Rattle.record_reading.proofs.RecordsLeft.{left_all, left_more, shorter}
-
-not_true : (b : Bool) → not b ≡ true → b ≡ false
-not_true true e = absurd (cc e)
-not_true false e = refl
 
 -- a byte that joins a field is no mark
 joins_no_mark : (b : ℕ) → joins b ≡ true → ((b == 44) ≡ false) × ((b == 13) ≡ false) × ((b == 10) ≡ false)
 joins_no_mark b e =
     let p = and_parts (not (b == 44)) (not (b == 13) && not (b == 10)) e in
     let q = and_parts (not (b == 13)) (not (b == 10)) p.1 in
-    (not_true _ p.0, not_true _ q.0, not_true _ q.1)
+    (not-true _ p.0, not-true _ q.0, not-true _ q.1)
 
 -- bytes that join the field at hand
 pub in_run : (fields : List (List ℕ)) (field x tail : List ℕ) → list_all joins x ≡ true
@@ -49,7 +46,7 @@ start_run : (fields : List (List ℕ)) (x : List ℕ) (c : ℕ) (tail : List ℕ
 start_run fields [] c tail plain n = start_same fields [] c tail n
 start_run fields (b ∷ rest) c tail plain n =
     let p = and_parts (not (b == 34)) (list_all joins (b ∷ rest)) plain in
-    start_same fields [] b (rest ++ (c ∷ tail)) (not_true _ p.0) ∙ in_run fields [] (b ∷ rest) (c ∷ tail) p.1
+    start_same fields [] b (rest ++ (c ∷ tail)) (not-true _ p.0) ∙ in_run fields [] (b ∷ rest) (c ∷ tail) p.1
 
 -- a plain field and a comma add the field
 pub field_and_comma : (fields : List (List ℕ)) (x rest : List ℕ) → is_plain x ≡ true

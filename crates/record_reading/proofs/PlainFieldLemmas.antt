@@ -8,7 +8,8 @@ use Rattle.std.specs.Char.{is_ascii_digit}
 use Rattle.std.specs.List.{list_all, position, position_or_len}
 use Rattle.csv.specs.Reading.{strip_bom}
 use Rattle.record_reading.specs.Fields.{id_of_parts, is_point, item_id, item_id_at, number}
-use Rattle.record_reading.specs.Lines.{HasRead, IsFieldTo, IsItemTo, IsLastField, IsLastItem, IsLastNumber, IsNumberTo, ReadsFirst, is_plain, is_quoted, joins}
+use Rattle.record_reading.specs.Lines.{ReadsFirst}
+use Rattle.record_reading.specs.inner.PlainLines.{HasRead, IsFieldTo, IsItemTo, IsLastField, IsLastItem, IsLastNumber, IsNumberTo, is_plain, is_quoted, joins}
 use Rattle.record_reading.proofs.DigitLemmas.{span}
 use Rattle.record_reading.proofs.LineLemmas.{last_and_end, next_and_comma, no_bom}
 

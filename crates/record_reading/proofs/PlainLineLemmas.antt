@@ -10,7 +10,8 @@ use Rattle.record_reading.specs.Kinds.{has_count, kind_of}
 use Rattle.record_reading.specs.Records.{put_up, request_of}
 use Rattle.record_reading.specs.declared.fields.RequestKind.{RequestKind}
 use Rattle.record_reading.specs.declared.fields.RequestKind.TheVariants as kind
-use Rattle.record_reading.specs.Lines.{HasRead, HasWordAt, IsEndOfItem, IsFieldTo, IsItemTo, IsLastField, IsLastItem, IsLastNumber, IsLine, IsNumberTo, IsPutUp, IsRequestAt, IsRestOf, is_plain}
+use Rattle.record_reading.specs.Lines.{IsLine}
+use Rattle.record_reading.specs.inner.PlainLines.{HasRead, HasWordAt, IsEndOfItem, IsFieldTo, IsItemTo, IsLastField, IsLastItem, IsLastNumber, IsNumberTo, IsPutUp, IsRequestAt, IsRestOf, is_plain}
 use Rattle.record_reading.specs.inner.QuotedFields.{HasNextField}
 use Rattle.record_reading.proofs.LineLemmas.{first_and_comma, next_and_comma}
 use Rattle.record_reading.proofs.PlainFieldLemmas.{comma_in_place, digits_no_bom, digits_plain, end_in_place}

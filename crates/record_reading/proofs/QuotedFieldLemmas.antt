@@ -1,18 +1,14 @@
 -- Fields in quotes that are read in place are the fields that `csv` reads.
-use Rattle.std.proofs.Common.{arith, ◌≡◌, ◌==◌, ◌≤◌, ◌<◌, ◌+◌, ◌-◌, ◌∷◌, ◌++◌, ◌∙◌, [], ℕ, List, Bool, true, false, not, add-one, drop, drop-cons, get_or, length, refl, ap, append_assoc}
-use Rattle.std.proofs.lemmas.Bool.{and_parts, ne_eqb}
+use Rattle.std.proofs.Common.{arith, ◌≡◌, ◌==◌, ◌≤◌, ◌<◌, ◌+◌, ◌-◌, ◌∷◌, ◌++◌, ◌∙◌, [], ℕ, List, true, not, add-one, drop, drop-cons, get_or, length, refl, ap, append_assoc}
+use Rattle.std.proofs.lemmas.Bool.{and_parts, ne_eqb, not-true}
 use Rattle.std.proofs.lemmas.List.{append-nil}
 use Rattle.csv.specs.Machine.{next_record}
 use Rattle.csv.specs.Reading.{default_config}
 use Rattle.csv.specs.declared.parser.State.TheVariants as st
-use Rattle.record_reading.specs.Lines.{IsFieldTo, is_plain}
+use Rattle.record_reading.specs.inner.PlainLines.{IsFieldTo, is_plain}
 use Rattle.record_reading.specs.inner.QuotedFields.{HasNextField, IsQuotedTo, has_no_quote}
 use Rattle.record_reading.proofs.DigitLemmas.{span, split_at}
 use Rattle.record_reading.proofs.PlainFieldLemmas.{comma_in_place, span_more}
-
-not_true : (b : Bool) → not b ≡ true → b ≡ false
-not_true true e = absurd (cc e)
-not_true false e = refl
 
 -- between quotes, bytes other than a quote join the field at hand
 quoted_run : (fields : List (List ℕ)) (field x tail : List ℕ) → has_no_quote x ≡ true
@@ -21,7 +17,7 @@ unfolding next_record
 quoted_run fields field [] tail e = rw (append-nil field) refl
 quoted_run fields field (b ∷ rest) tail e =
     let p = and_parts (not (b == 34)) (has_no_quote rest) e in
-    rw (not_true (b == 34) p.0) (quoted_run fields (field ++ (b ∷ [])) rest tail p.1
+    rw (not-true (b == 34) p.0) (quoted_run fields (field ++ (b ∷ [])) rest tail p.1
     ∙ ap (λ (f : List ℕ). next_record default_config st.InQuoted fields f tail) (append_assoc field (b ∷ []) rest))
 
 -- a quote, such bytes, a quote and a comma add the field

@@ -8,7 +8,8 @@ use Rattle.std.specs.List.{list_all}
 use Rattle.auction_rows.specs.declared.requests.ItemId.{ItemId}
 use Rattle.auction_rows.specs.declared.requests.Request.TheVariants as request
 use Rattle.record_reading.specs.declared.fields.RequestKind.TheVariants as kind
-use Rattle.record_reading.specs.Lines.{HasLineTo, HasWordAt, IsFieldTo, IsItemTo, IsNumberTo, IsRestOf, IsWhole, has_no_feed, is_plain, is_quoted, joins}
+use Rattle.record_reading.specs.Lines.{IsWhole, has_no_feed}
+use Rattle.record_reading.specs.inner.PlainLines.{HasLineTo, HasWordAt, IsFieldTo, IsItemTo, IsNumberTo, IsRestOf, is_plain, is_quoted, joins}
 use Rattle.record_reading.proofs.PlainFieldLemmas.{digits_join, number_to_feed}
 use Rattle.record_reading.proofs.PlainLineLemmas.{bid_in_place}
 

@@ -1,5 +1,5 @@
 -- What the functions that read records say of their readers and of their faults.
-use Rattle.std.specs.Prelude.{◌≡◌, true}
+use Rattle.std.specs.Prelude.{◌≡◌, true, IfErr, Result}
 use Rattle.csv.specs.Reading.{Ready, default_config, is_flexible, reader_config, reader_trim}
 use Rattle.csv.specs.declared.reader.Reader.{Reader}
 use Rattle.csv.specs.declared.reader.Trim.TheVariants as trim
@@ -18,3 +18,7 @@ IsInputFault (fault.Worker place) = Unit {0}
 IsInputFault fault.Long = Unit {0}
 IsInputFault fault.Read = ⊥
 IsInputFault fault.Memory = ⊥
+
+-- a result that is no such fault
+abbrev pub HasNoInputFault : {T : Type 0} → Result T ReadFault → Type 0
+HasNoInputFault result = IfErr result (λ why. IsInputFault why → ⊥)

@@ -1,8 +1,8 @@
 //! Bytes that are read into a buffer, and the whole lines among them.
-ghost use Rattle.std.specs.Prelude.{ℕ, ◌≡◌, ◌<◌, ◌≤◌, ◌++◌, drop, length, take, true, List, Some, IfErr, IfOk, OnOk};
+ghost use Rattle.std.specs.Prelude.{ℕ, ◌≡◌, ◌<◌, ◌≤◌, ◌++◌, drop, length, take, true, List, Some, IfOk, OnOk};
 ghost use Rattle.std.specs.Io.KnownBytes.{IsAtEnd};
 ghost use Rattle.record_reading.specs.Lines.{EndsLine, has_no_feed};
-ghost use Rattle.record_reading.specs.Reading.{IsInputFault};
+ghost use Rattle.record_reading.specs.Reading.{HasNoInputFault};
 
 use crate::inputs::ReadFault;
 use memchr::memrchr;
@@ -28,7 +28,7 @@ pub fn read_more<R: Read>(
     ensures keeps { OnOk result (take filled buffer.new ≡ take filled buffer.old) }
     ensures end { IfOk result (λ now. now ≡ filled → filled < length buffer.old →
         IsAtEnd (R.remaining reader.new)) }
-    ensures fails { IfErr result (λ fault. IsInputFault fault → ⊥) }
+    ensures fails { HasNoInputFault result }
 {
     match reader.read(&mut buffer[filled..]) {
         Ok(given) => Ok(filled + given),

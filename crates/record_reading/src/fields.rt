@@ -93,7 +93,7 @@ fn view_named(word: &[u8]) -> Option<RequestKind>
 }
 
 /// The kind that a record's second field names. A row's is the word of its store after a plus.
-pub fn kind_named(word: &[u8]) -> Option<Kind>
+pub(crate) fn kind_named(word: &[u8]) -> Option<Kind>
     ensures { result ≡ kind_of word.now }
 {
     if let [b'+', stored @ ..] = word {
@@ -106,7 +106,7 @@ pub fn kind_named(word: &[u8]) -> Option<Kind>
 }
 
 /// Whether a record of a request's kind may have so many fields.
-pub fn has_count(kind: RequestKind, count: usize) -> bool
+pub(crate) fn has_count(kind: RequestKind, count: usize) -> bool
     ensures { result ≡ has_count kind count }
 {
     match kind {
@@ -122,7 +122,7 @@ pub fn has_count(kind: RequestKind, count: usize) -> bool
 }
 
 /// A number of so many digits fits in 64 bits.
-pub const SURE_DIGITS: usize = 19;
+pub(crate) const SURE_DIGITS: usize = 19;
 
 // The number that a few digits write; none where a byte is no digit.
 #[tactic(auto, using(crate::proofs::NumberLemmas::next_digit, crate::proofs::NumberLemmas::digits_more))]
@@ -173,7 +173,7 @@ pub fn read_u64(field: &[u8]) -> Option<u64>
 }
 
 /// A number of 32 bits, with no sign and no leading zero.
-pub fn read_u32(field: &[u8]) -> Option<u32>
+pub(crate) fn read_u32(field: &[u8]) -> Option<u32>
     ensures { result ≡ number 32 field.now }
 {
     let value = read_u64(field)?;
@@ -185,14 +185,14 @@ pub fn read_u32(field: &[u8]) -> Option<u32>
 }
 
 /// A number from 1 to 1,000,000, with no sign and no leading zero.
-pub fn read_quantity(field: &[u8]) -> Option<Quantity>
+pub(crate) fn read_quantity(field: &[u8]) -> Option<Quantity>
     ensures { result ≡ quantity field.now }
 {
     Quantity::new(read_u64(field)?)
 }
 
 /// Stars: `0` to `5`, or a minus and then `1` to `5`.
-pub fn read_stars(field: &[u8]) -> Option<Stars>
+pub(crate) fn read_stars(field: &[u8]) -> Option<Stars>
     ensures { result ≡ stars field.now }
 {
     match field {
@@ -203,7 +203,7 @@ pub fn read_stars(field: &[u8]) -> Option<Stars>
 }
 
 /// A name: 1 to 32 bytes, each from 0x20 to 0x7E.
-pub fn read_name(field: &[u8]) -> Option<Name>
+pub(crate) fn read_name(field: &[u8]) -> Option<Name>
     ensures { result ≡ name field.now }
 {
     Name::new(field)
@@ -218,7 +218,7 @@ fn first_point(field: &[u8]) -> Option<usize>
 }
 
 /// An item's id: its worker, a point and its serial, as `0.0` or `15.999`.
-pub fn read_item_id(field: &[u8]) -> Option<ItemId>
+pub(crate) fn read_item_id(field: &[u8]) -> Option<ItemId>
     ensures { result ≡ item_id field.now }
 {
     let point = first_point(field)?;

@@ -1,6 +1,6 @@
 //! What records ask for, and what is wrong with one that has a fault.
-ghost use Rattle.std.specs.Prelude.{◌≡◌, ◌<◌, vec_len, IfErr, IfOk, OnOk};
-ghost use Rattle.record_reading.specs.Reading.{IsInputFault};
+ghost use Rattle.std.specs.Prelude.{◌≡◌, ◌<◌, vec_len, IfOk, OnOk};
+ghost use Rattle.record_reading.specs.Reading.{HasNoInputFault};
 ghost use Rattle.record_reading.specs.Asking.{asked_of, nothing_asked, with_record};
 
 use crate::record::Record;
@@ -30,7 +30,7 @@ impl CompactInput {
     pub fn new(alloc: Global, workers: u32) -> Result<CompactInput, ReadFault>
         ensures empty { IfOk result (λ input. asked_of input ≡ nothing_asked workers) }
         ensures count { IfOk result (λ input. vec_len input.scripts ≡ workers) }
-        ensures fails { IfErr result (λ fault. IsInputFault fault → ⊥) }
+        ensures fails { HasNoInputFault result }
     {
         CompactInput::with_room(alloc, workers, 0)
     }
@@ -43,7 +43,7 @@ impl CompactInput {
     ) -> Result<CompactInput, ReadFault>
         ensures empty { IfOk result (λ input. asked_of input ≡ nothing_asked workers) }
         ensures count { IfOk result (λ input. vec_len input.scripts ≡ workers) }
-        ensures fails { IfErr result (λ fault. IsInputFault fault → ⊥) }
+        ensures fails { HasNoInputFault result }
     {
         let Ok(mut scripts) = Vec::with_capacity(alloc, workers as usize) else {
             return Err(ReadFault::Memory);
@@ -66,7 +66,7 @@ impl CompactInput {
         requires { said.now.worker < vec_len self.old.scripts }
         ensures adds { OnOk result (asked_of self.new ≡ with_record said.now (asked_of self.old)) }
         ensures count { vec_len self.new.scripts ≡ vec_len self.old.scripts }
-        ensures fails { IfErr result (λ fault. IsInputFault fault → ⊥) }
+        ensures fails { HasNoInputFault result }
     {
         let worker = said.worker;
         let request = said.request;

@@ -1,6 +1,7 @@
 //! Fields of a text, plain or in quotes, read where they lie.
 ghost use Rattle.std.specs.Prelude.{◌≡◌, ◌<◌, ◌≤◌, ◌-◌, true, drop, length, take, IfSome};
-ghost use Rattle.record_reading.specs.Lines.{EndsLine, HasWordAt, IsFieldTo, IsItemTo, IsLastField, IsLastItem, IsLastNumber, IsNumberTo, comma, has_no_feed, is_plain};
+ghost use Rattle.record_reading.specs.Lines.{EndsLine, has_no_feed};
+ghost use Rattle.record_reading.specs.inner.PlainLines.{HasWordAt, IsFieldTo, IsItemTo, IsLastField, IsLastItem, IsLastNumber, IsNumberTo, comma, is_plain};
 ghost use Rattle.record_reading.specs.inner.QuotedFields.{HasNextField, IsQuotedTo, has_no_quote};
 
 use crate::fields::SURE_DIGITS;
@@ -17,7 +18,7 @@ fn digit_value(byte: u8) -> u64
 
 /// The number that digits write from a place on, up to a stop, and the place after the stop.
 #[inline(always)]
-pub fn number_to(text: &[u8], from: usize, stop: u8) -> Option<(u64, usize)>
+pub(crate) fn number_to(text: &[u8], from: usize, stop: u8) -> Option<(u64, usize)>
     requires ends { EndsLine text.now }
     requires within { from < length text.now }
     ensures { IfSome result (λ p. IsNumberTo text.now from stop 64 p.0 p.1) }
@@ -50,7 +51,7 @@ pub fn number_to(text: &[u8], from: usize, stop: u8) -> Option<(u64, usize)>
 
 /// The number of at most 32 bits that a field writes up to a stop, and the place after the stop.
 #[inline(always)]
-pub fn u32_to(text: &[u8], from: usize, stop: u8) -> Option<(u32, usize)>
+pub(crate) fn u32_to(text: &[u8], from: usize, stop: u8) -> Option<(u32, usize)>
     requires ends { EndsLine text.now }
     requires within { from < length text.now }
     ensures { IfSome result (λ p. IsNumberTo text.now from stop 32 p.0 p.1) }
@@ -64,7 +65,7 @@ pub fn u32_to(text: &[u8], from: usize, stop: u8) -> Option<(u32, usize)>
 
 /// The item that a field before a comma names, and the place after the comma.
 #[inline(always)]
-pub fn item_to_comma(text: &[u8], from: usize) -> Option<(ItemId, usize)>
+pub(crate) fn item_to_comma(text: &[u8], from: usize) -> Option<(ItemId, usize)>
     requires ends { EndsLine text.now }
     requires within { from < length text.now }
     ensures { IfSome result (λ p. IsItemTo text.now from comma p.0 p.1) }
@@ -91,7 +92,7 @@ fn number_to_return(text: &[u8], from: usize) -> Option<(u64, usize)>
 
 /// The number that a line's last field writes, and the place after the line.
 #[inline(always)]
-pub fn last_number(text: &[u8], from: usize) -> Option<(u64, usize)>
+pub(crate) fn last_number(text: &[u8], from: usize) -> Option<(u64, usize)>
     requires ends { EndsLine text.now }
     requires within { from < length text.now }
     ensures { IfSome result (λ p. IsLastNumber text.now from 64 p.0 p.1) }
@@ -104,7 +105,7 @@ pub fn last_number(text: &[u8], from: usize) -> Option<(u64, usize)>
 
 /// The number of at most 32 bits that a line's last field writes, and the place after the line.
 #[inline(always)]
-pub fn last_u32(text: &[u8], from: usize) -> Option<(u32, usize)>
+pub(crate) fn last_u32(text: &[u8], from: usize) -> Option<(u32, usize)>
     requires ends { EndsLine text.now }
     requires within { from < length text.now }
     ensures { IfSome result (λ p. IsLastNumber text.now from 32 p.0 p.1) }
@@ -118,7 +119,7 @@ pub fn last_u32(text: &[u8], from: usize) -> Option<(u32, usize)>
 
 /// The item that a line's last field names, and the place after the line.
 #[inline(always)]
-pub fn last_item(text: &[u8], from: usize) -> Option<(ItemId, usize)>
+pub(crate) fn last_item(text: &[u8], from: usize) -> Option<(ItemId, usize)>
     requires ends { EndsLine text.now }
     requires within { from < length text.now }
     ensures { IfSome result (λ p. IsLastItem text.now from p.0 p.1) }
@@ -149,7 +150,7 @@ fn field_end(text: &[u8], from: usize) -> usize
 
 /// The field from a place on, up to a comma, and the place after the comma; none if a quote is
 /// before it.
-pub fn field_to_comma(text: &[u8], from: usize) -> Option<(&[u8], usize)>
+pub(crate) fn field_to_comma(text: &[u8], from: usize) -> Option<(&[u8], usize)>
     requires ends { EndsLine text.now }
     requires within { from < length text.now }
     ensures { IfSome result (λ p.
@@ -200,7 +201,7 @@ fn quoted_to_comma(text: &[u8], from: usize) -> Option<(&[u8], usize)>
 
 /// The field from a place on, plain or in quotes, up to a comma, and the place after the comma;
 /// none if a quote is in it.
-pub fn next_field(text: &[u8], from: usize) -> Option<(&[u8], usize)>
+pub(crate) fn next_field(text: &[u8], from: usize) -> Option<(&[u8], usize)>
     requires ends { EndsLine text.now }
     requires within { from < length text.now }
     ensures { IfSome result (λ p. HasNextField text.now from p.0.now p.1) }
@@ -213,7 +214,7 @@ pub fn next_field(text: &[u8], from: usize) -> Option<(&[u8], usize)>
 
 /// A line's last field, from a place on, and the place after the line; none if a quote is before
 /// its end.
-pub fn last_field(text: &[u8], from: usize) -> Option<(&[u8], usize)>
+pub(crate) fn last_field(text: &[u8], from: usize) -> Option<(&[u8], usize)>
     requires ends { EndsLine text.now }
     requires within { from < length text.now }
     ensures { IfSome result (λ p.
@@ -231,7 +232,7 @@ pub fn last_field(text: &[u8], from: usize) -> Option<(&[u8], usize)>
 
 /// Whether a text goes on with a word.
 #[inline(always)]
-pub fn begins(text: &[u8], at: usize, word: &[u8]) -> bool
+pub(crate) fn begins(text: &[u8], at: usize, word: &[u8]) -> bool
     requires ends { EndsLine text.now }
     requires within { at < length text.now }
     requires word { has_no_feed word.now ≡ true }

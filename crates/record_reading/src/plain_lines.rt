@@ -2,7 +2,8 @@
 ghost use Rattle.std.specs.Prelude.{ℕ, ◌≡◌, ◌+◌, ◌-◌, ◌<◌, drop, false, true, get_or, length, take, IfSome};
 ghost use Rattle.record_reading.specs.declared.fields.RequestKind.TheVariants as kind;
 ghost use Rattle.record_reading.specs.Kinds.{plus};
-ghost use Rattle.record_reading.specs.Lines.{EndsLine, HasLineTo, IsEndOfItem, IsLine, IsRequestAt, IsRestOf, IsWhole};
+ghost use Rattle.record_reading.specs.Lines.{EndsLine, IsLine, IsWhole};
+ghost use Rattle.record_reading.specs.inner.PlainLines.{HasLineTo, IsEndOfItem, IsRequestAt, IsRestOf};
 
 use crate::fields::{read_name, read_quantity, read_stars};
 use crate::plain_fields::{

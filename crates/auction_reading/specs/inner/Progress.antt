@@ -1,11 +1,10 @@
 -- How far an input is read.
-use Rattle.std.specs.Prelude.{ℕ, ◌≡◌, ◌≤◌, ◌+◌, ◌++◌, ◌==◌, ◌||◌, Bool, false, not, List, Ok, Option, Some, vec_len, if◌then◌else◌}
+use Rattle.std.specs.Prelude.{ℕ, ◌≡◌, ◌+◌, ◌++◌, ◌==◌, ◌||◌, Bool, false, not, List, Ok, Option, Some, vec_len, if◌then◌else◌}
 use Rattle.csv.specs.Reading.{default_config, reader_state, records, source_of, strip_bom}
 use Rattle.csv.specs.declared.parser.State.TheVariants as st
 use Rattle.csv.specs.declared.reader.Reader.{Reader}
 use Rattle.auction_reading.specs.declared.plain_text.Progress.{Progress}
 use Rattle.record_reading.specs.declared.record.Record.{Record}
-use Rattle.record_reading.specs.declared.inputs.TheConstants.{MOST_RECORDS}
 use Rattle.record_reading.specs.Asking.{AskFor, Asked, asked_of, with_record}
 use Rattle.record_reading.specs.Records.{and_then}
 use Rattle.auction_reading.specs.Scripts.{read_records, records_of}
@@ -40,10 +39,3 @@ pub record HasAdded (old : Progress) (said : Record) (new : Progress) : Type 0 w
   pub workers : vec_len new.input.scripts ≡ vec_len old.input.scripts
   pub count : new.count ≡ old.count + 1
   pub begun : new.begun ≡ (old.begun || not said.is_row)
-
--- What was read of an input up to the first bytes is now read up to the second.
-pub record ReadsOn (old : Progress) (from : List ℕ) (new : Progress) (to : List ℕ) : Type 0 where
-  pub workers : vec_len new.input.scripts ≡ vec_len old.input.scripts
-  pub room : new.count ≤ MOST_RECORDS
-  pub reads : (workers : ℕ) (bytes more : List ℕ) → IsReadUpTo workers bytes old (from ++ more) →
-      IsReadUpTo workers bytes new (to ++ more)

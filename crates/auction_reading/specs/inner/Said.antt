@@ -1,10 +1,11 @@
 -- What the records of a text ask for, wherever it stands in an input.
-use Rattle.std.specs.Prelude.{ℕ, ◌≡◌, ◌≤◌, ◌<◌, ◌+◌, ◌++◌, ◌||◌, ◌&&◌, Bool, false, not, List, [], ◌∷◌, ⊤, length}
+use Rattle.std.specs.Prelude.{ℕ, ◌≡◌, ◌≤◌, ◌<◌, ◌+◌, ◌++◌, ◌||◌, ◌&&◌, Bool, false, not, List, [], ◌∷◌, ⊤, drop, length}
 use Rattle.csv.specs.Reading.{default_config, records}
 use Rattle.auction_reading.specs.declared.plain_text.Progress.{Progress}
 use Rattle.record_reading.specs.declared.record.Record.{Record}
 use Rattle.record_reading.specs.declared.inputs.TheConstants.{MOST_RECORDS}
 use Rattle.record_reading.specs.Asking.{Asked, asked_of, with_record}
+use Rattle.record_reading.specs.Lines.{EndsLine}
 use Rattle.auction_reading.specs.inner.Progress.{SoFar, unmarked}
 use Rattle.auction_reading.specs.Scripts.{records_of}
 
@@ -64,3 +65,17 @@ pub record HasRead (old : WasRead) (text : List ℕ) (new : WasRead) (left : Lis
   pub count : new.count ≡ old.count + length said
   pub begun : new.begun ≡ begun_after said old.begun
   pub room : new.count ≤ MOST_RECORDS
+
+-- A line may be read from a place of a text on.
+pub record MayReadLine (progress : Progress) (text : List ℕ) (at : ℕ) : Type 0 where
+  pub ends : EndsLine text
+  pub within : at < length text
+  pub room : progress.count < MOST_RECORDS
+
+-- The line from a place of a text on was read, and `next` is after it; or they are one place, and
+-- nothing was read.
+pub record ReadsLine (old : Progress) (text : List ℕ) (at : ℕ) (new : Progress)
+    (next : ℕ) : Type 0 where
+  pub after : at ≤ next
+  pub within : next ≤ length text
+  pub reads : HasRead (read_by old) (drop at text) (read_by new) (drop next text)

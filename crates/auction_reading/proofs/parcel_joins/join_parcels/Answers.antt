@@ -1,8 +1,8 @@
-use Rattle.std.proofs.Common.{arith, ◌≡◌, ◌∙◌, List, ap, drop, length, subst, take}
+use Rattle.std.proofs.Common.{arith, ◌≡◌, ◌∙◌, List, ap, drop, length, subst, sym, take}
+use Rattle.std.proofs.lemmas.List.{with_items_is}
 use Rattle.auction_rows.specs.declared.requests.Request.{Request}
 use Rattle.auction_reading.specs.inner.Said.{HasRead, WasRead, read_by}
 use Rattle.auction_reading.specs.inner.Parcels.{scripts_with}
-use Rattle.auction_reading.proofs.JoinLemmas.{lent_back}
 use Rattle.auction_reading.proofs.ParcelLemmas.{requests_joined}
 use Rattle.auction_reading.proofs.parcel_joins.join_parcels.Goals as goal
 
@@ -18,5 +18,5 @@ returns-clause-reads g c text are =
     let scripts = progress.input.scripts in
     let now = c.join_requests.new.scripts in
     let many : length now ≡ length scripts.items = omega (arith, c.join_requests.auto.scripts, ap length c.deref_mut.ensures.value) in
-    let joined = lent_back scripts.len scripts.items now scripts.ok.0 many ∙ c.in-Ok.ensures ∙ ap (λ (ss : List (List Request)). scripts_with 0 ss parcels) c.deref_mut.ensures.value in
+    let joined = with_items_is scripts now (many ∙ sym scripts.ok.0) ∙ c.in-Ok.ensures ∙ ap (λ (ss : List (List Request)). scripts_with 0 ss parcels) c.deref_mut.ensures.value in
     subst (λ (was : WasRead). HasRead old text was (drop c.in_ok-many.at text)) (requests_joined old parcels (read_by progress) _ rows.joins joined) (rows.reads text are)

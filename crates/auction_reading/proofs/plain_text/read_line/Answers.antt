@@ -1,16 +1,5 @@
-use Rattle.std.proofs.Common.{arith, inl, inr}
 use Rattle.std.proofs.lemmas.Result.{IfOk-weaker}
 use Rattle.auction_reading.proofs.plain_text.read_line.Goals as goal
 
-pub returns-in-Some-clause-after : goal.returns-in-Some-clause-after
-returns-in-Some-clause-after c =
-    let line = c.in-Some.ensures.says in
-    IfOk-weaker c.add_line.result _ _ (λ place is. elim is [ inl same ↦ omega (arith, same) | inr next ↦ omega (arith, next, line.after) ]) c.add_line.ensures.place
-
-pub returns-in-Some-clause-within : goal.returns-in-Some-clause-within
-returns-in-Some-clause-within c =
-    let line = c.in-Some.ensures.says in
-    IfOk-weaker c.add_line.result _ _ (λ place is. elim is [ inl same ↦ omega (arith, same, c.requires.within) | inr next ↦ omega (arith, next, line.within) ]) c.add_line.ensures.place
-
-pub returns-in-Some-clause-reads : goal.returns-in-Some-clause-reads
-returns-in-Some-clause-reads c = IfOk-weaker c.add_line.result _ _ (λ place reads. reads c.args.text.now c.in-Some.ensures.says) c.add_line.ensures.reads
+pub returns-in-Some-clause-line : goal.returns-in-Some-clause-line
+returns-in-Some-clause-line c = IfOk-weaker c.add_line.result _ _ (λ place reads. reads c.args.text.now c.in-Some.ensures.says) c.add_line.ensures.reads
