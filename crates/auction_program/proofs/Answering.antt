@@ -10,7 +10,7 @@ use Rattle.item_shards.specs.OpeningRows.{AreRows, IsFirstBad, IsTooLong, openin
 use Rattle.item_shards.specs.declared.openings.ResumeFault.{ResumeFault}
 use Rattle.item_shards.specs.declared.openings.ResumeFault.TheVariants as resume
 use Rattle.run_laws.specs.Answers.{IsAnswer}
-use Rattle.auction_text.specs.declared.writing.WriteFault.{WriteFault}
+use Rattle.byte_texts.specs.declared.writing.WriteFault.{WriteFault}
 use Rattle.program_opening.specs.Options.{commits_text, opening_asked, policy_of}
 use Rattle.auction_program.specs.Execution.{added_text, Answers, IsAllowed, IsCausedBy, IsNotPerformed, IsNotRun, IsRefused, OfInput, Performs}
 use Rattle.auction_run.specs.Beginning.{HaveWorkers, HasShards, HasQuotas, AreShort}

@@ -5,8 +5,8 @@ use Rattle.std.specs.Io.KnownBytes.{Appends}
 use Rattle.auction_rows.specs.declared.{values.Opening.Opening, requests.Object.Object, rows.Entry.Entry}
 use Rattle.auction_rows.specs.Book.{Book}
 use Rattle.auction_text.specs.Report.{report_text}
-use Rattle.auction_text.specs.Writing.{IsPartWritten}
 use Rattle.auction_text.specs.declared.writing.report.ReportLines.{ReportLines}
+use Rattle.byte_texts.specs.Writing.{IsPartWritten}
 use Rattle.auction_program.specs.Report.{report_of, AreViews}
 
 module _ (old new : Option (List ℕ)) (text added : List ℕ) where

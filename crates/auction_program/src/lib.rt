@@ -5,7 +5,7 @@
 mod execution;
 mod texts;
 
-pub use auction_text::UntilEnd;
+pub use byte_texts::UntilEnd;
 pub use execution::{execute, one_worker_has_one_answer};
 pub use program_opening::{
     AddFault, Cause, Fault, FileLog, Joined, LogCause, LogFault, LogFileFault, MakeFault,

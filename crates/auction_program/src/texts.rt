@@ -5,7 +5,7 @@ ghost use Rattle.auction_rows.specs.declared.rows.Row.{Row as Stored};
 ghost use Rattle.auction_rows.specs.Book.{Book};
 ghost use Rattle.auction_rows.specs.Replies.{reply};
 ghost use Rattle.auction_rows.specs.Requests.{is_view};
-ghost use Rattle.auction_text.specs.Writing.{WritesText};
+ghost use Rattle.byte_texts.specs.Writing.{WritesText};
 ghost use Rattle.program_opening.specs.Options.{commits_text};
 ghost use Rattle.auction_program.specs.Execution.{AreWritten, ArePartWritten, HasLastViews, IsOneWritten, OfTexts};
 ghost use Rattle.auction_program.specs.Report.{category_views, user_views, view_of, views, IsEnd};
@@ -13,9 +13,10 @@ ghost use Rattle.auction_program.specs.Report.{category_views, user_views, view_
 use crate::execution::Performed;
 use auction_rows::{Opening, Reply, Request, Row};
 use auction_text::{
-    ReportLines, WriteFault, write_history, write_replies_by_threads, write_report, write_rows,
+    ReportLines, write_history, write_replies_by_threads, write_report, write_rows,
 };
 use auction_window::{Window, WindowName};
+use byte_texts::WriteFault;
 use phase_floor::Joined;
 use program_opening::Options;
 use std::alloc::{AllocError, Global};

@@ -15,9 +15,7 @@ mod parcel_joins;
 mod parcels;
 mod plain_text;
 mod scripts;
-mod until_end;
 
 pub use by_threads::read_scripts_by_threads;
 pub use laws::rows_come_first;
 pub use scripts::{Input, read_compact_scripts, read_scripts};
-pub use until_end::UntilEnd;

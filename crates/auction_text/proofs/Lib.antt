@@ -1,4 +1,3 @@
-pub mod DecimalLemmas
 pub mod EachLemmas
 pub mod ListedLemmas
 pub mod MadeTexts

@@ -12,9 +12,10 @@ use Rattle.std.proofs.lemmas.List.Folds.{flat_map-map}
 use Rattle.phase_laws.specs.Order.{part}
 use Rattle.auction_rows.specs.declared.{requests.Request.Request, rows.Entry.Entry}
 use Rattle.worker_journals.specs.Journals.{entry_worker}
-use Rattle.auction_text.specs.Moved.{Gone, all_moved, line_after, moved}
+use Rattle.auction_text.specs.Moved.{Gone, all_moved, moved}
 use Rattle.auction_text.specs.Order.{comes_before, in_order, put_in, sorted}
 use Rattle.auction_text.specs.Replies.{lines, reply_line}
+use Rattle.auction_text.specs.inner.Putting.{line_after}
 use Rattle.auction_text.specs.inner.Workers.{replies_of}
 
 more_alike : (k i j : ℕ) → nat_cmp (k + i) (k + j) ≡ nat_cmp i j

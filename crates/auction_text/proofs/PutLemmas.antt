@@ -4,9 +4,10 @@ use Rattle.std.proofs.KnownBytes.{Appends-nil, Appends-trans}
 use Rattle.std.proofs.Math.Seq.{take-append-add}
 use Rattle.std.proofs.lemmas.List.{take-append-le, take_min}
 use Rattle.std.specs.Io.KnownBytes.{Appends}
-use Rattle.auction_text.specs.declared.writing.WriteFault.{WriteFault}
-use Rattle.auction_text.specs.declared.writing.WriteFault.TheVariants.{Write}
-use Rattle.auction_text.specs.Writing.{Adds, IsPartWritten, PutsText, WritesText}
+use Rattle.byte_texts.specs.declared.writing.WriteFault.{WriteFault}
+use Rattle.byte_texts.specs.declared.writing.WriteFault.TheVariants.{Write}
+use Rattle.byte_texts.specs.Writing.{IsPartWritten, WritesText}
+use Rattle.auction_text.specs.inner.Putting.{Adds, PutsText}
 
 -- nothing is written
 pub adds_waiting : (c : Option (List ℕ)) (waiting left text : List ℕ) → left ≡ waiting ++ text → Adds c waiting c left text
@@ -116,12 +117,6 @@ line_put old mid waiting between left line room is = adds_both old mid mid waiti
 
 pub part_of_line : (old new : Option (List ℕ)) (waiting line : List ℕ) → IsPartWritten old new (waiting ++ []) → IsPartWritten old new (waiting ++ line)
 part_of_line old new waiting line part = part_more old new waiting line (subst (IsPartWritten old new) (append-nil waiting) part)
-
--- where nothing more was written, a whole text is a part of it
-pub part_of_end : (old mid new : Option (List ℕ)) (text : List ℕ) → Appends old mid text → IsPartWritten mid new [] → IsPartWritten old new text
-part_of_end old mid new text whole part =
-    let n = length text + part.0 in
-    (n, subst (Appends old new) (sym (take-append-add text [] part.0) ∙ ap (take n) (append-nil text)) (Appends-trans old mid new text (take part.0 []) whole part.1))
 
 -- a text of which nothing waited is written: what was left of it is written last
 module _ {W T : Type 0} (contents : W → Option (List ℕ)) (old mid new : W) (none left text : List ℕ) (empty : none ≡ []) where

@@ -4,8 +4,9 @@ pub mod Order
 pub mod Replies
 pub mod Report
 pub mod RowLines
-pub mod Writing
 pub use Rattle.auction_reading.specs.Scripts
+pub use Rattle.byte_texts.specs.Writing
+pub use Rattle.byte_texts.specs.declared.writing.WriteFault
 pub use Rattle.live_reading.specs.LiveLines
 pub use Rattle.live_reading.specs.LiveParts
 pub use Rattle.live_reading.specs.LiveReading

@@ -2,7 +2,6 @@
 use Rattle.std.specs.Prelude.{ℕ, ◌+◌, ◌^◌, ◌<◌, ◌≤◌, ◌⊎◌, List, [], length, map, slice_index, slice_index_or}
 use Rattle.auction_rows.specs.declared.limits.TheConstants.{MOST_WORKERS}
 use Rattle.auction_rows.specs.declared.{requests.Request.Request, rows.Entry.Entry}
-use Rattle.auction_text.specs.Replies.{reply_line}
 
 -- What went before a part: how many phases, and how many requests of each worker.
 pub record Gone : Type 0 where
@@ -38,7 +37,3 @@ moved gone entry = record entry {
 
 abbrev pub all_moved : Gone → List Entry → List Entry
 all_moved gone entries = map (moved gone) entries
-
--- the line of an entry among the replies, after so many requests of its worker
-abbrev pub line_after : ℕ → Entry → List ℕ
-line_after gone entry = reply_line (record entry { index = gone + entry.index })

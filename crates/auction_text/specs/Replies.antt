@@ -1,30 +1,12 @@
 -- The texts of replies and of histories.
-use Rattle.std.specs.Prelude.{ℕ, ℤ, List, ◌++◌, codes, decimal, Option, Some, None}
+use Rattle.std.specs.Prelude.{ℕ, ℤ, List, ◌++◌, codes, decimal, Option}
 use Rattle.std.specs.Fmt.{signed_decimal}
 use Rattle.std.specs.List.{flat_map}
 use Rattle.auction_rows.specs.declared.{replies.Refusal.Refusal, replies.Reply.Reply, replies.BidShown.BidShown, replies.ItemShown.ItemShown, rows.Entry.Entry}
 use Rattle.auction_rows.specs.declared.replies.Refusal.TheVariants as refusal
 use Rattle.auction_rows.specs.declared.replies.Reply.TheVariants as reply
+use Rattle.byte_texts.specs.Labels.{labelled, labelled_id, labelled_optional}
 use Rattle.auction_text.specs.Order.{in_order}
-
--- an id: a worker and a serial
-abbrev pub id_text : ℕ → ℕ → List ℕ
-id_text worker serial = decimal worker ++ codes "." ++ decimal serial
-
--- a number, or `-` if there is none
-abbrev pub optional_text : Option ℕ → List ℕ
-optional_text None = codes "-"
-optional_text (Some n) = decimal n
-
--- a word, and a number after it
-abbrev pub labelled : List ℕ → ℕ → List ℕ
-labelled label n = label ++ decimal n
-
-abbrev pub labelled_optional : List ℕ → Option ℕ → List ℕ
-labelled_optional label n = label ++ optional_text n
-
-abbrev pub labelled_id : List ℕ → ℕ → ℕ → List ℕ
-labelled_id label worker serial = label ++ id_text worker serial
 
 abbrev pub refusal_text : Refusal → List ℕ
 refusal_text refusal.NoSuchUser = codes "refused 1 NoSuchUser"

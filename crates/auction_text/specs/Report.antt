@@ -5,7 +5,8 @@ use Rattle.auction_rows.specs.declared.{requests.Object.Object, replies.Reply.Re
 use Rattle.auction_rows.specs.declared.requests.Object.TheVariants.{Item, User, Category}
 use Rattle.auction_rows.specs.declared.replies.Reply.TheVariants as reply
 use Rattle.auction_rows.specs.StoreReplies.{is_refusal}
-use Rattle.auction_text.specs.Replies.{labelled, labelled_id, reply_text, score_text}
+use Rattle.byte_texts.specs.Labels.{labelled, labelled_id}
+use Rattle.auction_text.specs.Replies.{reply_text, score_text}
 
 -- a line for each of a list that has one, by its number from a first one on
 abbrev pub numbered_lines : {X : Type 0} → (ℕ → X → List ℕ) → ℕ → List X → List ℕ

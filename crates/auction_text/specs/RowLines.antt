@@ -6,7 +6,8 @@ use Rattle.auction_rows.specs.declared.{requests.Facts.Facts, rows.ItemRow.ItemR
 use Rattle.auction_rows.specs.declared.rows.Row.TheVariants.{Item, Bid, Comment, Buy}
 use Rattle.auction_rows.specs.History.{rows_of}
 use Rattle.record_reading.specs.Lines.{quote}
-use Rattle.auction_text.specs.Replies.{labelled, labelled_id, lines}
+use Rattle.byte_texts.specs.Labels.{labelled, labelled_id}
+use Rattle.auction_text.specs.Replies.{lines}
 
 -- a byte between quotes: a quote is doubled
 abbrev pub byte_in_quotes : ℕ → List ℕ

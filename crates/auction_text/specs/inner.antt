@@ -1,4 +1,4 @@
 -- What no contract of a public function names.
-pub mod Numerals
+pub mod Putting
 pub mod Turns
 pub mod Workers

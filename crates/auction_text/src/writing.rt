@@ -1,35 +1,19 @@
-//! Texts: replies, histories, rows and reports, why one was not written, and what went before a
-//! part of a run.
+//! Texts: replies, histories, rows and reports, and what went before a part of a run.
 //!
-//! The lines of replies, histories and rows are put together in a `block`; a report is made in
-//! memory.
+//! Lines of replies, histories and rows are put together in a block; a report is made in memory.
 ghost use Rattle.std.specs.Prelude.{ℕ, ◌≡◌, ◌+◌, [], length, slice_index, slice_index_or, IfNone, IfSome};
 ghost use Rattle.auction_text.specs.Moved.{CannotCount, IsPastCount, gone_by, moved};
 
 use auction_rows::MOST_WORKERS;
 use std::marker::Model;
-use thiserror::Error;
 use worker_journals::{EntryRef, Script};
 
-pub mod block;
 pub mod output;
 pub mod replies;
 pub mod reply_order;
 pub mod report;
 pub mod rows;
-pub mod text;
 pub mod text_blocks;
-
-/// Why a text was not written whole.
-#[derive(Clone, Copy, Debug, PartialEq, Eq, Drop, Error)]
-pub enum WriteFault {
-    /// A write or the flush failed, or a write took no byte: a prefix of the text was written.
-    #[error("output cannot be written")]
-    Write,
-    /// No memory was left: no byte was written.
-    #[error("no memory")]
-    Memory,
-}
 
 /// What went before a part of a run: how many phases, and how many requests of each worker.
 #[derive(Drop)]

@@ -1,8 +1,8 @@
 -- A fault of writing that is handed on.
 use Rattle.std.proofs.Common.{◌≡◌, refl, sym, ◌∙◌}
 use Rattle.std.specs.Prelude.{Result, Ok, Err, IfErr, IsErr, IsErrAnd}
-use Rattle.auction_text.specs.declared.writing.WriteFault.{WriteFault}
-use Rattle.auction_text.specs.declared.writing.WriteFault.TheVariants as writing
+use Rattle.byte_texts.specs.declared.writing.WriteFault.{WriteFault}
+use Rattle.byte_texts.specs.declared.writing.WriteFault.TheVariants as writing
 use Rattle.check_program.specs.declared.faults.Fault.{Fault}
 use Rattle.check_program.specs.declared.faults.Fault.TheVariants.{Write}
 

@@ -1,6 +1,7 @@
 -- The line that says what is found of a history.
 use Rattle.std.specs.Prelude.{ℕ, List, [], ◌++◌, Option, Some, None, codes, decimal}
-use Rattle.auction_text.specs.Replies.{labelled, reply_text}
+use Rattle.auction_text.specs.Replies.{reply_text}
+use Rattle.byte_texts.specs.Labels.{labelled}
 use Rattle.history_check.specs.CommitIds.{IsLineOf}
 use Rattle.history_check.specs.declared.lines.CommitId.{CommitId}
 use Rattle.history_check.specs.declared.lines.Verdict.{Verdict}

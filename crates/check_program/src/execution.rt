@@ -2,8 +2,8 @@
 //! line and as an exit status.
 ghost use Rattle.std.specs.Prelude.{◌≡◌, ◌≤◌, ◌++◌, Err, IfErr, IfOk, OnOk};
 ghost use Rattle.std.specs.Io.KnownBytes.{Appends};
-ghost use Rattle.auction_text.specs.Writing.{IsPartWritten};
-ghost use Rattle.auction_text.specs.declared.writing.WriteFault.{WriteFault};
+ghost use Rattle.byte_texts.specs.Writing.{IsPartWritten};
+ghost use Rattle.byte_texts.specs.declared.writing.WriteFault.{WriteFault};
 ghost use Rattle.check_program.specs.Finding.{Tells, TellsSome};
 ghost use Rattle.check_program.specs.Faults.{verdict_status};
 ghost use Rattle.check_program.specs.VerdictLines.{place_text, reason_text, Says, SaysWrong};
@@ -11,9 +11,8 @@ ghost use Rattle.check_program.specs.VerdictLines.{place_text, reason_text, Says
 use crate::faults::Fault;
 use crate::options::Options;
 use auction_rows::MOST_WORKERS;
-use auction_text::{
-    WriteFault, push_labelled, push_number, push_reply, push_text, read_compact_scripts, write_last,
-};
+use auction_text::{push_reply, read_compact_scripts};
+use byte_texts::{WriteFault, push_labelled, push_number, push_text, write_last};
 use history_check::{CommitId, Verdict, Wrong, check_history, read_line};
 use item_shards::OpeningBook;
 use std::alloc::{AllocError, Global};

@@ -1,10 +1,11 @@
 //! Why the program finds nothing, its exit statuses and its words.
 ghost use Rattle.std.specs.Prelude.{◌≡◌, IfErr, IfSome, OnOk};
 ghost use Rattle.std.specs.Io.KnownBytes.{Appends};
-ghost use Rattle.auction_text.specs.declared.writing.WriteFault.{WriteFault};
+ghost use Rattle.byte_texts.specs.declared.writing.WriteFault.{WriteFault};
 ghost use Rattle.check_program.specs.Faults.{status, parser_words};
 
-use auction_text::{ReadFault, WriteFault};
+use auction_text::ReadFault;
+use byte_texts::WriteFault;
 use history_check::CheckFault;
 use item_shards::ResumeFault;
 use program_options::UsageFault;

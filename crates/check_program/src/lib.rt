@@ -6,7 +6,7 @@ mod execution;
 mod faults;
 mod options;
 
-pub use auction_text::UntilEnd;
+pub use byte_texts::UntilEnd;
 pub use execution::{execute, verdict_status};
 pub use faults::{Fault, status, write_fault};
 pub use options::{Options, read_options};

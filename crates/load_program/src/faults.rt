@@ -1,10 +1,10 @@
 //! Why the program fails, its exit statuses and its words.
 ghost use Rattle.std.specs.Prelude.{◌≡◌, IfErr, IfSome, OnOk};
 ghost use Rattle.std.specs.Io.KnownBytes.{Appends};
-ghost use Rattle.auction_text.specs.declared.writing.WriteFault.{WriteFault};
+ghost use Rattle.byte_texts.specs.declared.writing.WriteFault.{WriteFault};
 ghost use Rattle.load_program.specs.Faults.{status, parser_words};
 
-use auction_text::WriteFault;
+use byte_texts::WriteFault;
 use program_options::UsageFault;
 use std::alloc::AllocError;
 use std::io::Write;

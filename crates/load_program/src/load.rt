@@ -1,6 +1,5 @@
 //! The lines of requests, as the auction reads them, and the writing of a load, a chunk at a time.
 ghost use Rattle.std.specs.Prelude.{◌≡◌, ◌++◌, IfOk, OnOk, Err};
-ghost use Rattle.std.specs.Fmt.{signed_decimal};
 ghost use Rattle.std.specs.List.{flat_map};
 ghost use Rattle.std.specs.Io.KnownBytes.{Appends};
 ghost use Rattle.load_program.specs.Lines.{bid_text, buy_text, comment_text, item_text, line_text, request_text};
@@ -11,10 +10,10 @@ use crate::draws::Market;
 use crate::faults::Fault;
 use crate::plan::Plan;
 use auction_rows::{Facts, ItemId, Quantity, Request, Stars};
-use auction_text::{
-    WriteFault, push_labelled, push_labelled_id, push_number, push_quoted, push_text, write_rows,
+use auction_text::{push_quoted, write_rows};
+use byte_texts::{
+    WriteFault, push_labelled, push_labelled_id, push_number, push_signed, push_text,
 };
-use itoa::Buffer;
 use rand::SeedableRng;
 use rand_xoshiro::Xoshiro256PlusPlus;
 use std::alloc::{AllocError, Global};
@@ -32,14 +31,6 @@ pub struct ScriptLine {
     pub worker: u32,
     /// Its request.
     pub request: Request,
-}
-
-// Adds a label and a number that may be negative.
-fn push_signed(text: &mut Vec<u8>, label: &[u8], number: i64) -> Result<(), AllocError>
-    ensures { OnOk result (text.new.items ≡ text.old.items ++ (label.now ++ signed_decimal number)) }
-{
-    push_text(text, label)?;
-    text.extend_from_slice(Buffer::new().format(number).as_bytes())
 }
 
 fn push_item(text: &mut Vec<u8>, facts: &Facts, time: u64) -> Result<(), AllocError>

@@ -13,8 +13,8 @@ use Rattle.auction_rows.specs.declared.rows.Row.TheVariants.{Item, Bid, Comment,
 use Rattle.auction_rows.specs.Book.{worker_of}
 use Rattle.auction_rows.specs.Name.{IsName, IsPrinting}
 use Rattle.auction_text.specs.Fields.{is_printing}
-use Rattle.auction_text.specs.Replies.{labelled, labelled_id}
 use Rattle.auction_text.specs.RowLines.{byte_in_quotes, offer_text, quoted, row_text, terms_text}
+use Rattle.byte_texts.specs.Labels.{labelled, labelled_id}
 use Rattle.log_opening.specs.ReadBack.{IsInRange}
 use Rattle.log_opening.specs.Lines.{AreWholeLines}
 use Rattle.log_opening.proofs.ReadBackLemmas.{digits}

@@ -10,9 +10,9 @@ use Rattle.std.specs.Str.Parse.{digits_value}
 use Rattle.auction_rows.specs.declared.limits.TheConstants.{MOST_QUANTITY}
 use Rattle.auction_text.specs.Fields.{is_numeral, item_id, number, quantity}
 use Rattle.record_reading.specs.inner.PlainLines.{is_plain}
-use Rattle.auction_text.specs.Replies.{id_text}
 use Rattle.auction_text.proofs.DigitLemmas.{number_is}
 use Rattle.auction_text.proofs.PlainFieldLemmas.{digits_join, digits_plain, item_of_parts, parts_plain}
+use Rattle.byte_texts.specs.Labels.{id_text}
 
 digit_is : (d : ℕ) → d < 10 → is_ascii_digit (48 + d) ≡ true
 digit_is d few = and_from _ _ (le-leb 48 (48 + d) (omega arith)) (le-leb (48 + d) 57 (omega (arith, few)))

@@ -13,9 +13,9 @@ use Rattle.auction_rows.specs.History.{IsBook}
 use Rattle.phase_floor.specs.Adding.{IsSameAuction, IsStartOf}
 use Rattle.phase_floor.specs.States.{JoinedState}
 use Rattle.auction_text.specs.RowLines.{rows_text}
-use Rattle.auction_text.specs.Writing.{IsPartWritten}
 use Rattle.auction_text.specs.ReadFault.TheVariants as read
 use Rattle.auction_text.proofs.BufferLemmas.{held, moved}
+use Rattle.byte_texts.specs.Writing.{IsPartWritten}
 use Rattle.log_opening.specs.CutRows.{is_cut_row}
 use Rattle.log_opening.specs.Lines.{AreLines, AreWholeLines}
 use Rattle.log_opening.specs.Opening.{AreNotRows, HasRowsAndTail, IsRefused, IsRefusedIn, Opens, TellsFirst}

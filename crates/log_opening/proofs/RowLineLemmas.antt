@@ -23,7 +23,6 @@ use Rattle.auction_text.specs.Kinds.{has_count, kind_of}
 use Rattle.auction_text.specs.Lines.{ReadsFirst}
 use Rattle.record_reading.specs.inner.PlainLines.{HasRead, is_plain}
 use Rattle.auction_text.specs.Records.{read_record, request_of}
-use Rattle.auction_text.specs.Replies.{id_text}
 use Rattle.auction_text.specs.RowLines.{byte_in_quotes, row_line}
 use Rattle.auction_text.specs.RequestKind.{RequestKind}
 use Rattle.auction_text.specs.RequestKind.TheVariants as kind
@@ -31,6 +30,7 @@ use Rattle.auction_text.specs.Record.{Record}
 use Rattle.auction_text.proofs.LineLemmas.{first_and_comma, last_and_end, next_and_comma}
 use Rattle.auction_text.proofs.NameLemmas.{name_tested}
 use Rattle.auction_text.proofs.PlainFieldLemmas.{digits_no_bom}
+use Rattle.byte_texts.specs.Labels.{id_text}
 use Rattle.log_opening.specs.ReadBack.{IsInRange}
 use Rattle.log_opening.proofs.ReadBackLemmas.{digits, item_of, minus_plain, number_of, plain_item, plain_number, quantity_of}
 

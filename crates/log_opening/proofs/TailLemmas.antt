@@ -13,8 +13,9 @@ use Rattle.auction_rows.specs.declared.rows.Row.{Row}
 use Rattle.auction_rows.specs.declared.rows.Row.TheVariants.{Item, Bid, Comment, Buy}
 use Rattle.auction_rows.specs.Book.{Book, worker_of}
 use Rattle.auction_text.specs.Fields.{is_printing}
-use Rattle.auction_text.specs.Replies.{labelled, labelled_id, lines}
+use Rattle.auction_text.specs.Replies.{lines}
 use Rattle.auction_text.specs.RowLines.{byte_in_quotes, offer_text, quoted, row_line, row_text, rows_text, terms_text}
+use Rattle.byte_texts.specs.Labels.{labelled, labelled_id}
 use Rattle.log_opening.specs.CutRows.{begins_row, has_at, has_digit_at, is_cut_row}
 use Rattle.log_opening.specs.ReadBack.{IsInRange, IsWritten}
 use Rattle.log_opening.specs.Lines.{AreWholeLines}

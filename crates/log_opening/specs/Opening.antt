@@ -10,9 +10,9 @@ use Rattle.phase_floor.specs.declared.adding.AddFault.TheVariants as add
 use Rattle.auction_text.specs.Reading.{IsInputFault}
 use Rattle.auction_text.specs.RowLines.{rows_text}
 use Rattle.auction_text.specs.Scripts.{Asked, input_of}
-use Rattle.auction_text.specs.Writing.{IsPartWritten}
 use Rattle.auction_text.specs.ReadFault.{ReadFault}
 use Rattle.auction_text.specs.ReadFault.TheVariants as read
+use Rattle.byte_texts.specs.Writing.{IsPartWritten}
 use Rattle.log_opening.specs.CutRows.{is_cut_row}
 use Rattle.log_opening.specs.Differences.{IsFirstDifference}
 use Rattle.log_opening.specs.Lines.{AreLines, AreWholeLines, line_at}

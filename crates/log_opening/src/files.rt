@@ -7,7 +7,7 @@ ghost use Rattle.log_opening.specs.inner.Files.{bytes_from};
 ghost use Rattle.log_opening.specs.Opening.{IsRefused, Opens, OpensWith, TellsFirst};
 
 use crate::opening::{LoggedAuction, OpenFault, open_parts};
-use auction_text::UntilEnd;
+use byte_texts::UntilEnd;
 use part_log::{AppendFile, FileLog};
 use phase_floor::Joined;
 use std::alloc::Global;

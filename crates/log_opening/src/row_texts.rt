@@ -4,7 +4,8 @@ ghost use Rattle.auction_text.specs.RowLines.{rows_text};
 ghost use Rattle.log_opening.specs.Differences.{IsFirstDifference};
 
 use auction_rows::Row;
-use auction_text::{WriteFault, write_rows};
+use auction_text::write_rows;
+use byte_texts::WriteFault;
 use std::alloc::Global;
 use worker_journals::History;
 

@@ -3,8 +3,8 @@ use Rattle.std.proofs.Common.{arith, ◌≡◌, ◌==◌, ◌∷◌, ℕ, Bool, 
 use Rattle.std.proofs.lemmas.Bool.{eqb-true, false≢true}
 use Rattle.std.proofs.KnownBytes.{Appends-nil}
 use Rattle.std.specs.Io.KnownBytes.{Appends}
-use Rattle.auction_text.specs.Writing.{IsPartWritten}
-use Rattle.auction_text.specs.declared.writing.WriteFault.{WriteFault}
+use Rattle.byte_texts.specs.Writing.{IsPartWritten}
+use Rattle.byte_texts.specs.declared.writing.WriteFault.{WriteFault}
 use Rattle.part_log.specs.Telling.{IsEndedBy, IsFoundBy, IsUnlogged}
 use Rattle.part_log.specs.declared.log.TellFault.{TellFault}
 use Rattle.part_log.specs.declared.log.TellFault.TheVariants as tell

@@ -4,7 +4,7 @@ ghost use Rattle.std.specs.Io.KnownBytes.{Appends, Keeps};
 ghost use Rattle.part_log.specs.Files.{IsEndedAfter, IsFoundAfter};
 ghost use Rattle.part_log.specs.Telling.{IsEndedBy, IsFoundBy, IsLoggedFirst, IsToldSoFar, IsUnlogged};
 
-use auction_text::{WriteFault, write_last};
+use byte_texts::{WriteFault, write_last};
 use std::io;
 use std::io::Write;
 use thiserror::Error;

@@ -2,7 +2,7 @@
 ghost use Rattle.std.specs.Prelude.{false, None};
 
 use crate::file_log::AppendFile;
-use auction_text::UntilEnd;
+use byte_texts::UntilEnd;
 use std::fs::File;
 use std::io::{ErrorKind, Read, Seek, SeekFrom, Write};
 use std::os::unix::fs::MetadataExt;

@@ -1,13 +1,14 @@
 //! Why the program fails, its exit statuses and its words.
 ghost use Rattle.std.specs.Prelude.{◌≡◌, IfErr, IfSome, OnOk};
 ghost use Rattle.std.specs.Io.KnownBytes.{Appends};
-ghost use Rattle.auction_text.specs.declared.writing.WriteFault.{WriteFault};
+ghost use Rattle.byte_texts.specs.declared.writing.WriteFault.{WriteFault};
 ghost use Rattle.program_opening.specs.Faults.{status, parser_words};
 
 use crate::log_file::LogFileFault;
 use auction_run::RunFault;
-use auction_text::{ReadFault, WriteFault};
+use auction_text::ReadFault;
 use auction_window::MakeFault;
+use byte_texts::WriteFault;
 use item_shards::ResumeFault;
 use part_log::{LogFault, TellFault};
 use phase_floor::AddFault;

@@ -8,8 +8,9 @@ mod opening;
 mod options;
 
 pub use auction_run::RunFault;
-pub use auction_text::{Cause, ReadFault, WriteFault};
+pub use auction_text::{Cause, ReadFault};
 pub use auction_window::MakeFault;
+pub use byte_texts::WriteFault;
 pub use faults::{Fault, status, write_fault};
 pub use item_shards::ResumeFault;
 pub use log_file::{LogCause, LogFileFault, OpenedLog, open_log};

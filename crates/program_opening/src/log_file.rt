@@ -5,7 +5,7 @@ ghost use Rattle.log_opening.specs.Opening.{IsRefused, TellsFirst};
 ghost use Rattle.program_opening.specs.Opened.{IsOpenedFrom, NamesFile, text_cause, text_fault};
 
 use crate::faults::Fault;
-use auction_text::WriteFault;
+use byte_texts::WriteFault;
 use log_opening::{OpenFault, cut_log, read_log};
 use part_log::{AppendFile, FileLog, LogFault, NamedFile};
 use phase_floor::Joined;

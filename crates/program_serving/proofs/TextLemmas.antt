@@ -3,7 +3,7 @@ use Rattle.std.proofs.Common.{ℕ, ◌+◌, List, ◌++◌, Option, length, take
 use Rattle.std.proofs.KnownBytes.{Appends-trans}
 use Rattle.std.proofs.Math.Seq.{take-append-add}
 use Rattle.std.specs.Io.KnownBytes.{Appends}
-use Rattle.auction_text.specs.Writing.{IsPartWritten}
+use Rattle.byte_texts.specs.Writing.{IsPartWritten}
 
 pub part_of_added : (old mid new : Option (List ℕ)) (text added : List ℕ) → Appends old mid text → IsPartWritten mid new added → IsPartWritten old new (text ++ added)
 part_of_added old mid new text added first part =

@@ -11,9 +11,9 @@ use Rattle.auction_rows.specs.History.{row_of_entry, rows_of}
 use Rattle.auction_text.specs.Moved.{Gone, all_moved}
 use Rattle.auction_text.specs.RowLines.{row_line, rows_text}
 use Rattle.auction_text.specs.Replies.{history_text, lines, replies_text}
-use Rattle.auction_text.specs.Writing.{IsPartWritten}
-use Rattle.auction_text.specs.declared.writing.WriteFault.{WriteFault}
-use Rattle.auction_text.specs.declared.writing.WriteFault.TheVariants as write
+use Rattle.byte_texts.specs.Writing.{IsPartWritten}
+use Rattle.byte_texts.specs.declared.writing.WriteFault.{WriteFault}
+use Rattle.byte_texts.specs.declared.writing.WriteFault.TheVariants as write
 use Rattle.part_log.specs.Telling.{IsToldSoFar}
 use Rattle.part_log.specs.declared.log.TellFault.{TellFault}
 use Rattle.part_log.specs.declared.log.TellFault.TheVariants as telling

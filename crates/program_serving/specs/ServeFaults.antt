@@ -15,7 +15,7 @@ use Rattle.auction_text.specs.LineFault.{LineFault}
 use Rattle.auction_text.specs.Said.{Said}
 use Rattle.auction_text.specs.Said.TheVariants as says
 use Rattle.auction_text.specs.Record.{Record}
-use Rattle.auction_text.specs.declared.writing.WriteFault.TheVariants as write
+use Rattle.byte_texts.specs.declared.writing.WriteFault.TheVariants as write
 use Rattle.log_opening.specs.Parts.{IsFirstRefused, rows_from}
 use Rattle.part_log.specs.declared.log.Teller.{Teller}
 use Rattle.phase_floor.specs.declared.adding.AddFault.{AddFault}

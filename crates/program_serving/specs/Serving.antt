@@ -9,10 +9,10 @@ use Rattle.auction_text.specs.LiveReading.{records_said}
 use Rattle.auction_text.specs.Moved.{Gone, all_moved}
 use Rattle.auction_text.specs.RowLines.{rows_text}
 use Rattle.auction_text.specs.Scripts.{asked_in, requests_in, rows}
-use Rattle.auction_text.specs.Writing.{IsPartWritten}
 use Rattle.auction_text.specs.Said.{Said}
 use Rattle.auction_text.specs.Said.TheVariants as says
 use Rattle.auction_text.specs.Record.{Record}
+use Rattle.byte_texts.specs.Writing.{IsPartWritten}
 use Rattle.item_shards.specs.OpeningRows.{rows_by}
 use Rattle.log_opening.specs.Parts.{AreRowsFrom, rows_from}
 use Rattle.part_log.specs.declared.log.Teller.{Teller}

@@ -7,9 +7,8 @@ ghost use Rattle.program_serving.specs.Serving.{AreTold};
 ghost use Rattle.program_serving.specs.inner.Sessions.{answer_to, turned_text};
 
 use crate::parts::LiveTeller;
-use auction_text::{
-    Before, Cause, MOST_RECORDS, ReadFault, WriteFault, push_labelled, push_number, push_text,
-};
+use auction_text::{Before, Cause, MOST_RECORDS, ReadFault};
+use byte_texts::{WriteFault, push_labelled, push_number, push_text};
 use part_log::Log;
 use program_opening::{Fault, Options, write_fault};
 use std::alloc::{AllocError, Global};

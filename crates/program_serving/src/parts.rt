@@ -5,7 +5,7 @@ ghost use Rattle.auction_rows.specs.History.{book_after};
 ghost use Rattle.auction_text.specs.Moved.{gone_by};
 ghost use Rattle.auction_text.specs.RowLines.{rows_text};
 ghost use Rattle.auction_text.specs.Scripts.{Asked, asked_of};
-ghost use Rattle.auction_text.specs.Writing.{WritesText};
+ghost use Rattle.byte_texts.specs.Writing.{WritesText};
 ghost use Rattle.log_opening.specs.Parts.{HasAdded};
 ghost use Rattle.phase_floor.specs.Adding.{HasBook, IsSameAuction, IsStartOf};
 ghost use Rattle.phase_floor.specs.States.{IsBookOf};
@@ -18,8 +18,9 @@ use crate::limits::take_past;
 use auction_rows::Row;
 use auction_run::{FreeGate, Outcome, RunFault, Stopped, run_on};
 use auction_text::{
-    Before, CompactInput, TextBlock, WriteFault, write_history_on, write_replies_by, write_rows,
+    Before, CompactInput, TextBlock, write_history_on, write_replies_by, write_rows,
 };
+use byte_texts::WriteFault;
 use item_shards::Opened;
 use log_opening::{Refused, add_rows};
 use part_log::{Log, Teller};

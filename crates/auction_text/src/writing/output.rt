@@ -5,17 +5,19 @@ ghost use Rattle.auction_text.specs.Moved.{all_moved, gone_by};
 ghost use Rattle.auction_text.specs.Replies.{history_text, replies_text};
 ghost use Rattle.auction_text.specs.Report.{report_text};
 ghost use Rattle.auction_text.specs.RowLines.{rows_text};
-ghost use Rattle.auction_text.specs.Writing.{IsPartWritten, PutsText, WritesText};
+ghost use Rattle.auction_text.specs.inner.Putting.{PutsText};
+ghost use Rattle.byte_texts.specs.Writing.{IsPartWritten, WritesText};
 
-use crate::writing::block::{Block, ROOM, TextBlock};
+use crate::writing::Before;
+use crate::writing::replies::TextBlock;
 use crate::writing::reply_order::{all_late_entries, put_all_replies, worker_texts};
 use crate::writing::report::{
     ReportLines, push_category_lines, push_counts, push_hot_lines, push_user_lines,
 };
 use crate::writing::rows::{push_rows, push_rows_of};
-use crate::writing::text_blocks::{flush, put_entry, write_last, write_parts};
-use crate::writing::{Before, WriteFault};
+use crate::writing::text_blocks::{put_entry, write_parts};
 use auction_rows::{Object, Row};
+use byte_texts::{WriteFault, flush, write_last};
 use indexmap::IndexSet;
 use std::alloc::{AllocError, Global};
 use std::io::Write;
@@ -50,7 +52,7 @@ fn write_made<W: Write>(writer: &mut W, made: Result<Vec<u8>, AllocError>) -> Re
 // Puts the line of each entry, in the order given, after what went before.
 fn put_entries<W: Write>(
     writer: &mut W,
-    block: &mut Block<ROOM>,
+    block: &mut TextBlock,
     history: &History,
     before: &Before,
 ) -> Result<(), WriteFault>
@@ -205,7 +207,7 @@ pub fn write_history_on<W: Write>(
     ensures { WritesText W.contents writer.old writer.new
         (history_text (all_moved (gone_by before.now) history.now.entries)) result }
 {
-    let mut block = Block::<ROOM>::new();
+    let mut block = TextBlock::new();
     put_entries(writer, &mut block, history, before)?;
     write_last(writer, block.bytes())
 }

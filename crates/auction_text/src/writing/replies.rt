@@ -1,14 +1,14 @@
 //! The texts of replies, and their lines.
-ghost use Rattle.std.specs.Prelude.{◌≡◌, ◌↔◌, ◌+◌, ◌≤◌, ◌++◌, IsTrue, OnOk, codes, length};
+ghost use Rattle.std.specs.Prelude.{◌≡◌, ◌↔◌, ◌+◌, ◌≤◌, ◌++◌, [], IsTrue, OnOk, codes, length};
 ghost use Rattle.std.specs.List.{flat_map};
 ghost use Rattle.auction_rows.specs.ItemViews.{item_reply};
 ghost use Rattle.auction_rows.specs.StoreReplies.{reply_of};
 ghost use Rattle.auction_text.specs.Replies.{bid_text, facts_text, history_line, item_text, place_text, refusal_text, reply_line, reply_text, score_text, state_text};
 
-use crate::writing::block::Block;
-use crate::writing::text::push_text;
 use auction_rows::{BidShown, ItemShown, ItemView, Refusal, Reply, StoreReply, Ten};
+use byte_texts::{Block, Numeral, push_text};
 use std::alloc::AllocError;
+use std::marker::Model;
 use worker_journals::EntryRef;
 
 // The bytes that each part of a reply or of its line takes at most, with 20 for each number.
@@ -35,6 +35,72 @@ pub const MOST_OF_A_REPLY: usize = 4 + 10 * MOST_OF_A_BID;
 
 /// No line of a reply, or of an entry in a history, takes more.
 pub const MOST_OF_A_LINE: usize = 1200;
+
+/// So many bytes are put together before they are written.
+pub const ROOM: usize = 4096;
+
+/// A part of a text of replies, of at most `N` bytes, put together in place from its front.
+/// Contracts see it.
+#[derive(Drop)]
+pub struct ReplyBlock<const N: usize> {
+    text: Block<N>,
+    // The index, and the serials of items, bids and comments that were added last: mostly the next
+    // ones follow.
+    index: Numeral,
+    item: Numeral,
+    bid: Numeral,
+    comment: Numeral,
+}
+
+/// A block of lines that are written.
+pub type TextBlock = ReplyBlock<ROOM>;
+
+impl<const N: usize> Model for ReplyBlock<N> {
+    ghost use Rattle.std.specs.Prelude.{ℕ, List};
+
+    ghost Value = { List ℕ };
+
+    ghost view = { λ b. b.text };
+}
+
+impl<const N: usize> ReplyBlock<N> {
+    /// An empty one.
+    pub fn new() -> ReplyBlock<N>
+        ensures { result ≡ [] }
+    {
+        ReplyBlock {
+            text: Block::new(),
+            index: Numeral::zero(),
+            item: Numeral::zero(),
+            bid: Numeral::zero(),
+            comment: Numeral::zero(),
+        }
+    }
+
+    /// How many bytes it has.
+    #[inline(always)]
+    pub(crate) fn len(&self) -> usize
+        ensures { result ≡ length self.now }
+    {
+        self.text.len()
+    }
+
+    /// Its bytes.
+    #[inline(always)]
+    pub fn bytes(&self) -> &[u8]
+        ensures { result.now ≡ self.now }
+    {
+        self.text.bytes()
+    }
+
+    /// Makes it empty.
+    #[inline(always)]
+    pub(crate) fn clear(&mut self)
+        ensures { self.new ≡ [] }
+    {
+        self.text.clear();
+    }
+}
 
 fn text_of_refusal(refusal: Refusal) -> &'static [u8]
     ensures text { result.now ≡ refusal_text refusal }
@@ -137,34 +203,47 @@ fn put_score<const N: usize>(block: &mut Block<N>, rating: i64, comments: u64)
 }
 
 #[inline(always)]
-fn put_store_reply<const N: usize>(block: &mut Block<N>, reply: StoreReply)
+fn put_store_reply<const N: usize>(block: &mut ReplyBlock<N>, reply: StoreReply)
     requires { MOST_OF_A_STORE_REPLY + length block.old ≤ N }
     ensures text { block.new ≡ block.old ++ reply_text (reply_of reply) }
     ensures length { length block.new ≤ MOST_OF_A_STORE_REPLY + length block.old }
 {
     match reply {
-        StoreReply::ItemStored(id) => block.push_item_id(b"item ", id),
-        StoreReply::BidStored(id) => block.push_bid_id(b"bid ", id),
-        StoreReply::CommentStored(id) => block.push_comment_id(b"comment ", id),
-        StoreReply::Bought(id) => block.push_id(b"buynow ", id.worker, id.serial),
-        StoreReply::Refused(refusal) => block.push(text_of_refusal(refusal)),
+        StoreReply::ItemStored(id) => {
+            block
+                .text
+                .push_counted_id(b"item ", id.worker, id.serial, &mut block.item)
+        }
+        StoreReply::BidStored(id) => {
+            block
+                .text
+                .push_counted_id(b"bid ", id.worker, id.serial, &mut block.bid)
+        }
+        StoreReply::CommentStored(id) => {
+            block
+                .text
+                .push_counted_id(b"comment ", id.worker, id.serial, &mut block.comment)
+        }
+        StoreReply::Bought(id) => block.text.push_id(b"buynow ", id.worker, id.serial),
+        StoreReply::Refused(refusal) => block.text.push(text_of_refusal(refusal)),
     }
 }
 
 // Adds the text of the view of an item.
-fn put_item_seen<const N: usize>(block: &mut Block<N>, seen: &ItemView)
+fn put_item_seen<const N: usize>(block: &mut ReplyBlock<N>, seen: &ItemView)
     requires { MOST_OF_A_REPLY + length block.old ≤ N }
     ensures text { block.new ≡ block.old ++ reply_text (item_reply seen.now) }
     ensures length { length block.new ≤ MOST_OF_A_REPLY + length block.old }
 {
-    put_facts(block, seen.seller, seen.category, seen.start, seen.closes);
-    put_state(block, seen.highest, seen.bidder, seen.bids, seen.left);
-    block.push(b" name=");
-    block.push(seen.name.bytes());
+    let text = &mut block.text;
+    put_facts(text, seen.seller, seen.category, seen.start, seen.closes);
+    put_state(text, seen.highest, seen.bidder, seen.bids, seen.left);
+    text.push(b" name=");
+    text.push(seen.name.bytes());
 }
 
 // Adds the text of a reply.
-fn put_reply<const N: usize>(block: &mut Block<N>, reply: &Reply)
+fn put_reply<const N: usize>(block: &mut ReplyBlock<N>, reply: &Reply)
     requires { MOST_OF_A_REPLY + length block.old ≤ N }
     ensures text { block.new ≡ block.old ++ reply_text reply.now }
     ensures length { length block.new ≤ MOST_OF_A_REPLY + length block.old }
@@ -186,22 +265,22 @@ fn put_reply<const N: usize>(block: &mut Block<N>, reply: &Reply)
             bids,
             left,
         } => {
-            put_facts(block, *seller, *category, *start, *closes);
-            put_state(block, *highest, *bidder, *bids, *left);
-            block.push(b" name=");
-            block.push(name.bytes());
+            put_facts(&mut block.text, *seller, *category, *start, *closes);
+            put_state(&mut block.text, *highest, *bidder, *bids, *left);
+            block.text.push(b" name=");
+            block.text.push(name.bytes());
         }
-        Reply::BidsSeen(bids) => put_bids(block, bids),
-        Reply::CategorySeen(items) => put_items(block, items),
+        Reply::BidsSeen(bids) => put_bids(&mut block.text, bids),
+        Reply::CategorySeen(items) => put_items(&mut block.text, items),
         Reply::UserSeen { rating, comments } => {
-            block.push(b"user");
-            put_score(block, *rating, *comments);
+            block.text.push(b"user");
+            put_score(&mut block.text, *rating, *comments);
         }
     }
 }
 
 /// Makes a block the text of a reply, whatever it was.
-pub fn set_reply(block: &mut Block<MOST_OF_A_REPLY>, reply: &Reply)
+pub(crate) fn set_reply(block: &mut ReplyBlock<MOST_OF_A_REPLY>, reply: &Reply)
     ensures { block.new ≡ reply_text reply.now }
 {
     block.clear();
@@ -209,7 +288,7 @@ pub fn set_reply(block: &mut Block<MOST_OF_A_REPLY>, reply: &Reply)
 }
 
 // Makes a block the text of the reply to a store, whatever it was.
-fn set_store_reply(block: &mut Block<MOST_OF_A_REPLY>, reply: StoreReply)
+fn set_store_reply(block: &mut ReplyBlock<MOST_OF_A_REPLY>, reply: StoreReply)
     ensures { block.new ≡ reply_text (reply_of reply) }
 {
     block.clear();
@@ -217,7 +296,7 @@ fn set_store_reply(block: &mut Block<MOST_OF_A_REPLY>, reply: StoreReply)
 }
 
 // Whether a text is that of a block.
-fn is_text_of(block: &Block<MOST_OF_A_REPLY>, text: &[u8]) -> bool
+fn is_text_of(block: &ReplyBlock<MOST_OF_A_REPLY>, text: &[u8]) -> bool
     ensures { IsTrue result ↔ (text.now ≡ block.now) }
 {
     block.bytes() == text
@@ -227,14 +306,14 @@ fn is_text_of(block: &Block<MOST_OF_A_REPLY>, text: &[u8]) -> bool
 /// writing most replies, so it is kept from reply to reply.
 #[derive(Drop)]
 pub struct ReplyText {
-    block: Block<MOST_OF_A_REPLY>,
+    block: ReplyBlock<MOST_OF_A_REPLY>,
 }
 
 impl ReplyText {
     /// Room with no text.
     pub fn new() -> ReplyText {
         ReplyText {
-            block: Block::new(),
+            block: ReplyBlock::new(),
         }
     }
 
@@ -259,14 +338,14 @@ impl ReplyText {
 pub fn push_reply(text: &mut Vec<u8>, reply: &Reply) -> Result<(), AllocError>
     ensures { OnOk result (text.new.items ≡ text.old.items ++ reply_text reply.now) }
 {
-    let mut block = Block::new();
+    let mut block = ReplyBlock::new();
     set_reply(&mut block, reply);
     push_text(text, block.bytes())
 }
 
 // Adds the text of an entry's reply to a view, which is made whole if it shows no item.
 #[inline(never)]
-fn put_view<const N: usize>(block: &mut Block<N>, entry: &EntryRef<'_>)
+fn put_view<const N: usize>(block: &mut ReplyBlock<N>, entry: &EntryRef<'_>)
     requires { MOST_OF_A_REPLY + length block.old ≤ N }
     ensures text { block.new ≡ block.old ++ reply_text entry.now.reply }
     ensures length { length block.new ≤ MOST_OF_A_REPLY + length block.old }
@@ -279,7 +358,7 @@ fn put_view<const N: usize>(block: &mut Block<N>, entry: &EntryRef<'_>)
 
 // Adds the text of an entry's reply.
 #[inline(always)]
-fn put_reply_of<const N: usize>(block: &mut Block<N>, entry: &EntryRef<'_>)
+fn put_reply_of<const N: usize>(block: &mut ReplyBlock<N>, entry: &EntryRef<'_>)
     requires { MOST_OF_A_REPLY + length block.old ≤ N }
     ensures text { block.new ≡ block.old ++ reply_text entry.now.reply }
     ensures length { length block.new ≤ MOST_OF_A_REPLY + length block.old }
@@ -292,16 +371,20 @@ fn put_reply_of<const N: usize>(block: &mut Block<N>, entry: &EntryRef<'_>)
 
 /// Adds the line of an entry among the replies, with this index.
 #[inline(always)]
-pub fn put_reply_line<const N: usize>(block: &mut Block<N>, entry: &EntryRef<'_>, index: u64)
+pub(crate) fn put_reply_line<const N: usize>(
+    block: &mut ReplyBlock<N>,
+    entry: &EntryRef<'_>,
+    index: u64,
+)
     requires { MOST_OF_A_LINE + length block.old ≤ N }
     ensures { block.new ≡ block.old ++ reply_line (record entry.now { index = index }) }
 {
-    block.push_number(u64::from(entry.worker()));
-    block.push(b",");
-    block.push_index(index);
-    block.push(b",");
+    block.text.push_number(u64::from(entry.worker()));
+    block.text.push(b",");
+    block.text.push_counted(index, &mut block.index);
+    block.text.push(b",");
     put_reply_of(block, entry);
-    block.push(b"\n");
+    block.text.push(b"\n");
 }
 
 // Adds the place of an entry in a history, with this phase and index.
@@ -318,8 +401,8 @@ fn put_place<const N: usize>(block: &mut Block<N>, entry: &EntryRef<'_>, phase: 
 }
 
 /// Adds the line of an entry in a history, with this phase and index.
-pub fn put_history_line<const N: usize>(
-    block: &mut Block<N>,
+pub(crate) fn put_history_line<const N: usize>(
+    block: &mut ReplyBlock<N>,
     entry: &EntryRef<'_>,
     phase: u64,
     index: u64,
@@ -328,8 +411,8 @@ pub fn put_history_line<const N: usize>(
     ensures { block.new
         ≡ block.old ++ history_line (record entry.now { phase = phase; index = index }) }
 {
-    put_place(block, entry, phase, index);
-    block.push(b" ");
+    put_place(&mut block.text, entry, phase, index);
+    block.text.push(b" ");
     put_reply_of(block, entry);
-    block.push(b"\n");
+    block.text.push(b"\n");
 }

@@ -1,20 +1,20 @@
 //! The replies of each worker in the order of its requests, also as a text of its own, which a
 //! thread of its own makes.
-ghost use Rattle.std.specs.Prelude.{◌≡◌, ◌≤◌, ◌<◌, ◌^◌, None, Ok, drop, length, map, nat_lt, vec_len, IfOk};
+ghost use Rattle.std.specs.Prelude.{◌≡◌, ◌≤◌, ◌<◌, ◌^◌, None, Ok, length, map, nat_lt, vec_len, IfOk};
 ghost use Rattle.std.specs.List.{AllByRecursion};
 ghost use Rattle.phase_laws.specs.Order.{part};
 ghost use Rattle.worker_journals.specs.Journals.{entry_worker};
-ghost use Rattle.auction_text.specs.Moved.{gone_by, all_moved, line_after};
+ghost use Rattle.auction_text.specs.Moved.{gone_by, all_moved};
 ghost use Rattle.auction_text.specs.Order.{comes_before, in_order};
 ghost use Rattle.auction_text.specs.Replies.{lines, replies_text};
-ghost use Rattle.auction_text.specs.inner.Turns.{front, late, rest};
+ghost use Rattle.auction_text.specs.inner.Putting.{PutsFront, PutsText, line_after};
+ghost use Rattle.auction_text.specs.inner.Turns.{late};
 ghost use Rattle.auction_text.specs.inner.Workers.{AreEach, late_of, replies_of};
-ghost use Rattle.auction_text.specs.Writing.{PutsText};
 
-use crate::writing::block::{Block, ROOM};
-use crate::writing::text::push_text;
+use crate::writing::Before;
+use crate::writing::replies::TextBlock;
 use crate::writing::text_blocks::put_reply;
-use crate::writing::{Before, WriteFault};
+use byte_texts::{WriteFault, push_text};
 use std::alloc::{AllocError, Global};
 use std::io::Write;
 use std::thread::{Threads, map_indices};
@@ -61,7 +61,7 @@ fn late_as_committed(
 }
 
 /// The late entries of a worker in the order of their indexes.
-pub fn late_entries(
+pub(crate) fn late_entries(
     alloc: Global,
     history: &History,
     worker: u32,
@@ -74,7 +74,7 @@ pub fn late_entries(
 }
 
 /// The late entries of each worker, in order, up to the last worker that has an entry.
-pub fn all_late_entries(
+pub(crate) fn all_late_entries(
     alloc: Global,
     history: &History,
 ) -> Result<Vec<Vec<EntryRef<'_>>>, AllocError>
@@ -96,18 +96,15 @@ pub fn all_late_entries(
 #[inline(never)]
 fn put_before<W: Write>(
     writer: &mut W,
-    block: &mut Block<ROOM>,
+    block: &mut TextBlock,
     entries: &[EntryRef<'_>],
     from: usize,
     entry: &EntryRef<'_>,
     gone: u64,
 ) -> Result<usize, WriteFault>
     requires { from ≤ length entries.now }
-    ensures within { IfOk result (λ place. place ≤ length entries.now) }
-    ensures rest { IfOk result (λ place. drop place entries.now
-        ≡ rest comes_before entry.now (drop from entries.now)) }
-    ensures puts { PutsText W.contents writer.old writer.new block.old block.new
-        (lines (line_after gone) (front comes_before entry.now (drop from entries.now))) result }
+    ensures { PutsFront W.contents writer.old writer.new block.old block.new
+        gone entries.now from entry.now result }
 {
     let mut place = from;
     while let Some(next) = entries.get(place) {
@@ -124,18 +121,15 @@ fn put_before<W: Write>(
 #[inline(always)]
 fn put_any_before<W: Write>(
     writer: &mut W,
-    block: &mut Block<ROOM>,
+    block: &mut TextBlock,
     entries: &[EntryRef<'_>],
     from: usize,
     entry: &EntryRef<'_>,
     gone: u64,
 ) -> Result<usize, WriteFault>
     requires { from ≤ length entries.now }
-    ensures within { IfOk result (λ place. place ≤ length entries.now) }
-    ensures rest { IfOk result (λ place. drop place entries.now
-        ≡ rest comes_before entry.now (drop from entries.now)) }
-    ensures puts { PutsText W.contents writer.old writer.new block.old block.new
-        (lines (line_after gone) (front comes_before entry.now (drop from entries.now))) result }
+    ensures { PutsFront W.contents writer.old writer.new block.old block.new
+        gone entries.now from entry.now result }
 {
     if from < entries.len() {
         return put_before(writer, block, entries, from, entry, gone);
@@ -146,7 +140,7 @@ fn put_any_before<W: Write>(
 #[inline(never)]
 fn put_replies<W: Write>(
     writer: &mut W,
-    block: &mut Block<ROOM>,
+    block: &mut TextBlock,
     entries: &[EntryRef<'_>],
     gone: u64,
 ) -> Result<(), WriteFault>
@@ -162,9 +156,9 @@ fn put_replies<W: Write>(
 /// Puts the lines of a worker's entries among the replies, by index, then place, after so many
 /// requests of it. They are read where they lie, in the order of their commits, and those that are
 /// late, which are given in order, are put in between.
-pub fn put_replies_of<W: Write>(
+pub(crate) fn put_replies_of<W: Write>(
     writer: &mut W,
-    block: &mut Block<ROOM>,
+    block: &mut TextBlock,
     history: &History,
     worker: u32,
     delayed: &[EntryRef<'_>],
@@ -188,9 +182,9 @@ pub fn put_replies_of<W: Write>(
 
 /// Puts the lines of all workers' entries among the replies, by worker, then index, then place,
 /// after what went before.
-pub fn put_all_replies<W: Write>(
+pub(crate) fn put_all_replies<W: Write>(
     writer: &mut W,
-    block: &mut Block<ROOM>,
+    block: &mut TextBlock,
     history: &History,
     delayed: &[Vec<EntryRef<'_>>],
     before: &Before,
@@ -231,7 +225,7 @@ fn worker_text(
 {
     let late = late_entries(alloc, history, worker)?;
     let mut text = Vec::with_capacity(alloc, replies.saturating_mul(ROOM_OF_A_REPLY))?;
-    let mut block = Block::<ROOM>::new();
+    let mut block = TextBlock::new();
     let Ok(()) = put_replies_of(&mut text, &mut block, history, worker, late.as_slice(), 0) else {
         return Err(AllocError);
     };
@@ -254,7 +248,7 @@ fn all_made(
 }
 
 /// The replies of so many workers, each made by a thread of its own where one can be started.
-pub fn worker_texts<R: Threads + Sync>(
+pub(crate) fn worker_texts<R: Threads + Sync>(
     rt: &R,
     alloc: Global,
     history: &History,

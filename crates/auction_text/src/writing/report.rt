@@ -4,10 +4,9 @@ ghost use Rattle.std.specs.List.{flat_map};
 ghost use Rattle.auction_text.specs.Replies.{score_text};
 ghost use Rattle.auction_text.specs.Report.{category_line, count_line, counts_text, hot_line, numbered_lines, object_text, refused_count, user_line};
 
-use crate::writing::block::Block;
-use crate::writing::replies::{MOST_OF_A_REPLY, set_reply};
-use crate::writing::text::{push_labelled, push_labelled_id, push_signed, push_text};
+use crate::writing::replies::{MOST_OF_A_REPLY, ReplyBlock, set_reply};
 use auction_rows::{Object, Reply};
+use byte_texts::{push_labelled, push_labelled_id, push_signed, push_text};
 use indexmap::IndexSet;
 use std::alloc::AllocError;
 use worker_journals::History;
@@ -38,7 +37,11 @@ fn refused_count(history: &History) -> usize
 }
 
 /// Adds how many phases there were, how many requests, and how many of these were refused.
-pub fn push_counts(text: &mut Vec<u8>, phases: usize, history: &History) -> Result<(), AllocError>
+pub(crate) fn push_counts(
+    text: &mut Vec<u8>,
+    phases: usize,
+    history: &History,
+) -> Result<(), AllocError>
     ensures { OnOk result (text.new.items
         ≡ text.old.items ++ counts_text phases history.now.entries) }
 {
@@ -78,7 +81,7 @@ fn push_hot_line(text: &mut Vec<u8>, phase: u64, hot: &[Object]) -> Result<(), A
 }
 
 /// Adds the line of each phase's hot set that is not empty.
-pub fn push_hot_lines(text: &mut Vec<u8>, hot: &[IndexSet<Object>]) -> Result<(), AllocError>
+pub(crate) fn push_hot_lines(text: &mut Vec<u8>, hot: &[IndexSet<Object>]) -> Result<(), AllocError>
     ensures { OnOk result (text.new.items
         ≡ text.old.items ++ numbered_lines hot_line 0 (map (λ set. set.keys) hot.now)) }
 {
@@ -90,7 +93,7 @@ pub fn push_hot_lines(text: &mut Vec<u8>, hot: &[IndexSet<Object>]) -> Result<()
 
 fn push_category_line(
     text: &mut Vec<u8>,
-    block: &mut Block<MOST_OF_A_REPLY>,
+    block: &mut ReplyBlock<MOST_OF_A_REPLY>,
     category: u64,
     seen: &Reply,
 ) -> Result<(), AllocError>
@@ -104,11 +107,14 @@ fn push_category_line(
 }
 
 /// Adds the line of each category.
-pub fn push_category_lines(text: &mut Vec<u8>, categories: &[Reply]) -> Result<(), AllocError>
+pub(crate) fn push_category_lines(
+    text: &mut Vec<u8>,
+    categories: &[Reply],
+) -> Result<(), AllocError>
     ensures { OnOk result (text.new.items
         ≡ text.old.items ++ numbered_lines category_line 0 categories.now) }
 {
-    let mut block = Block::new();
+    let mut block = ReplyBlock::new();
     for (category, seen) in categories.iter().enumerate() {
         push_category_line(text, &mut block, category as u64, seen)?;
     }
@@ -137,7 +143,7 @@ fn push_user_line(text: &mut Vec<u8>, user: u64, seen: &Reply) -> Result<(), All
 }
 
 /// Adds the line of each user with comments.
-pub fn push_user_lines(text: &mut Vec<u8>, users: &[Reply]) -> Result<(), AllocError>
+pub(crate) fn push_user_lines(text: &mut Vec<u8>, users: &[Reply]) -> Result<(), AllocError>
     ensures { OnOk result (text.new.items
         ≡ text.old.items ++ numbered_lines user_line 0 users.now) }
 {

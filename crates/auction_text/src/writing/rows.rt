@@ -5,9 +5,8 @@ ghost use Rattle.auction_rows.specs.History.{row_of_entry, rows_of};
 ghost use Rattle.auction_text.specs.Replies.{lines};
 ghost use Rattle.auction_text.specs.RowLines.{bid_row_text, buy_row_text, byte_in_quotes, comment_row_text, item_row_text, offer_text, quoted, row_line, terms_text};
 
-use crate::writing::block::Block;
-use crate::writing::text::push_text;
 use auction_rows::{BidRow, BuyRow, CommentRow, ItemRow, Row};
+use byte_texts::{Block, push_text};
 use std::alloc::AllocError;
 use worker_journals::{EntryRef, History};
 
@@ -42,11 +41,10 @@ pub fn push_quoted(text: &mut Vec<u8>, bytes: &[u8]) -> Result<(), AllocError>
 // No line of a row, but for the name of an item, takes more.
 const MOST_OF_A_ROW: usize = 160;
 
-fn push_offer(
-    text: &mut Vec<u8>,
-    line: &mut Block<MOST_OF_A_ROW>,
-    row: &ItemRow,
-) -> Result<(), AllocError>
+// A block in which the lines of rows are put together, one after the other.
+type RowBlock = Block<MOST_OF_A_ROW>;
+
+fn push_offer(text: &mut Vec<u8>, line: &mut RowBlock, row: &ItemRow) -> Result<(), AllocError>
     ensures { OnOk result (text.new.items
         ≡ text.old.items ++ (decimal row.now.id.worker ++ offer_text row.now.facts)) }
 {
@@ -59,13 +57,8 @@ fn push_offer(
     push_quoted(text, row.facts.name.bytes())
 }
 
-fn push_terms(
-    text: &mut Vec<u8>,
-    line: &mut Block<MOST_OF_A_ROW>,
-    row: &ItemRow,
-) -> Result<(), AllocError>
-    ensures { OnOk result (text.new.items
-        ≡ text.old.items ++ (terms_text row.now ++ codes "\n")) }
+fn push_terms(text: &mut Vec<u8>, line: &mut RowBlock, row: &ItemRow) -> Result<(), AllocError>
+    ensures { OnOk result (text.new.items ≡ text.old.items ++ (terms_text row.now ++ codes "\n")) }
 {
     line.clear();
     line.push_labelled(b",", row.facts.start);
@@ -76,11 +69,7 @@ fn push_terms(
     push_text(text, line.bytes())
 }
 
-fn push_item_line(
-    text: &mut Vec<u8>,
-    line: &mut Block<MOST_OF_A_ROW>,
-    row: &ItemRow,
-) -> Result<(), AllocError>
+fn push_item_line(text: &mut Vec<u8>, line: &mut RowBlock, row: &ItemRow) -> Result<(), AllocError>
     ensures { OnOk result (text.new.items
         ≡ text.old.items ++ (item_row_text row.now ++ codes "\n")) }
 {
@@ -88,11 +77,7 @@ fn push_item_line(
     push_terms(text, line, row)
 }
 
-fn push_bid_line(
-    text: &mut Vec<u8>,
-    line: &mut Block<MOST_OF_A_ROW>,
-    row: &BidRow,
-) -> Result<(), AllocError>
+fn push_bid_line(text: &mut Vec<u8>, line: &mut RowBlock, row: &BidRow) -> Result<(), AllocError>
     ensures { OnOk result (text.new.items
         ≡ text.old.items ++ (bid_row_text row.now ++ codes "\n")) }
 {
@@ -108,7 +93,7 @@ fn push_bid_line(
 
 fn push_comment_line(
     text: &mut Vec<u8>,
-    line: &mut Block<MOST_OF_A_ROW>,
+    line: &mut RowBlock,
     row: &CommentRow,
 ) -> Result<(), AllocError>
     ensures { OnOk result (text.new.items
@@ -124,11 +109,7 @@ fn push_comment_line(
     push_text(text, line.bytes())
 }
 
-fn push_buy_line(
-    text: &mut Vec<u8>,
-    line: &mut Block<MOST_OF_A_ROW>,
-    row: &BuyRow,
-) -> Result<(), AllocError>
+fn push_buy_line(text: &mut Vec<u8>, line: &mut RowBlock, row: &BuyRow) -> Result<(), AllocError>
     ensures { OnOk result (text.new.items
         ≡ text.old.items ++ (buy_row_text row.now ++ codes "\n")) }
 {
@@ -143,11 +124,7 @@ fn push_buy_line(
 }
 
 // Adds the line of a row, which is put together in a block.
-fn push_row_line(
-    text: &mut Vec<u8>,
-    line: &mut Block<MOST_OF_A_ROW>,
-    row: &Row,
-) -> Result<(), AllocError>
+fn push_row_line(text: &mut Vec<u8>, line: &mut RowBlock, row: &Row) -> Result<(), AllocError>
     ensures { OnOk result (text.new.items ≡ text.old.items ++ row_line row.now) }
 {
     match row {
@@ -159,7 +136,7 @@ fn push_row_line(
 }
 
 /// Adds the line of each row.
-pub fn push_rows(text: &mut Vec<u8>, rows: &[Row]) -> Result<(), AllocError>
+pub(crate) fn push_rows(text: &mut Vec<u8>, rows: &[Row]) -> Result<(), AllocError>
     ensures { OnOk result (text.new.items ≡ text.old.items ++ lines row_line rows.now) }
 {
     let mut line = Block::new();
@@ -172,7 +149,7 @@ pub fn push_rows(text: &mut Vec<u8>, rows: &[Row]) -> Result<(), AllocError>
 // Adds the line of an entry's row, if it is an accepted store.
 fn push_row_of(
     text: &mut Vec<u8>,
-    line: &mut Block<MOST_OF_A_ROW>,
+    line: &mut RowBlock,
     entry: &EntryRef<'_>,
 ) -> Result<(), AllocError>
     ensures { OnOk result (text.new.items
@@ -185,7 +162,7 @@ fn push_row_of(
 }
 
 /// Adds the line of the row of each accepted store.
-pub fn push_rows_of(text: &mut Vec<u8>, history: &History) -> Result<(), AllocError>
+pub(crate) fn push_rows_of(text: &mut Vec<u8>, history: &History) -> Result<(), AllocError>
     ensures { OnOk result (text.new.items
         ≡ text.old.items ++ lines row_line (rows_of history.now.entries)) }
 {

@@ -4,9 +4,9 @@ use Rattle.std.specs.Io.KnownBytes.{Appends}
 use Rattle.auction_rows.specs.Book.{Book}
 use Rattle.phase_floor.specs.Adding.{IsStartOf}
 use Rattle.auction_text.specs.RowLines.{rows_text}
-use Rattle.auction_text.specs.Writing.{IsPartWritten}
 use Rattle.auction_text.specs.ReadFault.{ReadFault}
 use Rattle.auction_text.specs.ReadFault.TheVariants as read
+use Rattle.byte_texts.specs.Writing.{IsPartWritten}
 use Rattle.log_opening.specs.ReadBack.{IsInRange}
 use Rattle.log_opening.specs.declared.parts.ReadRows.{ReadRows}
 

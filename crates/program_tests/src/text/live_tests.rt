@@ -1,8 +1,8 @@
 //! What an input says that is read line by line, by what its reader gives at a time.
 use crate::testing::{assert_same, extend};
 use crate::text::reading::{Pieces, told};
-use auction_program::push_fault_line;
-use auction_text::{Cause, MOST_ROWS_OF_A_PART, ReadFault, UntilEnd};
+use auction_program::{UntilEnd, push_fault_line};
+use auction_text::{Cause, MOST_ROWS_OF_A_PART, ReadFault};
 use std::alloc::Global;
 use std::fmt::Write;
 use std::io;

@@ -3,8 +3,8 @@ use Rattle.std.specs.Io.KnownBytes.{Appends}
 use Rattle.std.proofs.KnownBytes.{Appends-trans}
 use Rattle.std.proofs.lemmas.Result.{IfErr-weaker, on_ok_weaker}
 use Rattle.auction_rows.specs.History.{book_after}
-use Rattle.auction_text.specs.Writing.{IsPartWritten}
-use Rattle.auction_text.specs.declared.writing.WriteFault.{WriteFault}
+use Rattle.byte_texts.specs.Writing.{IsPartWritten}
+use Rattle.byte_texts.specs.declared.writing.WriteFault.{WriteFault}
 use Rattle.program_opening.specs.Options.{commits_text, opening_asked}
 use Rattle.auction_program.specs.Execution.{added_text, ArePartWritten, IsOneWritten}
 use Rattle.auction_program.specs.Report.{report_of}

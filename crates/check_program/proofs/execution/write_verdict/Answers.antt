@@ -1,7 +1,7 @@
 use Rattle.std.proofs.Common.{◌++◌, ◌∙◌, ℕ, List, ap, subst}
 use Rattle.std.proofs.lemmas.Result.{on_ok_weaker}
 use Rattle.std.specs.Io.KnownBytes.{Appends}
-use Rattle.auction_text.specs.Writing.{IsPartWritten}
+use Rattle.byte_texts.specs.Writing.{IsPartWritten}
 use Rattle.history_check.specs.declared.lines.Verdict.{Verdict}
 use Rattle.history_check.specs.declared.lines.Verdict.TheVariants.{Lacks, Replays, WrongAt}
 use Rattle.check_program.specs.VerdictLines.{Says}

@@ -1,6 +1,6 @@
 use Rattle.std.proofs.Common.{◌∙◌, ◌++◌, List, ℕ, ap, append_assoc, codes}
 use Rattle.std.proofs.lemmas.Result.{on_ok_weaker}
-use Rattle.auction_text.specs.Replies.{labelled}
+use Rattle.byte_texts.specs.Labels.{labelled}
 use Rattle.program_serving.specs.inner.Sessions.{turned_text}
 use Rattle.program_serving.proofs.fault_lines.push_answer.Goals as goal
 

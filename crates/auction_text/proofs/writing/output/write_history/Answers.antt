@@ -1,7 +1,7 @@
 use Rattle.std.proofs.Common.{ap, subst}
 use Rattle.auction_text.specs.Moved.{gone_by}
 use Rattle.auction_text.specs.Replies.{history_text}
-use Rattle.auction_text.specs.Writing.{WritesText}
+use Rattle.byte_texts.specs.Writing.{WritesText}
 use Rattle.auction_text.proofs.MovedLemmas.{none_moved}
 use Rattle.auction_text.proofs.writing.output.write_history.Goals as goal
 

@@ -1,5 +1,5 @@
 use Rattle.std.proofs.Common.{arith, [], length, refl, subst}
-use Rattle.auction_text.specs.Writing.{WritesText}
+use Rattle.byte_texts.specs.Writing.{WritesText}
 use Rattle.auction_text.proofs.PartLemmas.{all_below}
 use Rattle.auction_text.proofs.PutLemmas.{writes_last, writes_part}
 use Rattle.auction_text.proofs.WorkerReplies.{texts_are_replies}

@@ -1,5 +1,5 @@
 use Rattle.std.proofs.Common.{◌∙◌, ◌++◌, List, ℕ, ap, append_assoc, codes}
-use Rattle.auction_text.specs.Replies.{labelled}
+use Rattle.byte_texts.specs.Labels.{labelled}
 use Rattle.auction_text.proofs.writing.replies.put_place.Goals as goal
 
 pub returns-clause-text : goal.returns-clause-text

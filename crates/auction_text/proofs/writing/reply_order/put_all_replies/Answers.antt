@@ -3,9 +3,10 @@ use Rattle.std.specs.Prelude.{slice_index}
 use Rattle.phase_laws.specs.Order.{part}
 use Rattle.auction_rows.specs.declared.rows.Entry.{Entry}
 use Rattle.worker_journals.specs.Journals.{entry_worker}
-use Rattle.auction_text.specs.Moved.{BeforeView, all_moved, gone_by, line_after}
+use Rattle.auction_text.specs.Moved.{BeforeView, all_moved, gone_by}
 use Rattle.auction_text.specs.Order.{in_order}
 use Rattle.auction_text.specs.Replies.{lines}
+use Rattle.auction_text.specs.inner.Putting.{line_after}
 use Rattle.auction_text.specs.inner.Workers.{late_of, replies_of}
 use Rattle.auction_text.proofs.EachLemmas.{each_at}
 use Rattle.auction_text.proofs.MovedLemmas.{replies_of-moved, workers-moved}

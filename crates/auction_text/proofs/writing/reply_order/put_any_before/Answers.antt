@@ -1,19 +1,19 @@
 use Rattle.std.proofs.Common.{◌≡◌, ◌∙◌, [], ap, arith, drop, sym}
 use Rattle.std.proofs.lemmas.List.{drop_all}
-use Rattle.auction_text.specs.Moved.{line_after}
 use Rattle.auction_text.specs.Order.{comes_before}
 use Rattle.auction_text.specs.Replies.{lines}
+use Rattle.auction_text.specs.inner.Putting.{line_after}
 use Rattle.auction_text.specs.inner.Turns.{front, rest}
 use Rattle.auction_text.proofs.PutLemmas.{nothing_put}
 use Rattle.auction_text.proofs.TurnLemmas.{front-none, rest-none}
 use Rattle.auction_text.proofs.writing.reply_order.put_any_before.Goals as goal
 
-pub returns-clause-rest : goal.returns-clause-rest
-returns-clause-rest g c =
+pub returns : goal.returns
+returns g c =
+    let e = c.args.entry.now in
     let end : drop c.args.from c.args.entries.now ≡ [] = drop_all c.args.from c.args.entries.now (omega arith) in
-    end ∙ sym (ap (rest comes_before c.args.entry.now) end ∙ rest-none comes_before c.args.entry.now)
-
-pub returns-clause-puts : goal.returns-clause-puts
-returns-clause-puts g c =
-    let end : drop c.args.from c.args.entries.now ≡ [] = drop_all c.args.from c.args.entries.now (omega arith) in
-    nothing_put g.W.Write.contents _ _ _ _ (ap (lines (line_after c.args.gone)) (ap (front comes_before c.args.entry.now) end ∙ front-none comes_before c.args.entry.now))
+    record {
+      within = c.requires;
+      others = end ∙ sym (ap (rest comes_before e) end ∙ rest-none comes_before e);
+      puts = nothing_put g.W.Write.contents _ _ _ _ (ap (lines (line_after c.args.gone)) (ap (front comes_before e) end ∙ front-none comes_before e));
+    }

@@ -4,9 +4,9 @@ use Rattle.std.proofs.lemmas.List.{take_rest}
 use Rattle.phase_laws.specs.Order.{part}
 use Rattle.auction_rows.specs.declared.rows.Entry.{Entry}
 use Rattle.worker_journals.specs.Journals.{entry_worker}
-use Rattle.auction_text.specs.Moved.{line_after}
 use Rattle.auction_text.specs.Order.{comes_before, sorted}
 use Rattle.auction_text.specs.Replies.{lines}
+use Rattle.auction_text.specs.inner.Putting.{line_after}
 use Rattle.auction_text.specs.inner.Turns.{front, in_turn, is_late, late, rest}
 use Rattle.auction_text.proofs.OwnTurns.{AreOf, late_by_index, part_own}
 use Rattle.auction_text.proofs.PartLemmas.{entry_order}
@@ -53,7 +53,7 @@ loop-entry-preserved-then-not-is_late g c =
     let delayed = drop c.loop-entry.told c.args.delayed.now in
     let own = subst (AreOf c.args.worker) c.in-Some.ensures.steps inv.own in
     let stands = late_by_index c.args.worker c.loop-entry.next inv.turn.last e inv.turn.next_is inv.turn.own own.0 ∙ sym c.is_late.ensures ∙ c.if-not-is_late.true in
-    let rest_is : drop c.in_ok-told.told c.args.delayed.now ≡ rest comes_before e delayed = c.in_ok-told.ensures.rest in
+    let rest_is : drop c.in_ok-told.told c.args.delayed.now ≡ rest comes_before e delayed = c.in_ok-told.ensures.others in
     let left = left_lines (line_after c.args.gone) inv.turn.last e c.loop-entry.entry-iterator others delayed c.in-Some.ensures.steps stands inv.up in
     let more = lines (line_after c.args.gone) (sorted comes_before (in_turn comes_before (Some e) others ++ rest comes_before e delayed)) in
     let first = told_more _ _ _ _ _ c.put_any_before.new.block _ (lines (line_after c.args.gone) (front comes_before e delayed)) (line_after c.args.gone e ++ more) _ inv.turn.holds left c.in_ok-told.ensures.puts.whole in

@@ -1,9 +1,9 @@
 use Rattle.std.proofs.Common.{◌≤◌, ◌++◌, drop, length}
 use Rattle.phase_laws.specs.Order.{part}
 use Rattle.worker_journals.specs.Journals.{entry_worker}
-use Rattle.auction_text.specs.Moved.{line_after}
 use Rattle.auction_text.specs.Order.{comes_before, in_order, sorted}
 use Rattle.auction_text.specs.Replies.{lines}
+use Rattle.auction_text.specs.inner.Putting.{line_after}
 use Rattle.auction_text.specs.inner.Turns.{in_turn}
 use Rattle.auction_text.proofs.OwnTurns.{AreOf, HasLast}
 use Rattle.auction_text.proofs.PartLemmas.{entry_order}

@@ -1,4 +1,0 @@
-use Rattle.auction_reading.proofs.until_end.read_through.Goals as goal
-
-pub returns-clause-bytes : goal.returns-clause-bytes
-returns-clause-bytes g c = c.loop.invariant.kept

@@ -1,4 +1,0 @@
-use Rattle.auction_text.proofs.writing.text_blocks.write_through.Goals as goal
-
-pub returns-clause-bytes : goal.returns-clause-bytes
-returns-clause-bytes g c = c.loop.invariant.kept

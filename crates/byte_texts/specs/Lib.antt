@@ -1,0 +1,4 @@
+pub mod inner
+pub mod Labels
+pub mod UntilEnd
+pub mod Writing
