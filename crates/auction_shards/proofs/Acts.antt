@@ -1,5 +1,5 @@
 -- The acts of a row, each on the shard where its object lies.
-use Rattle.std.proofs.Common.{◌≡◌, ℕ, ◌<◌, ◌==◌, Bool, true, false, cond, List, [], ◌∷◌, Some, length, map, get_or, set, refl, sym, ap, ◌∙◌, subst, arith, eq-eqb, length-set}
+use Rattle.std.proofs.Common.{◌≡◌, ℕ, ◌<◌, ◌==◌, Bool, true, false, cond, List, [], ◌∷◌, Some, None, length, map, get_or, set, refl, sym, ap, ◌∙◌, subst, arith, eq-eqb, length-set}
 use Rattle.std.specs.Option.{option_map_or}
 use Rattle.std.specs.List.{AllByRecursion}
 use Rattle.std.proofs.lemmas.Bool.{eqb-true, false≢true}
@@ -7,20 +7,21 @@ use Rattle.std.proofs.lemmas.Nat.{mod_below}
 use Rattle.std.proofs.lemmas.List.{length-map, map-set, set-get_or, get_or-set_same, get_or-set_other}
 use Rattle.auction_rows.specs.declared.{requests.ItemId.ItemId, requests.Object.Object, rows.ItemRow.ItemRow, rows.Row.Row}
 use Rattle.auction_rows.specs.declared.requests.Object.TheVariants.{Item, Category}
-use Rattle.auction_rows.specs.declared.rows.Row.TheVariants.{Item as Stored}
+use Rattle.auction_rows.specs.declared.replies.Reply.TheVariants.{ItemStored}
+use Rattle.auction_rows.specs.declared.rows.Row.TheVariants as row
 use Rattle.auction_rows.specs.Book.{item_entry}
+use Rattle.auction_rows.specs.History.{commit_of}
 use Rattle.auction_rows.specs.Requests.{number_of, shard_of}
-use Rattle.item_shards.specs.declared.shard.acts.Act.TheVariants.{ListItem}
-use Rattle.item_shards.specs.Events.{Event, AddItem}
+use Rattle.item_shards.specs.Events.{Event, AddItem, ListItem}
 use Rattle.item_shards.specs.declared.shard.Shard.{Shard}
-use Rattle.item_shards.specs.ShardContents.{IsSameShard, LiesIn, HasItemRoom, clock, contents, shard_number, shard_count, opening as opening_of}
+use Rattle.item_shards.specs.ShardContents.{IsSameShard, HasItemRoom, clock, contents, rooms, shard_number, shard_count, opening as opening_of}
 use Rattle.item_shards.specs.Acting.{CanActOn}
 use Rattle.item_shards.specs.Contents.{Contents, target, after_act, after_acts}
-use Rattle.item_shards.specs.Writing.{writes_of, is_cold_in, is_done_on}
+use Rattle.item_shards.specs.Writing.{writes_of, first_act, second_act, is_cold_in, is_done_on}
 use Rattle.item_shards.proofs.StandingLemmas.{cold_here}
 use Rattle.shard_boxes.specs.States.{ShardState, state_of, state_at, no_shard}
 use Rattle.auction_shards.specs.Shards.{AreNumbered, AreOfOne, IsShardOf}
-use Rattle.auction_shards.specs.Writing.{CanActIn, CanWriteOn, HasRoomIn, HaveDone, with_acts}
+use Rattle.auction_shards.specs.Writing.{CanWriteOn, HasRoomIn, HaveDone, with_acts}
 use Rattle.auction_shards.proofs.Placed.{seen, lies_there}
 
 abbrev pub acted : Event → ShardState → ShardState
@@ -110,6 +111,42 @@ still_of_one old new acts one done = record {
       ∙ one.opening_is s (omega (arith, low, done.len)) ∙ sym (ap (λ (state : ShardState). state.opening) (done.each 0 one.some));
 }
 
+-- an act without an object is done nowhere
+pub none_done : (states : List ShardState) (act : Event) → target act ≡ None → HaveDone states states (act ∷ [])
+none_done states act none = record {
+  len = refl;
+  each = λ s low i.
+      let state = state_at states s in
+      let done : Bool = option_map_or (is_cold_in state.number (length states) []) (sym none i) false in
+      record state { contents = after_acts state.contents (cond done (act ∷ []) []) };
+}
+
+-- one act and then another are both in turn
+with_both : (shards : ℕ) (act other : Event) (state : ShardState) → with_acts shards (other ∷ []) (with_acts shards (act ∷ []) state) ≡ with_acts shards (act ∷ other ∷ []) state
+with_both shards act other state =
+    ap (λ (shown : Contents). record state { contents = shown }) (at (is_done_on state.number shards [] act) (is_done_on state.number shards [] other)) where
+      at : (a b : Bool) → after_acts (after_acts state.contents (cond a (act ∷ []) [])) (cond b (other ∷ []) []) ≡ after_acts state.contents (cond a (act ∷ cond b (other ∷ []) []) (cond b (other ∷ []) []))
+      at true b = refl
+      at false b = refl
+
+-- a look at nothing is done nowhere
+with_writes : (shards : ℕ) (r : Row) (state : ShardState) → with_acts shards (first_act (writes_of r) ∷ second_act (writes_of r) ∷ []) state ≡ with_acts shards (writes_of r) state
+with_writes shards (row.Item r) state = refl
+with_writes shards (row.Bid r) state = refl
+with_writes shards (row.Comment r) state = refl
+with_writes shards (row.Buy r) state = refl
+
+-- the two acts of a row write it
+pub both_written : (old last new : List ShardState) (r : Row) → HaveDone old last (first_act (writes_of r) ∷ []) → HaveDone last new (second_act (writes_of r) ∷ []) → HaveDone old new (writes_of r)
+both_written old last new r first second = record {
+  len = second.len ∙ first.len;
+  each = λ s low.
+      let below : s < length last = omega (arith, low, first.len) in
+      second.each s below ∙ (λ i. with_acts (first.len i) (second_act (writes_of r) ∷ []) (first.each s low i))
+      ∙ with_both (length old) (first_act (writes_of r)) (second_act (writes_of r)) (state_at old s)
+      ∙ with_writes (length old) r (state_at old s);
+}
+
 module _ (shards : List Shard) (one : AreOfOne (map state_of shards)) (object : Object) (shard : Shard) (is : IsShardOf shards object shard) where
   abbrev place : ℕ
   place = shard_of object (length shards)
@@ -117,25 +154,49 @@ module _ (shards : List Shard) (one : AreOfOne (map state_of shards)) (object : 
   low : place < length shards
   low = let many : length (map state_of shards) ≡ length shards = simp length-map in mod_below (number_of object) (length shards) (omega (arith, many, one.some))
 
-  -- an act of a row can be done where its object lies
-  pub can_in : (r : Row) → CanWriteOn (map state_of shards) r
-      → AllByRecursion (λ act. is_done_on place (length shards) [] act ≡ true → CanActOn (opening_of shard) (shard_number shard) (shard_count shard) (λ id. true) (contents shard) act) (writes_of r)
-  can_in r can = can_there shards one.numbered r can place low shard is
+  done_there : (act : Event) → target act ≡ Some object → is_done_on place (length shards) [] act ≡ true
+  done_there act about = ap (λ its. option_map_or (is_cold_in place (length shards) []) its false) about ∙ cold_here place (length shards) [] object refl refl
 
-  pub lies_in : LiesIn shard object
-  lies_in = lies_there shards one.numbered object place low refl shard is
+  can_there_of : (r : Row) → CanWriteOn (map state_of shards) r
+      → AllByRecursion (λ act. is_done_on place (length shards) [] act ≡ true → CanActOn (opening_of shard) (shard_number shard) (shard_count shard) (λ id. true) (contents shard) act) (writes_of r)
+  can_there_of r can = can_there shards one.numbered r can place low shard is
+
+  -- the first act of a row can be done where its object lies, once there is room
+  pub can_first : (r : Row) → CanWriteOn (map state_of shards) r → target (first_act (writes_of r)) ≡ Some object
+      → ((id : ItemId) → (commit_of r).reply ≡ ItemStored id → HasRoomIn shards id)
+      → CanActOn (opening_of shard) (shard_number shard) (shard_count shard) (rooms shard) (contents shard) (first_act (writes_of r))
+  can_first (row.Item r) can about room =
+      let its : Some (Item r.id) ≡ Some object = about in
+      let same : Item r.id ≡ object = cc its in
+      (((can_there_of (row.Item r) can).0 (done_there (AddItem r.id r.facts) its)).0, room r.id refl shard (subst (λ o. IsShardOf shards o shard) (sym same) is))
+  can_first (row.Bid r) can about room = (can_there_of (row.Bid r) can).0 (done_there (first_act (writes_of (row.Bid r))) about)
+  can_first (row.Comment r) can about room = (can_there_of (row.Comment r) can).0 (done_there (first_act (writes_of (row.Comment r))) about)
+  can_first (row.Buy r) can about room = (can_there_of (row.Buy r) can).0 (done_there (first_act (writes_of (row.Buy r))) about)
 
 -- a stored item can be listed in its category
-pub can_list : (old last : List Shard) (row : ItemRow) → AreOfOne (map state_of old) → CanWriteOn (map state_of old) (Stored row)
-    → HaveDone (map state_of old) (map state_of last) (AddItem row.id row.facts ∷ []) → CanActIn last (Category row.facts.category) (ListItem row.facts.category (item_entry row))
-can_list old last row one can done shard is =
-    let category = Category row.facts.category in let place = shard_of category (length last) in
+can_list : (old last : List Shard) (r : ItemRow) → AreOfOne (map state_of old) → CanWriteOn (map state_of old) (row.Item r)
+    → HaveDone (map state_of old) (map state_of last) (AddItem r.id r.facts ∷ []) → (shard : Shard) → IsShardOf last (Category r.facts.category) shard
+    → CanActOn (opening_of shard) (shard_number shard) (shard_count shard) (rooms shard) (contents shard) (ListItem r.facts.category (item_entry r))
+can_list old last r one can done shard is =
+    let category = Category r.facts.category in let place = shard_of category (length last) in
     let all_old : length (map state_of old) ≡ length old = simp length-map in
     let all_last : length (map state_of last) ≡ length last = simp length-map in
     let many : length last ≡ length old = omega (arith, all_old, all_last, done.len) in
-    let low : place < length last = mod_below row.facts.category (length last) (omega (arith, one.some, all_old, many)) in
+    let low : place < length last = mod_below r.facts.category (length last) (omega (arith, one.some, all_old, many)) in
     let below : place < length (map state_of old) = omega (arith, low, many, all_old) in
-    let numbered = numbered_next (map state_of old) (map state_of last) (AddItem row.id row.facts ∷ []) one.numbered done in
+    let numbered = numbered_next (map state_of old) (map state_of last) (AddItem r.id r.facts ∷ []) one.numbered done in
     let known = (can place below).1.0 (cold_here place (length (map state_of old)) [] category (ap (shard_of category) (all_old ∙ sym many)) refl) in
     let opening_is = ap (λ (state : ShardState). state.opening.categories) (seen last place low shard is ∙ done.each place below) in
-    (lies_there last numbered category place low refl shard is, subst (λ n. row.facts.category < n) (sym opening_is) known.1)
+    (lies_there last numbered category place low refl shard is, subst (λ n. r.facts.category < n) (sym opening_is) known.1)
+
+-- after the first act of a row the second can be done where its object lies
+pub can_second : (old last : List Shard) (r : Row) → AreOfOne (map state_of old) → CanWriteOn (map state_of old) r → HaveDone (map state_of old) (map state_of last) (first_act (writes_of r) ∷ [])
+    → (object : Object) (shard : Shard) → IsShardOf last object shard → target (second_act (writes_of r)) ≡ Some object
+    → CanActOn (opening_of shard) (shard_number shard) (shard_count shard) (rooms shard) (contents shard) (second_act (writes_of r))
+can_second old last (row.Item r) one can done object shard is about =
+    let its : Some (Category r.facts.category) ≡ Some object = about in
+    let same : Category r.facts.category ≡ object = cc its in
+    can_list old last r one can done shard (subst (λ o. IsShardOf last o shard) (sym same) is)
+can_second old last (row.Bid r) one can done object shard is about = tt
+can_second old last (row.Comment r) one can done object shard is about = tt
+can_second old last (row.Buy r) one can done object shard is about = tt

@@ -1,18 +1,17 @@
 -- Rows that are written on the shards of one auction.
-use Rattle.std.specs.Prelude.{◌≡◌, ℕ, ◌<◌, true, List, [], length, map}
+use Rattle.std.specs.Prelude.{◌≡◌, ℕ, ◌<◌, true, List, [], length, Some}
 use Rattle.std.specs.List.{AllByRecursion}
 use Rattle.auction_rows.specs.declared.{requests.ItemId.ItemId, requests.Object.Object, rows.Row.Row}
 use Rattle.auction_rows.specs.declared.requests.Object.TheVariants as object
-use Rattle.auction_rows.specs.Requests.{shard_of}
 use Rattle.item_shards.specs.declared.shard.acts.Act.{Act}
 use Rattle.item_shards.specs.Events.{Event}
 use Rattle.item_shards.specs.declared.shard.Shard.{Shard}
 use Rattle.item_shards.specs.Acting.{CanActOn, CanAct}
 use Rattle.item_shards.specs.Looking.{event_at}
-use Rattle.item_shards.specs.Contents.{after_acts}
-use Rattle.item_shards.specs.ShardContents.{HasItemRoom}
+use Rattle.item_shards.specs.Contents.{target, after_acts}
+use Rattle.item_shards.specs.ShardContents.{contents, HasItemRoom}
 use Rattle.item_shards.specs.Writing.{writes_of, is_done_on, done_on}
-use Rattle.shard_boxes.specs.States.{ShardState, state_at, state_of}
+use Rattle.shard_boxes.specs.States.{ShardState, state_at}
 use Rattle.auction_shards.specs.Shards.{IsShardOf}
 
 -- each act that writes a row can be done on the shard where its object lies, once there is room for
@@ -23,14 +22,11 @@ CanWriteOn states row = (s : ℕ) → s < length states →
     CanActOn (state_at states s).opening s (length states) (λ id. true)
     (state_at states s).contents act) (writes_of row)
 
--- the act can be done on the shard in which the object lies
-abbrev pub CanActIn : List Shard → Object → Act → Type 0
-CanActIn shards object act = (shard : Shard) → IsShardOf shards object shard → CanAct shard act
-
--- the act as it is done on the shard in which the object lies
-abbrev pub event_on : List Shard → Object → Act → Event
-event_on shards object act =
-    event_at (state_at (map state_of shards) (shard_of object (length shards))).contents act
+-- the act can be done on the shard in which its object lies, if it has one
+abbrev pub CanActIn : List Shard → Act → Type 0
+CanActIn shards act = (object : Object) (shard : Shard) →
+    target (event_at (contents shard) act) ≡ Some object → IsShardOf shards object shard →
+    CanAct shard act
 
 -- there is room for the item in the shard in which it lies
 abbrev pub HasRoomIn : List Shard → ItemId → Type 0

@@ -1,15 +1,18 @@
 //! How a row is written: by acts, each on the shard where its object lies.
-ghost use Rattle.std.specs.Prelude.{◌≡◌, ◌∷◌, [], OnErr, OnOk, Some, map};
-ghost use Rattle.auction_rows.specs.declared.rows.Row.TheVariants.{Item};
-ghost use Rattle.item_shards.specs.Contents.{target};
+ghost use Rattle.std.specs.Prelude.{◌≡◌, ◌∷◌, [], OnErr, OnOk, map};
+ghost use Rattle.auction_rows.specs.declared.requests.ItemId.{ItemId};
+ghost use Rattle.auction_rows.specs.declared.replies.Reply.TheVariants.{ItemStored};
+ghost use Rattle.auction_rows.specs.History.{commit_of};
+ghost use Rattle.item_shards.specs.Events.{Event};
+ghost use Rattle.item_shards.specs.Looking.{IsEvent};
 ghost use Rattle.item_shards.specs.Writing.{writes_of};
 ghost use Rattle.shard_boxes.specs.States.{state_of};
 ghost use Rattle.auction_shards.specs.Shards.{AreOfOne};
-ghost use Rattle.auction_shards.specs.Writing.{CanActIn, CanWriteOn, HasRoomIn, HaveDone, event_on};
+ghost use Rattle.auction_shards.specs.Writing.{CanActIn, CanWriteOn, HasRoomIn, HaveDone};
 
 use crate::shards::Shards;
-use auction_rows::{BidEntry, ItemEntry, ItemId, ItemRow, Object, Row, shard_of};
-use item_shards::{Act, Shard};
+use auction_rows::{Object, Row, shard_of};
+use item_shards::{Act, Shard, writes_of};
 use std::alloc::AllocError;
 
 impl Shards {
@@ -36,82 +39,36 @@ fn write_row(shards: &mut Vec<Shard>, row: &Row) -> Result<(), AllocError>
     ensures same { OnErr result
         (map state_of shards.new.items ≡ map state_of shards.old.items) }
 {
-    match *row {
-        Row::Item(row) => write_item(shards, row)?,
-        Row::Bid(row) => {
-            let entry = BidEntry {
-                amount: row.amount,
-                time: row.time,
-                id: row.id,
-                bidder: row.bidder,
-            };
-            act(shards, Object::Item(row.item), Act::Bid(row.item, entry));
-        }
-        Row::Comment(row) => {
-            act(
-                shards,
-                Object::User(row.about),
-                Act::Comment(row.about, row.stars),
-            );
-        }
-        Row::Buy(row) => {
-            act(
-                shards,
-                Object::Item(row.item),
-                Act::Buy(row.item, row.quantity),
-            );
-        }
-    }
+    make_room(shards, row)?;
+    let (first, second) = writes_of(row);
+    act(shards, &first);
+    act(shards, &second);
     Ok(())
 }
 
-// Stores an item, once there is room for it, and lists it in its category.
-fn write_item(shards: &mut Vec<Shard>, row: ItemRow) -> Result<(), AllocError>
-    requires shards { AreOfOne (map state_of shards.old.items) }
-    requires can { CanWriteOn (map state_of shards.old.items) (Item row) }
-    ensures done { OnOk result
-        (HaveDone (map state_of shards.old.items) (map state_of shards.new.items)
-        (writes_of (Item row))) }
-    ensures same { OnErr result
-        (map state_of shards.new.items ≡ map state_of shards.old.items) }
-{
-    let entry = ItemEntry {
-        time: row.time,
-        id: row.id,
-    };
-    let category = row.facts.category;
-    make_room(shards, row.id)?;
-    act(
-        shards,
-        Object::Item(row.id),
-        Act::AddItem(row.id, row.facts),
-    );
-    act(
-        shards,
-        Object::Category(category),
-        Act::ListItem(category, entry),
-    );
-    Ok(())
-}
-
-// Makes room for an item in the shard where it lies.
-fn make_room(shards: &mut Vec<Shard>, item: ItemId) -> Result<(), AllocError>
+// Makes room for the item that a row stores, if it stores one, in the shard where it will lie.
+fn make_room(shards: &mut Vec<Shard>, row: &Row) -> Result<(), AllocError>
     requires { AreOfOne (map state_of shards.old.items) }
     ensures same { map state_of shards.new.items ≡ map state_of shards.old.items }
-    ensures room { OnOk result (HasRoomIn shards.new.items item) }
+    ensures room { OnOk result ((id : ItemId) →
+        (commit_of row.now).reply ≡ ItemStored id → HasRoomIn shards.new.items id) }
 {
-    let place = shard_of(Object::Item(item), shards.len() as u32) as usize;
-    shards[place].prepare_item(item)
+    let Row::Item(row) = *row else {
+        return Ok(());
+    };
+    let place = shard_of(Object::Item(row.id), shards.len() as u32) as usize;
+    shards[place].prepare_item(row.id)
 }
 
-// Does an act on the shard where its object lies.
-fn act(shards: &mut Vec<Shard>, object: Object, act: Act)
+// Does an act on the shard where its object lies, if it has one.
+fn act(shards: &mut Vec<Shard>, act: &Act)
     requires shards { AreOfOne (map state_of shards.old.items) }
-    requires about { target (event_on shards.old.items object act) ≡ Some object }
-    requires can { CanActIn shards.old.items object act }
-    ensures { HaveDone (map state_of shards.old.items) (map state_of shards.new.items)
-        (event_on shards.old.items object act ∷ []) }
+    requires can { CanActIn shards.old.items act.now }
+    ensures { (event : Event) → IsEvent act.now event →
+        HaveDone (map state_of shards.old.items) (map state_of shards.new.items) (event ∷ []) }
 {
-    let place = shard_of(object, shards.len() as u32) as usize;
-    shards[place].act(&act);
+    if let Some(object) = act.object() {
+        let place = shard_of(object, shards.len() as u32) as usize;
+        shards[place].act(act);
+    }
 }

@@ -16,7 +16,7 @@ use Rattle.item_shards.specs.Answering.{bid_request, refusal_with}
 use Rattle.item_shards.specs.Serial.{HoldsBook, serial_opening}
 use Rattle.item_shards.specs.ShardContents.{LiesIn, contents}
 use Rattle.item_shards.specs.Values.{Value, stock}
-use Rattle.item_shards.specs.declared.openings.StoreCounts.{StoreCounts}
+use Rattle.item_shards.specs.declared.serial.StoreCounts.{StoreCounts}
 use Rattle.item_shards.specs.declared.serial.SerialAuction.{SerialAuction}
 use Rattle.item_shards.specs.declared.shard.ShardRecords.{ShardRecords}
 use Rattle.item_shards.proofs.AnswerLemmas.{stock_is}

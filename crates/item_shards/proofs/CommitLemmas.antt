@@ -1,5 +1,5 @@
 -- Two acts in turn.
-use Rattle.std.proofs.Common.{◌≡◌, ℕ, Bool, List, [], ◌∷◌, length, get_or, refl, sym, subst, arith}
+use Rattle.std.proofs.Common.{◌≡◌, ℕ, Bool, List, [], ◌∷◌, length, get_or, refl, sym, subst, ◌∙◌, arith}
 use Rattle.auction_rows.specs.declared.{values.Opening.Opening, requests.ItemId.ItemId}
 use Rattle.item_shards.specs.declared.shard.acts.Act.{Act}
 use Rattle.item_shards.specs.Events.{Event}
@@ -24,3 +24,7 @@ can_next old new first second same room shown can =
     (subst (λ (shards : ℕ). CanActOn (opening old) (shard_number old) shards (rooms new) (contents new) second) (sym same.shards)
     (subst (λ (has : ItemId → Bool). CanActOn (opening old) (shard_number old) (shard_count old) has (contents new) second) (sym room)
     (subst (λ (s : Contents). CanActOn (opening old) (shard_number old) (shard_count old) (rooms old) s second) (sym shown) can))))
+
+-- a shard that is the same one twice is the same one
+pub same_on : {first second third : Shard} → IsSameShard first second → IsSameShard second third → IsSameShard first third
+same_on one two = record { number = two.number ∙ one.number; shards = two.shards ∙ one.shards; opening = two.opening ∙ one.opening }

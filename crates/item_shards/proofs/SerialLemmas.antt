@@ -1,5 +1,5 @@
 -- The auction of one thread: what it answers and stores, by the book that it holds.
-use Rattle.std.proofs.Common.{◌≡◌, ℕ, ◌+◌, ◌<◌, ◌≤◌, ◌==◌, Bool, true, false, cond, ◌&&◌, ◌||◌, List, [], ◌∷◌, ◌++◌, Option, Some, None, option_to_list, length, refl, sym, ap, subst, ◌∙◌, arith, append_assoc, set, get_or, take, drop}
+use Rattle.std.proofs.Common.{◌≡◌, ℕ, ◌+◌, ◌<◌, ◌≤◌, ◌==◌, Bool, true, false, cond, List, [], ◌∷◌, ◌++◌, Option, Some, None, option_to_list, length, refl, sym, ap, subst, ◌∙◌, arith, append_assoc, set, get_or, take, drop}
 use Rattle.std.specs.Prelude.{option_map, option_and_then, unwrap_or, count_by, slice_get, Result, Ok, Err, OnErr, replicate}
 use Rattle.std.specs.List.{AllByRecursion, cons_option}
 use Rattle.std.specs.Option.{option_or}
@@ -20,16 +20,14 @@ use Rattle.auction_rows.specs.Requests.{is_view, item_of, shard_of}
 use Rattle.auction_rows.specs.Refusals.{number_refusal, item_refusal, refusal, facts_for, left_for}
 use Rattle.auction_rows.proofs.HistoryLemmas.{own_row, stored_by as commit_is, rows_go_on, book_parts}
 use Rattle.auction_rows.proofs.RefusalLemmas.{refusal-split}
-use Rattle.item_shards.specs.declared.openings.StoreCounts.{StoreCounts}
+use Rattle.item_shards.specs.declared.serial.StoreCounts.{StoreCounts}
 use Rattle.item_shards.specs.Values.{stock_in}
 use Rattle.item_shards.specs.Events.{AddItem, ListItem}
-use Rattle.item_shards.specs.declared.shard.Shard.{Shard}
 use Rattle.item_shards.specs.declared.serial.SerialAuction.{SerialAuction}
 use Rattle.item_shards.specs.Serial.{HoldsBook, serial_opening}
-use Rattle.item_shards.specs.ShardContents.{contents as contents_of, opening, shard_count, shard_number, with_room, LiesIn, IsSameShard}
 use Rattle.item_shards.specs.Contents.{Contents, after_acts}
 use Rattle.item_shards.specs.Standing.{ContentsStandsFor}
-use Rattle.item_shards.specs.Acting.{CanActOn, CanWrite, HasRoomFor}
+use Rattle.item_shards.specs.Acting.{CanActOn, HasRoomFor}
 use Rattle.item_shards.specs.Counting.{stored_by, worker_of, counted, AreFew}
 use Rattle.item_shards.specs.Limits.{IsWithinLimits}
 use Rattle.item_shards.specs.Writing.{writes_of, writes_if, is_done_on, done_on}
@@ -205,21 +203,6 @@ counts_next b r old d counts own worker within = at (worker_of r == worker) refl
       ∙ ap Some (get_or-set_other old (worker_of r) worker (counted r (get_or old (worker_of r) d)) d (λ is. false≢true (sym e ∙ eq-eqb (worker_of r) worker (sym is)))
       ∙ read worker within
       ∙ sym (stored_next b r worker ∙ ap (λ t. cond t (counted r (stored_by b worker)) (stored_by b worker)) e))
-
--- ---- rooms
-
-pub has_own_room : (id : ItemId) (others : ItemId → Bool) → with_room id others id ≡ true
-has_own_room id others = (λ i. ((eq-eqb id.worker id.worker refl i) && (eq-eqb id.serial id.serial refl i)) || others id)
-
--- what lies in a shard lies in the same one later
-pub lies_as : (old new : Shard) → IsSameShard old new → (object : Object) → LiesIn old object → LiesIn new object
-lies_as old new same object here = ap (shard_of object) same.shards ∙ here ∙ sym same.number
-
--- each act that writes the row at hand can be done on a shard
-pub written : (shard : Shard) (any one : Row) → any ≡ one → CanWrite shard any
-    → AllByRecursion (CanActOn (opening shard) (shard_number shard) (shard_count shard) (λ id. true) (contents_of shard)) (writes_of one)
-written shard any one is can =
-    subst (λ r. AllByRecursion (CanActOn (opening shard) (shard_number shard) (shard_count shard) (λ id. true) (contents_of shard)) (writes_of r)) is (can (λ id. true) (λ id e here. refl))
 
 -- ---- replies
 

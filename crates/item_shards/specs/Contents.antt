@@ -1,6 +1,6 @@
 -- A contents: objects by their values, and what acts and merges do to it.
 use Rattle.std.specs.Prelude.{ℕ, ◌+◌, List, fold, if◌then◌else◌, is_some, Option, Some, None}
-use Rattle.auction_rows.specs.declared.{values.Stars.Stars, requests.Facts.Facts, requests.BidEntry.BidEntry, requests.ItemEntry.ItemEntry, requests.Object.Object}
+use Rattle.auction_rows.specs.declared.{values.Stars.Stars, requests.ItemId.ItemId, requests.Facts.Facts, requests.BidEntry.BidEntry, requests.ItemEntry.ItemEntry, requests.Object.Object, replies.Refusal.Refusal}
 use Rattle.auction_rows.specs.declared.requests.Object.TheVariants.{Item, User, Category}
 use Rattle.auction_rows.specs.Requests.{same_object}
 use Rattle.item_shards.specs.Events.{Event, AddItem, ListItem, Bid, Comment, Buy, Look}
@@ -67,6 +67,11 @@ comments_merged slice value = record value { comments = with_comments value.comm
 -- a category's items have those of a slice added
 abbrev pub items_merged : CategorySlice → Value → Value
 items_merged slice value = record value { items = with_items value.items slice }
+
+-- the contents after a bid on an item, unless the item has a reason to refuse it
+abbrev pub bid_unless : Option Refusal → ItemId → BidEntry → Contents → Contents
+bid_unless None item bid contents = changed (Item item) (bid_on bid) contents
+bid_unless (Some reason) item bid contents = contents
 
 -- the contents after an act: a look changes nothing
 abbrev pub after_act : Contents → Event → Contents

@@ -5,7 +5,7 @@ use Rattle.auction_rows.specs.declared.rows.Row.{Row}
 use Rattle.auction_rows.specs.declared.rows.Row.TheVariants as row
 use Rattle.auction_rows.specs.Book.{Book, items_stored, bids_stored, comments_stored, buys_stored}
 pub use Rattle.auction_rows.specs.Book.{worker_of}
-use Rattle.item_shards.specs.declared.openings.StoreCounts.{StoreCounts}
+use Rattle.item_shards.specs.declared.serial.StoreCounts.{StoreCounts}
 
 -- how many stores of each kind of a worker stand in a book
 abbrev pub stored_by : Book → ℕ → StoreCounts

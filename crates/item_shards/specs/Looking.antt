@@ -39,6 +39,10 @@ events_of contents [] = []
 events_of contents (act ∷ acts) =
     event_at contents act ∷ events_of (after_act contents (event_at contents act)) acts
 
+-- an act is this event, whatever the contents
+abbrev pub IsEvent : Act → Event → Type 0
+IsEvent act one = (contents : Contents) → event_at contents act ≡ one
+
 -- what is shown is what the contents has
 abbrev pub IsTrueOf : Contents → Shown → Type 0
 IsTrueOf contents shown.Nothing = ⊤

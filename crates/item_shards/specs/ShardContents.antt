@@ -86,10 +86,6 @@ IsPlaceOf items id place = MatchOption (slice_get items.entries place) ⊥ (λ e
 abbrev pub with_room : ItemId → (ItemId → Bool) → ItemId → Bool
 with_room item rooms other = same_item item other || rooms other
 
--- the value of one object has changed, and that of no other
-abbrev pub HasChanged : Shard → Shard → Object → (Value → Value) → Type 0
-HasChanged old new object change = contents new ≡ changed object change (contents old)
-
 -- the shard is the same one of the same auction
 pub record IsSameShard (old new : Shard) : Type 0 where
   -- the shard has the same number
@@ -98,6 +94,22 @@ pub record IsSameShard (old new : Shard) : Type 0 where
   pub shards : shard_count new ≡ shard_count old
   -- users and categories are the same
   pub opening : opening new ≡ opening old
+
+-- the shard shows these contents, at this clock, and is otherwise as it was
+pub record HasBecome (old new : Shard) (shown : Contents) (number : ℕ) : Type 0 where
+  -- the shard shows these contents
+  pub contents : contents new ≡ shown
+  -- the clock has this number
+  pub clock : clock new ≡ number
+  -- there is room for the same items
+  pub rooms : rooms new ≡ rooms old
+  -- the shard is the same one
+  pub same : IsSameShard old new
+
+-- the value of one object has changed, and nothing else
+abbrev pub HasChanged : Shard → Shard → Object → (Value → Value) → Type 0
+HasChanged old new object change =
+    HasBecome old new (changed object change (contents old)) (clock old)
 
 -- the shard stands for a book, but for hot objects
 abbrev pub ShardStandsFor : Shard → Book → List Object → Type 0

@@ -15,7 +15,7 @@ pub use laws::{
 };
 pub use openings::{OpeningBook, ResumeFault};
 pub use serial::SerialAuction;
-pub use shard::acts::{Act, Look};
+pub use shard::acts::{Act, Look, writes_of};
 pub use shard::items::refusal_with;
 pub use shard::slices::{CategorySlice, ItemSlice, Slice, UserSlice};
 pub use shard::{LAST_NUMBER, Shard, next_number};

@@ -1,4 +1,4 @@
-//! The rows that an auction is opened with, and how many stores of each kind a worker has.
+//! The rows that an auction is opened with.
 ghost use Rattle.std.specs.Prelude.{◌≡◌, ℕ, ◌<◌, ◌↔◌, [], ◌∷◌, ◌++◌, All, IsTrue, slice_index, IfSome, IfNone, OnSome, IfOk, OnOk, IsErrOf, IsOkUnless};
 ghost use Rattle.auction_rows.specs.History.{IsBook};
 ghost use Rattle.auction_rows.proofs.OneProof.{IsBook-prop};
@@ -192,31 +192,5 @@ impl SerialAuction {
         }
         let reply = self.perform(opened.worker, opened.request)?;
         Ok(row_of(opened.worker, opened.request, reply))
-    }
-}
-
-/// How many stores of each kind a worker has had accepted.
-#[derive(Clone, Copy)]
-pub(crate) struct StoreCounts {
-    pub(crate) items: u32,
-    pub(crate) bids: u32,
-    pub(crate) comments: u32,
-    pub(crate) buys: u32,
-}
-
-impl StoreCounts {
-    ghost use Rattle.item_shards.specs.Counting.{counted, AreFew};
-
-    // Counts one more store of the row's kind.
-    pub(crate) fn count(&mut self, row: &Row)
-        requires { AreFew self.old }
-        ensures { self.new ≡ counted row.now self.old }
-    {
-        match row {
-            Row::Item(_) => self.items += 1,
-            Row::Bid(_) => self.bids += 1,
-            Row::Comment(_) => self.comments += 1,
-            Row::Buy(_) => self.buys += 1,
-        }
     }
 }

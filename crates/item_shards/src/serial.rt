@@ -6,12 +6,11 @@ ghost use Rattle.auction_rows.specs.declared.requests.Object.{Object as Thing};
 ghost use Rattle.item_shards.specs.Answering.{bid_request};
 ghost use Rattle.item_shards.specs.ShardContents.{LiesIn};
 
-use crate::openings::StoreCounts;
 use crate::shard::Shard;
 use crate::shard::items::refusal_with;
 use auction_rows::{
     BidEntry, BidId, BuyId, CommentId, ItemId, MOST_WORKERS, Opening, Refusal, Reply, Request, Row,
-    StoreReply, is_view, item_of, number_refusal, row_of, row_of_store,
+    StoreReply, is_view, item_of, number_refusal, row_of_store,
 };
 use std::alloc::{AllocError, Global};
 
@@ -19,9 +18,35 @@ use std::alloc::{AllocError, Global};
 /// and not by its rows: a request costs the same however many rows there are.
 #[derive(Drop)]
 pub struct SerialAuction {
-    pub(crate) shard: Shard,
-    pub(crate) stored: [StoreCounts; MOST_WORKERS],
+    shard: Shard,
+    stored: [StoreCounts; MOST_WORKERS],
     ghost has_all: { (object : Thing) → LiesIn shard object },
+}
+
+// How many stores of each kind a worker has had accepted.
+#[derive(Clone, Copy)]
+struct StoreCounts {
+    items: u32,
+    bids: u32,
+    comments: u32,
+    buys: u32,
+}
+
+impl StoreCounts {
+    ghost use Rattle.item_shards.specs.Counting.{counted, AreFew};
+
+    // Counts one more store of the row's kind.
+    fn count(&mut self, row: &Row)
+        requires { AreFew self.old }
+        ensures { self.new ≡ counted row.now self.old }
+    {
+        match row {
+            Row::Item(_) => self.items += 1,
+            Row::Bid(_) => self.bids += 1,
+            Row::Comment(_) => self.comments += 1,
+            Row::Buy(_) => self.buys += 1,
+        }
+    }
 }
 
 impl SerialAuction {
@@ -92,13 +117,12 @@ impl SerialAuction {
         ensures { (book : Book) → HoldsBook self.now book →
             result ≡ reply (serial_opening self.now) book worker request }
     {
-        let request = &request;
-        match *request {
+        match request {
             Request::ViewItem { item } => self.shard.view_item(item),
             Request::ViewBids { item } => self.shard.view_bids(item),
             Request::ViewCategory { category } => self.shard.view_category(category),
             Request::ViewUser { user } => self.shard.view_user(user),
-            _ => reply_of(self.reply_to_store(worker, request)),
+            _ => reply_of(self.reply_to_store(worker, &request)),
         }
     }
 
@@ -162,34 +186,6 @@ impl SerialAuction {
         Ok(())
     }
 
-    // Commits a store by its reply and its row. A view has none of these, and changes nothing.
-    fn perform_row(
-        &mut self,
-        worker: u32,
-        request: &Request,
-    ) -> Result<Option<StoreReply>, AllocError>
-        requires worker { worker < MOST_WORKERS }
-        requires room { CanGrow self.old }
-        ensures reply { IfOk result (λ performed. IfSome performed (λ answered.
-            (book : Book) → HoldsBook self.old book →
-            reply_of answered ≡ reply (serial_opening self.old) book worker request.now)) }
-        ensures view { IfOk result (λ performed. IfNone performed (self.new ≡ self.old)) }
-        ensures book { OnOk result ((book : Book) → HoldsBook self.old book → IsNotFull book →
-            HoldsBook self.new (next (serial_opening self.old) book worker request.now)) }
-        ensures refused { OnErr result (
-            (book : Book) → HoldsBook self.old book → HoldsBook self.new book) }
-        ensures opening { serial_opening self.new ≡ serial_opening self.old }
-    {
-        if is_view(*request) {
-            return Ok(None);
-        }
-        let reply = self.reply_to_store(worker, request);
-        if let Some(row) = row_of_store(worker, *request, reply) {
-            self.store(&row)?;
-        }
-        Ok(Some(reply))
-    }
-
     // Commits a bid by one look-up of its item, and gives the reply. It takes no memory.
     fn perform_bid(&mut self, item: ItemId, bid: BidEntry) -> StoreReply
         requires worker { bid.id.worker < MOST_WORKERS }
@@ -241,24 +237,31 @@ impl SerialAuction {
             (book : Book) → HoldsBook self.old book → HoldsBook self.new book) }
         ensures opening { serial_opening self.new ≡ serial_opening self.old }
     {
-        let Request::StoreBid {
+        if let Request::StoreBid {
             bidder,
             item,
             amount,
             time,
         } = *request
-        else {
-            return self.perform_row(worker, request);
-        };
-        let serial = self.stored[worker as usize].bids;
-        let id = BidId { worker, serial };
-        let bid = BidEntry {
-            amount,
-            time,
-            id,
-            bidder,
-        };
-        Ok(Some(self.perform_bid(item, bid)))
+        {
+            let serial = self.stored[worker as usize].bids;
+            let id = BidId { worker, serial };
+            let bid = BidEntry {
+                amount,
+                time,
+                id,
+                bidder,
+            };
+            return Ok(Some(self.perform_bid(item, bid)));
+        }
+        if is_view(*request) {
+            return Ok(None);
+        }
+        let reply = self.reply_to_store(worker, request);
+        if let Some(row) = row_of_store(worker, *request, reply) {
+            self.store(&row)?;
+        }
+        Ok(Some(reply))
     }
 
     /// Commits the request of a worker below 16, if the auction has fewer than 16,000,000 rows.
@@ -274,13 +277,10 @@ impl SerialAuction {
             (book : Book) → HoldsBook self.old book → HoldsBook self.new book) }
         ensures opening { serial_opening self.new ≡ serial_opening self.old }
     {
-        let request = &request;
-        let reply = self.reply_to(worker, *request);
-        let answered = &reply;
-        if let Some(row) = row_of(worker, *request, *answered) {
-            self.store(&row)?;
+        match self.perform_store(worker, &request)? {
+            Some(reply) => Ok(reply_of(reply)),
+            None => Ok(self.reply_to(worker, request)),
         }
-        Ok(reply)
     }
 }
 

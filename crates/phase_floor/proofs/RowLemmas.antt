@@ -13,7 +13,7 @@ use Rattle.auction_rows.specs.History.{IsBook, GoOn}
 use Rattle.auction_rows.specs.Replies.{row_of}
 use Rattle.auction_rows.specs.Requests.{is_view}
 use Rattle.auction_rows.proofs.HistoryLemmas.{longer_book}
-use Rattle.item_shards.specs.declared.openings.StoreCounts.{StoreCounts}
+use Rattle.item_shards.specs.declared.serial.StoreCounts.{StoreCounts}
 use Rattle.item_shards.specs.declared.shard.Shard.{Shard}
 use Rattle.item_shards.specs.Counting.{worker_of, stored_by, counted}
 use Rattle.item_shards.specs.Writing.{writes_of}

@@ -1,10 +1,12 @@
-//! What a transaction does and looks at on a shard, and rows written on a shard that holds every
-//! object.
+//! What a transaction does and looks at on a shard, the acts that write a row, and rows written on
+//! a shard that holds every object.
 ghost use Rattle.std.specs.Prelude.{◌≡◌, ◌<◌, ◌≤◌, OnOk, OnErr};
 ghost use Rattle.item_shards.specs.CommitNumbers.{last_number};
+ghost use Rattle.item_shards.specs.Looking.{IsEvent};
+ghost use Rattle.item_shards.specs.Writing.{writes_of, first_act, second_act};
 
 use crate::shard::Shard;
-use auction_rows::{BidEntry, Facts, ItemEntry, ItemId, Quantity, Row, Stars};
+use auction_rows::{BidEntry, Facts, ItemEntry, ItemId, Object, Quantity, Row, Stars};
 use std::alloc::AllocError;
 
 /// What a transaction looks at on a shard. Each look but the one at nothing names its object; what
@@ -43,9 +45,80 @@ pub enum Act {
     Look(Look),
 }
 
+impl Look {
+    ghost use Rattle.item_shards.specs.Contents.{Contents, target};
+    ghost use Rattle.item_shards.specs.Events as event;
+    ghost use Rattle.item_shards.specs.Looking.{shown_in};
+
+    // The object that it looks at, if there is one.
+    fn object(self) -> Option<Object>
+        ensures { (contents : Contents) → result ≡ target (event.Look (shown_in contents self)) }
+    {
+        match self {
+            Look::Nothing => None,
+            Look::Facts(item) => Some(Object::Item(item)),
+            Look::Left(item) => Some(Object::Item(item)),
+            Look::Item(item) => Some(Object::Item(item)),
+            Look::Bids(item) => Some(Object::Item(item)),
+            Look::Category(category) => Some(Object::Category(category)),
+            Look::User(user) => Some(Object::User(user)),
+        }
+    }
+}
+
+impl Act {
+    ghost use Rattle.item_shards.specs.Contents.{Contents, target};
+    ghost use Rattle.item_shards.specs.Looking.{event_at};
+
+    /// The object that it is about: none of a look at nothing.
+    pub fn object(&self) -> Option<Object>
+        ensures { (contents : Contents) → result ≡ target (event_at contents self.now) }
+    {
+        match self {
+            Act::AddItem(item, _) => Some(Object::Item(*item)),
+            Act::ListItem(category, _) => Some(Object::Category(*category)),
+            Act::Bid(item, _) => Some(Object::Item(*item)),
+            Act::Comment(user, _) => Some(Object::User(*user)),
+            Act::Buy(item, _) => Some(Object::Item(*item)),
+            Act::Look(look) => look.object(),
+        }
+    }
+}
+
+/// The two acts that write a row, one after the other: where one is enough, the second looks at
+/// nothing.
+pub fn writes_of(row: &Row) -> (Act, Act)
+    ensures first { IsEvent result.0 (first_act (writes_of row.now)) }
+    ensures second { IsEvent result.1 (second_act (writes_of row.now)) }
+{
+    match *row {
+        Row::Item(row) => {
+            let entry = ItemEntry {
+                time: row.time,
+                id: row.id,
+            };
+            (
+                Act::AddItem(row.id, row.facts),
+                Act::ListItem(row.facts.category, entry),
+            )
+        }
+        Row::Bid(row) => {
+            let entry = BidEntry {
+                amount: row.amount,
+                time: row.time,
+                id: row.id,
+                bidder: row.bidder,
+            };
+            (Act::Bid(row.item, entry), Act::Look(Look::Nothing))
+        }
+        Row::Comment(row) => (Act::Comment(row.about, row.stars), Act::Look(Look::Nothing)),
+        Row::Buy(row) => (Act::Buy(row.item, row.quantity), Act::Look(Look::Nothing)),
+    }
+}
+
 impl Shard {
     ghost use Rattle.item_shards.specs.Contents.{after_act, after_acts};
-    ghost use Rattle.item_shards.specs.ShardContents.{contents, clock, rooms, IsSameShard};
+    ghost use Rattle.item_shards.specs.ShardContents.{contents, clock, HasBecome};
     ghost use Rattle.item_shards.specs.Acting.{CanAct, CanDo};
     ghost use Rattle.item_shards.specs.Looking.{event_at, events_of};
 
@@ -53,11 +126,9 @@ impl Shard {
     #[inline(always)]
     pub fn act(&mut self, act: &Act)
         requires { CanAct self.old act.now }
-        ensures contents { contents self.new
-            ≡ after_act (contents self.old) (event_at (contents self.old) act.now) }
-        ensures clock { clock self.new ≡ clock self.old }
-        ensures rooms { rooms self.new ≡ rooms self.old }
-        ensures same { IsSameShard self.old self.new }
+        ensures { HasBecome self.old self.new
+            (after_act (contents self.old) (event_at (contents self.old) act.now))
+            (clock self.old) }
     {
         match act {
             Act::AddItem(item, facts) => self.add_item(*item, *facts),
@@ -76,11 +147,8 @@ impl Shard {
         requires later { clock self.old < number }
         requires within { number ≤ last_number }
         requires can { CanDo self.old acts.now }
-        ensures contents { contents self.new
-            ≡ after_acts (contents self.old) (events_of (contents self.old) acts.now) }
-        ensures clock { clock self.new ≡ number }
-        ensures rooms { rooms self.new ≡ rooms self.old }
-        ensures same { IsSameShard self.old self.new }
+        ensures { HasBecome self.old self.new
+            (after_acts (contents self.old) (events_of (contents self.old) acts.now)) number }
     {
         let [first, second] = acts;
         self.act(first);
@@ -91,10 +159,10 @@ impl Shard {
 
 impl Shard {
     ghost use Rattle.auction_rows.specs.declared.requests.Object.{Object};
-    ghost use Rattle.item_shards.specs.Acting.{CanWrite};
-    ghost use Rattle.item_shards.specs.Writing.{writes_of};
+    ghost use Rattle.auction_rows.specs.History.{commit_of};
+    ghost use Rattle.item_shards.specs.Acting.{CanWrite, HasRoomFor};
     ghost use Rattle.item_shards.specs.Contents.{after_acts};
-    ghost use Rattle.item_shards.specs.ShardContents.{contents, LiesIn, IsSameShard};
+    ghost use Rattle.item_shards.specs.ShardContents.{contents, rooms, shard_count, shard_number, LiesIn, IsSameShard};
 
     // Does the acts that write a row. Without memory the shard shows what it showed.
     pub(crate) fn write(&mut self, row: &Row) -> Result<(), AllocError>
@@ -105,28 +173,24 @@ impl Shard {
         ensures refused { OnErr result (contents self.new ≡ contents self.old) }
         ensures same { IsSameShard self.old self.new }
     {
-        match *row {
-            Row::Item(row) => {
-                let entry = ItemEntry {
-                    time: row.time,
-                    id: row.id,
-                };
-                self.prepare_item(row.id)?;
-                self.add_item(row.id, row.facts);
-                self.list_item(row.facts.category, entry);
-            }
-            Row::Bid(row) => {
-                let entry = BidEntry {
-                    amount: row.amount,
-                    time: row.time,
-                    id: row.id,
-                    bidder: row.bidder,
-                };
-                self.act(&Act::Bid(row.item, entry));
-            }
-            Row::Comment(row) => self.act(&Act::Comment(row.about, row.stars)),
-            Row::Buy(row) => self.act(&Act::Buy(row.item, row.quantity)),
-        }
+        self.prepare_row(row)?;
+        let (first, second) = writes_of(row);
+        self.act(&first);
+        self.act(&second);
         Ok(())
+    }
+
+    // Makes room for the item that a row stores, if it stores one.
+    fn prepare_row(&mut self, row: &Row) -> Result<(), AllocError>
+        requires { (object : Object) → LiesIn self.old object }
+        ensures room { OnOk result (HasRoomFor
+            (shard_number self.old) (shard_count self.old) (rooms self.new) (commit_of row.now)) }
+        ensures contents { contents self.new ≡ contents self.old }
+        ensures same { IsSameShard self.old self.new }
+    {
+        match *row {
+            Row::Item(row) => self.prepare_item(row.id),
+            _ => Ok(()),
+        }
     }
 }

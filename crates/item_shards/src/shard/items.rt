@@ -1,11 +1,12 @@
-//! The items of a shard: room for one, what is known of it, why it refuses a request, its bids and
-//! purchases.
-ghost use Rattle.std.specs.Prelude.{◌≡◌, ◌+◌, ◌<◌, ◌^◌, IfSome, IfNone, OnOk, OnErr};
+//! The items of a shard: room for one, what is known of it, why it refuses a request, its bids,
+//! purchases and merged slices.
+ghost use Rattle.std.specs.Prelude.{◌≡◌, ◌+◌, ◌<◌, ◌^◌, IfSome, OnOk, OnErr};
 ghost use Rattle.indexmap.specs.IndexMap.{IsUnchanged};
 ghost use Rattle.item_shards.specs.Answering.{bid_request, refusal_with, stock_needed, HasItemOf};
 
 use crate::shard::Shard;
 use crate::shard::records::ItemRecord;
+use crate::shard::slices::ItemSlice;
 use auction_rows::{BidEntry, Facts, ItemId, Quantity, Refusal, Request, item_of, item_refusal};
 use indexmap::IndexMap;
 use std::alloc::AllocError;
@@ -39,8 +40,9 @@ impl Shard {
     ghost use Rattle.auction_rows.specs.declared.requests.Object.TheVariants.{Item};
     ghost use Rattle.auction_rows.specs.Book.{facts_of};
     ghost use Rattle.item_shards.specs.Values.{quantity_left, left_in, stock, stock_in, HasInStock};
-    ghost use Rattle.item_shards.specs.Contents.{with_facts, bid_on, bought_of};
-    ghost use Rattle.item_shards.specs.ShardContents.{contents, kept, clock, rooms, with_room, LiesIn, HasItemRoom, HasChanged, IsSameShard, ForEachBook, KeepsBooks};
+    ghost use Rattle.item_shards.specs.Slices.{item_slice, IsOfBoth};
+    ghost use Rattle.item_shards.specs.Contents.{with_facts, bid_on, bid_unless, bought_of, bids_merged};
+    ghost use Rattle.item_shards.specs.ShardContents.{contents, kept, clock, rooms, with_room, LiesIn, HasItemRoom, HasBecome, HasChanged, IsSameShard, ForEachBook, KeepsBooks};
 
     /// Makes room for an item, which no other call shows. This is the only growth after `new`.
     /// Without memory nothing has changed.
@@ -126,11 +128,8 @@ impl Shard {
         requires count { (contents self.old (Item item)).bids.bids + 1 < 2 ^ 64 }
         ensures by { result
             ≡ refusal_with (stock (contents self.old (Item item))) (bid_request item bid) }
-        ensures refused { IfSome result (λ _. contents self.new ≡ contents self.old) }
-        ensures stored { IfNone result (HasChanged self.old self.new (Item item) (bid_on bid)) }
-        ensures clock { clock self.new ≡ clock self.old }
-        ensures rooms { rooms self.new ≡ rooms self.old }
-        ensures same { IsSameShard self.old self.new }
+        ensures after { HasBecome self.old self.new
+            (bid_unless result item bid (contents self.old)) (clock self.old) }
     {
         let Some((place, record)) = self.find(item) else {
             return Some(Refusal::NoSuchItem);
@@ -150,13 +149,25 @@ impl Shard {
         None
     }
 
+    /// Merges a slice into the record of an item, which has room. It takes no memory.
+    pub fn merge_item(&mut self, item: ItemId, slice: ItemSlice)
+        requires here { LiesIn self.old (Item item) }
+        requires room { HasItemRoom self.old item }
+        requires count { (contents self.old (Item item)).bids.bids + slice.bids < 2 ^ 64 }
+        ensures merged { HasChanged self.old self.new (Item item) (bids_merged slice) }
+        ensures bids { IsOfBoth item_slice
+            (contents self.old (Item item)).bids slice (contents self.new (Item item)).bids }
+    {
+        let place = self.place_of(item);
+        if let Some(record) = self.parts.items.get_index_mut(place) {
+            record.merge(slice);
+        }
+    }
+
     pub(crate) fn add_item(&mut self, item: ItemId, facts: Facts)
         requires here { LiesIn self.old (Item item) }
         requires room { HasItemRoom self.old item }
-        ensures contents { HasChanged self.old self.new (Item item) (with_facts facts) }
-        ensures clock { clock self.new ≡ clock self.old }
-        ensures rooms { rooms self.new ≡ rooms self.old }
-        ensures same { IsSameShard self.old self.new }
+        ensures { HasChanged self.old self.new (Item item) (with_facts facts) }
     {
         let place = self.place_of(item);
         if let Some(record) = self.parts.items.get_index_mut(place) {
@@ -170,10 +181,7 @@ impl Shard {
         requires here { LiesIn self.old (Item item) }
         requires room { HasItemRoom self.old item }
         requires count { (kept self.old (Item item)).bids.bids + 1 < 2 ^ 64 }
-        ensures contents { HasChanged self.old self.new (Item item) (bid_on bid) }
-        ensures clock { clock self.new ≡ clock self.old }
-        ensures rooms { rooms self.new ≡ rooms self.old }
-        ensures same { IsSameShard self.old self.new }
+        ensures { HasChanged self.old self.new (Item item) (bid_on bid) }
     {
         let place = self.place_of(item);
         if let Some(record) = self.parts.items.get_index_mut(place) {
@@ -186,10 +194,7 @@ impl Shard {
         requires here { LiesIn self.old (Item item) }
         requires room { HasItemRoom self.old item }
         requires left { HasInStock (kept self.old (Item item)) quantity }
-        ensures contents { HasChanged self.old self.new (Item item) (bought_of quantity) }
-        ensures clock { clock self.new ≡ clock self.old }
-        ensures rooms { rooms self.new ≡ rooms self.old }
-        ensures same { IsSameShard self.old self.new }
+        ensures { HasChanged self.old self.new (Item item) (bought_of quantity) }
     {
         let place = self.place_of(item);
         if let Some(record) = self.parts.items.get_index_mut(place) {

@@ -1,13 +1,12 @@
 //! The slices of items, users and categories: what a worker keeps of an object while it is split,
 //! and what a shard keeps of each object. A slice merges into a record at a cost that does not grow
 //! with the operations applied to it (Doppel: Narula et al., OSDI 2014).
-ghost use Rattle.std.specs.Prelude.{◌+◌, ◌<◌, ◌^◌, ◌+ℤ◌, FitsSigned, ◌≡◌};
+ghost use Rattle.std.specs.Prelude.{◌+◌, ◌<◌, ◌^◌, ◌+ℤ◌, FitsSigned};
 ghost use Rattle.std.specs.Bool.{OnTrue};
 ghost use Rattle.std.specs.Int.{w64};
 ghost use Rattle.item_shards.specs.Slices.{IsOnlyCounted, IsOutbid};
 
-use crate::shard::Shard;
-use auction_rows::{BidEntry, ItemEntry, ItemId, MOST_SHOWN, Stars};
+use auction_rows::{BidEntry, ItemEntry, MOST_SHOWN, Stars};
 use split_records::{AddRec, MaxRec, OPutRec, Splittable};
 use top_records::TopRec;
 
@@ -213,66 +212,5 @@ impl Splittable for CategorySlice {
     fn merge(&mut self, other: Self) {
         let CategorySlice { top } = other;
         self.top.merge(top);
-    }
-}
-
-impl Shard {
-    ghost use Rattle.auction_rows.specs.declared.requests.Object.TheVariants.{Item, User, Category};
-    ghost use Rattle.item_shards.specs.Slices.{item_slice, user_slice, category_slice, IsOfBoth};
-    ghost use Rattle.item_shards.specs.Contents.{bids_merged, comments_merged, items_merged};
-    ghost use Rattle.item_shards.specs.ShardContents.{contents, clock, opening, rooms, LiesIn, HasItemRoom, HasChanged, IsSameShard};
-
-    /// Merges a slice into the record of an item, which has room. It takes no memory.
-    pub fn merge_item(&mut self, item: ItemId, slice: ItemSlice)
-        requires here { LiesIn self.old (Item item) }
-        requires room { HasItemRoom self.old item }
-        requires count { (contents self.old (Item item)).bids.bids + slice.bids < 2 ^ 64 }
-        ensures contents { HasChanged self.old self.new (Item item) (bids_merged slice) }
-        ensures bids { IsOfBoth item_slice
-            (contents self.old (Item item)).bids slice (contents self.new (Item item)).bids }
-        ensures clock { clock self.new ≡ clock self.old }
-        ensures rooms { rooms self.new ≡ rooms self.old }
-        ensures same { IsSameShard self.old self.new }
-    {
-        let place = self.place_of(item);
-        if let Some(record) = self.parts.items.get_index_mut(place) {
-            record.merge(slice);
-        }
-    }
-
-    /// Merges a slice into the record of a user. It takes no memory.
-    pub fn merge_user(&mut self, user: u32, slice: UserSlice)
-        requires here { LiesIn self.old (User user) }
-        requires known { user < (opening self.old).users }
-        requires rating { FitsSigned w64
-            ((contents self.old (User user)).comments.rating +ℤ slice.rating) }
-        requires count { (contents self.old (User user)).comments.comments + slice.comments
-            < 2 ^ 64 }
-        ensures contents { HasChanged self.old self.new (User user) (comments_merged slice) }
-        ensures comments { IsOfBoth user_slice
-            (contents self.old (User user)).comments slice
-            (contents self.new (User user)).comments }
-        ensures clock { clock self.new ≡ clock self.old }
-        ensures rooms { rooms self.new ≡ rooms self.old }
-        ensures same { IsSameShard self.old self.new }
-    {
-        let place = (user / self.parts.shards) as usize;
-        self.parts.users[place].merge(slice);
-    }
-
-    /// Merges a slice into the record of a category. It takes no memory.
-    pub fn merge_category(&mut self, category: u32, slice: CategorySlice)
-        requires here { LiesIn self.old (Category category) }
-        requires known { category < (opening self.old).categories }
-        ensures contents { HasChanged self.old self.new (Category category) (items_merged slice) }
-        ensures items { IsOfBoth category_slice
-            (contents self.old (Category category)).items slice
-            (contents self.new (Category category)).items }
-        ensures clock { clock self.new ≡ clock self.old }
-        ensures rooms { rooms self.new ≡ rooms self.old }
-        ensures same { IsSameShard self.old self.new }
-    {
-        let place = (category / self.parts.shards) as usize;
-        self.parts.categories[place].merge(slice);
     }
 }

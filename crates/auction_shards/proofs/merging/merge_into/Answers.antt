@@ -18,7 +18,7 @@ merge_item-requires c =
 
 pub returns-in-Item-Item : goal.returns-in-Item-Item
 returns-in-Item-Item c =
-    let e = c.merge_item.ensures in
+    let e = c.merge_item.ensures.merged in
     with_merged c.args.shard.now c.merge_item.new.self c.args.object (Item c.in-Item-Item.item) c.args.slice (slice.Item c.in-Item-Item.slice) c.in-Item-Item.is-0 c.in-Item-Item.is-1 e.same e.clock e.contents
 
 pub merge_user-requires : goal.merge_user-requires
@@ -33,7 +33,7 @@ merge_user-requires c =
 
 pub returns-in-User-User : goal.returns-in-User-User
 returns-in-User-User c =
-    let e = c.merge_user.ensures in
+    let e = c.merge_user.ensures.merged in
     with_merged c.args.shard.now c.merge_user.new.self c.args.object (User c.in-User-User.user) c.args.slice (slice.User c.in-User-User.slice) c.in-User-User.is-0 c.in-User-User.is-1 e.same e.clock e.contents
 
 pub merge_category-requires : goal.merge_category-requires
@@ -45,5 +45,5 @@ merge_category-requires c =
 
 pub returns-in-Category-Category : goal.returns-in-Category-Category
 returns-in-Category-Category c =
-    let e = c.merge_category.ensures in
+    let e = c.merge_category.ensures.merged in
     with_merged c.args.shard.now c.merge_category.new.self c.args.object (Category c.in-Category-Category.category) c.args.slice (slice.Category c.in-Category-Category.slice) c.in-Category-Category.is-0 c.in-Category-Category.is-1 e.same e.clock e.contents

@@ -1,30 +1,49 @@
-use Rattle.std.proofs.Common.{[], map, length, subst, refl}
-use Rattle.auction_rows.specs.declared.requests.Object.TheVariants.{Item, User}
-use Rattle.auction_rows.specs.declared.rows.Row.TheVariants as row
-use Rattle.auction_rows.specs.Requests.{shard_of}
-use Rattle.item_shards.proofs.StandingLemmas.{cold_here}
+use Rattle.std.proofs.Common.{[], ◌∷◌, map, sym, ap, subst, ◌∙◌}
+use Rattle.item_shards.specs.Acting.{CanActOn}
+use Rattle.item_shards.specs.Contents.{target}
+use Rattle.item_shards.specs.ShardContents.{contents, opening, rooms, shard_count, shard_number}
+use Rattle.item_shards.specs.Writing.{writes_of, first_act, second_act}
 use Rattle.shard_boxes.specs.States.{state_of}
-use Rattle.auction_shards.specs.Writing.{CanWriteOn}
-use Rattle.auction_shards.proofs.Acts.{can_in}
+use Rattle.auction_shards.specs.Shards.{AreOfOne}
+use Rattle.auction_shards.specs.Writing.{CanWriteOn, HaveDone}
+use Rattle.auction_shards.proofs.Acts.{both_written, can_first, can_second, still_of_one}
 use Rattle.auction_shards.proofs.writing.write_row.Goals as goal
 
-pub write_item-requires-clause-can : goal.write_item-requires-clause-can
-write_item-requires-clause-can c = subst (CanWriteOn (map state_of c.args.shards.now.items)) c.in-Item.is c.requires.can
+pub act-requires-clause-shards : goal.act-requires-clause-shards
+act-requires-clause-shards c = subst AreOfOne (sym c.in_ok-make_room.ensures.same) c.requires.shards
 
 pub act-requires-clause-can : goal.act-requires-clause-can
-act-requires-clause-can c = λ shard is.
-    let shards = c.args.shards.now.items in let r = c.in-Bid.row in
-    (can_in shards c.requires.shards (Item r.item) shard is (row.Bid r) (subst (CanWriteOn (map state_of shards)) c.in-Bid.is c.requires.can)).0
-    (cold_here (shard_of (Item r.item) (length shards)) (length shards) [] (Item r.item) refl refl)
+act-requires-clause-can c = λ object shard about is.
+    let made = c.in_ok-make_room.ensures in
+    let r = c.args.row.now in
+    let one : AreOfOne (map state_of c.make_room.new.shards.items) = subst AreOfOne (sym made.same) c.requires.shards in
+    let can : CanWriteOn (map state_of c.make_room.new.shards.items) r = subst (λ states. CanWriteOn states r) (sym made.same) c.requires.can in
+    let first = c.writes_of-first.ensures.first (contents shard) in
+    subst (CanActOn (opening shard) (shard_number shard) (shard_count shard) (rooms shard) (contents shard)) (sym first)
+    (can_first c.make_room.new.shards.items one object shard is r can (sym (ap target first) ∙ about) made.room)
 
-pub act-requires-in-Comment-clause-can : goal.act-requires-in-Comment-clause-can
-act-requires-in-Comment-clause-can c = λ shard is.
-    let shards = c.args.shards.now.items in let r = c.in-Comment.row in
-    (can_in shards c.requires.shards (User r.about) shard is (row.Comment r) (subst (CanWriteOn (map state_of shards)) c.in-Comment.is c.requires.can)).0
-    (cold_here (shard_of (User r.about) (length shards)) (length shards) [] (User r.about) refl refl)
+pub act-requires-2-clause-shards : goal.act-requires-2-clause-shards
+act-requires-2-clause-shards c =
+    let one : AreOfOne (map state_of c.make_room.new.shards.items) = subst AreOfOne (sym c.in_ok-make_room.ensures.same) c.requires.shards in
+    let act = first_act (writes_of c.args.row.now) in
+    still_of_one (map state_of c.make_room.new.shards.items) (map state_of c.act.new.shards.items) (act ∷ []) one (c.act.ensures act c.writes_of-first.ensures.first)
 
-pub act-requires-in-Buy-clause-can : goal.act-requires-in-Buy-clause-can
-act-requires-in-Buy-clause-can c = λ shard is.
-    let shards = c.args.shards.now.items in let r = c.in-Buy.row in
-    (can_in shards c.requires.shards (Item r.item) shard is (row.Buy r) (subst (CanWriteOn (map state_of shards)) c.in-Buy.is c.requires.can)).0
-    (cold_here (shard_of (Item r.item) (length shards)) (length shards) [] (Item r.item) refl refl)
+pub act-requires-2-clause-can : goal.act-requires-2-clause-can
+act-requires-2-clause-can c = λ object shard about is.
+    let made = c.in_ok-make_room.ensures in
+    let r = c.args.row.now in
+    let one : AreOfOne (map state_of c.make_room.new.shards.items) = subst AreOfOne (sym made.same) c.requires.shards in
+    let can : CanWriteOn (map state_of c.make_room.new.shards.items) r = subst (λ states. CanWriteOn states r) (sym made.same) c.requires.can in
+    let done = c.act.ensures (first_act (writes_of r)) c.writes_of-first.ensures.first in
+    let second = c.writes_of-first.ensures.second (contents shard) in
+    subst (CanActOn (opening shard) (shard_number shard) (shard_count shard) (rooms shard) (contents shard)) (sym second)
+    (can_second c.make_room.new.shards.items c.act.new.shards.items r one can done object shard is (sym (ap target second) ∙ about))
+
+pub returns-clause-done : goal.returns-clause-done
+returns-clause-done c =
+    let r = c.args.row.now in
+    let all = map state_of c.act-2.new.shards.items in
+    subst (λ states. HaveDone states all (writes_of r)) c.in_ok-make_room.ensures.same
+    (both_written (map state_of c.make_room.new.shards.items) (map state_of c.act.new.shards.items) all r
+    (c.act.ensures (first_act (writes_of r)) c.writes_of-first.ensures.first)
+    (c.act-2.ensures (second_act (writes_of r)) c.writes_of-first.ensures.second))

@@ -25,7 +25,7 @@ pub merge_item-requires-clause-count : goal.merge_item-requires-clause-count
 merge_item-requires-clause-count g c =
     let first = Item (record { worker = 0; serial = 0 }) in
     let bids = λ (k : Contents). (k first).bids.bids in
-    let none = ap bids c.prepare_item.ensures.contents ∙ ap bids c.merge_category.ensures.contents ∙ ap bids c.merge_user.ensures.contents
+    let none = ap bids c.prepare_item.ensures.contents ∙ ap bids c.merge_category.ensures.merged.contents ∙ ap bids c.merge_user.ensures.merged.contents
     ∙ ap (λ (v : Value). v.bids.bids) ((IfOk-at_ok _ c.expect-shard.ensures c.new.ensures).nothing first) in
     omega (arith, none, c.two_bids.ensures)
 
@@ -33,10 +33,10 @@ pub act-requires : goal.act-requires
 act-requires g c =
     let first : ItemId = record { worker = 0; serial = 0 } in
     let new = IfOk-at_ok _ c.expect-shard.ensures c.new.ensures in
-    let user = c.merge_user.ensures.same in
-    let category = c.merge_category.ensures.same in
+    let user = c.merge_user.ensures.merged.same in
+    let category = c.merge_category.ensures.merged.same in
     let room = c.prepare_item.ensures.same in
-    let item = c.merge_item.ensures in (
+    let item = c.merge_item.ensures.merged in (
       ap (shard_of (Item first)) (item.same.shards ∙ room.shards ∙ category.shards ∙ user.shards ∙ new.shards_is)
           ∙ sym (item.same.number ∙ room.number ∙ category.number ∙ user.number ∙ new.number_is),
       ap (λ (rooms : ItemId → Bool). rooms first) (item.rooms ∙ (IfOk-at_ok _ c.expect.ensures c.prepare_item.ensures.granted)),

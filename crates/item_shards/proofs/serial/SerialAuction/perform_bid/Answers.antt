@@ -52,7 +52,7 @@ returns-in-Some-try_bid-clause-book c = λ b holds not_full.
     let is : refusal (serial_opening auction) b (bid_request item c.args.bid) ≡ Some c.in-Some-try_bid.reason =
     sym (refused_as auction b holds item (auction.has_all (Item item)) c.args.bid none) ∙ sym c.in-Some-try_bid.ensures.by in
     subst (HoldsBook _) (sym (refused_next (serial_opening auction) b item c.args.bid c.in-Some-try_bid.reason is)) (record {
-      records = stands_moved auction.shard c.try_bid.new.self (contents auction.shard) b [] c.try_bid.ensures.same c.in-Some-try_bid.ensures.refused holds.records;
+      records = stands_moved auction.shard c.try_bid.new.self (contents auction.shard) b [] c.try_bid.ensures.after.same c.in-Some-try_bid.ensures.after.contents holds.records;
       counts = holds.counts;
       limits = holds.limits;
     })
@@ -77,7 +77,7 @@ returns-clause-book c = λ b holds not_full.
     let taken : refusal start b (bid_request item c.args.bid) ≡ None =
     sym (refused_as auction b holds item (auction.has_all (Item item)) c.args.bid none) ∙ sym c.in_default-try_bid.ensures.by in
     subst (HoldsBook _) (sym (stored_next start b item c.args.bid taken (next_id auction b holds c.args.bid.id.worker c.args.bid.id.serial c.requires.worker c.requires.id))) (record {
-      records = stands_moved shard c.try_bid.new.self (after_acts (contents shard) (writes_of r)) (b ++ r ∷ []) [] c.try_bid.ensures.same c.in_default-try_bid.ensures.stored
+      records = stands_moved shard c.try_bid.new.self (after_acts (contents shard) (writes_of r)) (b ++ r ∷ []) [] c.try_bid.ensures.after.same c.in_default-try_bid.ensures.after.contents
           (stands_after start shard.parts.value.number shard.parts.value.shards (λ id. true) (contents shard) auction.has_all b r holds.records);
       counts = λ w within. counts_next b r auction.stored none_counted holds.counts c.requires.worker w within;
       limits = limits_next b r holds.limits not_full;

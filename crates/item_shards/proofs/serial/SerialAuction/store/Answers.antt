@@ -1,6 +1,6 @@
 use Rattle.std.proofs.Common.{◌≡◌, ◌∷◌, [], ◌++◌, true, sym, ap, subst, get_or, set, ◌∙◌}
 use Rattle.std.specs.Prelude.{slice_get}
-use Rattle.item_shards.specs.declared.openings.StoreCounts.{StoreCounts}
+use Rattle.item_shards.specs.declared.serial.StoreCounts.{StoreCounts}
 use Rattle.item_shards.specs.Contents.{after_acts}
 use Rattle.item_shards.specs.Writing.{writes_of}
 use Rattle.std.proofs.lemmas.Option.{get_or_from_slice_get}

@@ -4,7 +4,7 @@ use Rattle.item_shards.specs.Acting.{CanActIn, CanDo}
 use Rattle.item_shards.specs.Contents.{Contents, after_act, after_acts}
 use Rattle.item_shards.specs.Looking.{event_at, events_of}
 use Rattle.item_shards.specs.ShardContents.{contents, rooms}
-use Rattle.item_shards.proofs.CommitLemmas.{two_of, can_next}
+use Rattle.item_shards.proofs.CommitLemmas.{two_of, can_next, same_on}
 use Rattle.item_shards.proofs.shard.Shard.apply_acts.Goals as goal
 
 pub act-requires : goal.act-requires
@@ -24,11 +24,19 @@ act-requires-2 c =
     (can_next old c.act.new.self first (event_at (after_act (contents old) first) second)
     c.act.ensures.same c.act.ensures.rooms c.act.ensures.contents can.1.0)
 
-pub returns-clause-contents : goal.returns-clause-contents
-returns-clause-contents c =
+pub returns : goal.returns
+returns c =
     let old = contents c.args.self.now in
     let second = get_or c.args.acts.now 1 c.index-acts-1.result in
     let acts = two_of c.args.acts.now c.index-acts-0.result c.index-acts-1.result c.type_inv.acts in
-    c.set_clock.ensures.contents ∙ c.act-2.ensures.contents
-    ∙ ap (λ (now : Contents). after_act now (event_at now second)) c.act.ensures.contents
-    ∙ ap (λ (both : List Act). after_acts old (events_of old both)) (sym acts)
+    let one = c.act.ensures in
+    let two = c.act-2.ensures in
+    let set = c.set_clock.ensures in
+    record {
+      contents = set.contents ∙ two.contents
+          ∙ ap (λ (now : Contents). after_act now (event_at now second)) one.contents
+          ∙ ap (λ (both : List Act). after_acts old (events_of old both)) (sym acts);
+      clock = set.clock;
+      rooms = set.rooms ∙ two.rooms ∙ one.rooms;
+      same = same_on one.same (same_on two.same set.same);
+    }

@@ -1,11 +1,9 @@
-use Rattle.std.proofs.Common.{◌≡◌, Option, Some, None, refl, ap, subst, ◌∙◌}
-use Rattle.std.specs.Prelude.{IfSome, IfNone}
+use Rattle.std.proofs.Common.{◌≡◌, ◌<◌, Option, Some, None, refl, sym, ap, subst, ◌∙◌}
 use Rattle.auction_rows.specs.declared.{requests.ItemId.ItemId, requests.BidEntry.BidEntry, replies.Refusal.Refusal}
-use Rattle.auction_rows.specs.declared.requests.Object.TheVariants.{Item}
-use Rattle.item_shards.specs.declared.shard.Shard.{Shard}
-use Rattle.item_shards.specs.Contents.{after_acts, bid_on}
+use Rattle.item_shards.specs.Contents.{Contents, after_acts, bid_unless}
 use Rattle.item_shards.specs.Looking.{events_of}
-use Rattle.item_shards.specs.ShardContents.{contents, HasChanged}
+use Rattle.item_shards.specs.ShardContents.{clock, contents}
+use Rattle.item_shards.proofs.CommitLemmas.{same_on}
 use Rattle.shard_boxes.specs.Helds.{HeldState}
 use Rattle.shard_boxes.specs.Lines.{after_line, bid_acts, line_of}
 use Rattle.shard_boxes.specs.States.{state_of}
@@ -13,10 +11,14 @@ use Rattle.shard_boxes.proofs.EventLemmas.{line_done, line_follows}
 use Rattle.shard_boxes.proofs.key.Held.bid.Goals as goal
 
 -- a bid that is refused or stored is its two acts
-bid_done : (old new : Shard) (item : ItemId) (bid : BidEntry) (refused : Option Refusal) → IfSome refused (λ _. contents new ≡ contents old) → IfNone refused (HasChanged old new (Item item) (bid_on bid))
-    → contents new ≡ after_acts (contents old) (events_of (contents old) (bid_acts item bid refused))
-bid_done old new item bid None same stored = stored
-bid_done old new item bid (Some reason) same stored = same
+bid_done : (shown : Contents) (item : ItemId) (bid : BidEntry) (refused : Option Refusal) → bid_unless refused item bid shown ≡ after_acts shown (events_of shown (bid_acts item bid refused))
+bid_done shown item bid None = refl
+bid_done shown item bid (Some reason) = refl
+
+pub set_clock-requires-clause-later : goal.set_clock-requires-clause-later
+set_clock-requires-clause-later g c =
+    subst (λ n. n < c.args.number) (sym c.try_bid-refused.ensures.after.clock)
+    (subst (λ (h : HeldState). clock h.shard < c.args.number) (sym c.self.view_is) c.requires.later)
 
 pub returns-clause-line : goal.returns-clause-line
 returns-clause-line g c =
@@ -40,10 +42,6 @@ returns-clause-after g c =
     (line_done old c.args.number c.args.index (bid_acts c.args.item c.args.bid tried.result) line
     (λ i. line_of (c.of.ensures i) (c.of-2.ensures i) (acts i) (c.of-found.ensures i))
     new refl
-    (record {
-      number = clocked.same.number ∙ tried.ensures.same.number;
-      shards = clocked.same.shards ∙ tried.ensures.same.shards;
-      opening = clocked.same.opening ∙ tried.ensures.same.opening;
-    })
-    (clocked.contents ∙ bid_done old tried.new.self c.args.item c.args.bid tried.result tried.ensures.refused tried.ensures.stored)
+    (same_on tried.ensures.after.same clocked.same)
+    (clocked.contents ∙ tried.ensures.after.contents ∙ bid_done (contents old) c.args.item c.args.bid tried.result)
     clocked.clock)
