@@ -8,7 +8,7 @@ use Rattle.auction_rows.specs.declared.requests.Request.{Request}
 use Rattle.worker_journals.specs.declared.asked.Asked.{Asked}
 use Rattle.worker_journals.specs.declared.asked.Asked.TheVariants.{Kept, Own}
 use Rattle.worker_journals.specs.declared.heads.Head.{Head}
-use Rattle.worker_journals.specs.Asked.{CanKeep, HasRequestAt, HaveRequests, IsWithin, asked_at, no_request, request_at, requests_of, room_of, with_request}
+use Rattle.worker_journals.specs.inner.Asked.{CanKeep, HasRequestAt, HaveRequests, IsWithin, asked_at, no_request, request_at, requests_of, room_of, with_request}
 
 -- there are as many as heads
 pub as_many_asked : (asked : Asked) (heads : List Head) → HaveRequests asked heads → length (requests_of asked heads) ≡ length heads

@@ -3,17 +3,17 @@ use Rattle.std.proofs.Common.{◌≡◌, ◌<◌, ◌≤◌, ◌+◌, ℕ, List,
 use Rattle.std.specs.List.{AllByRecursion}
 use Rattle.std.proofs.lemmas.List.{get_or_append_left, drop-append-le, take-append-le, map-append, length-map}
 use Rattle.phase_laws.proofs.OrderLemmas.{all_push, all-weaker}
-use Rattle.auction_rows.specs.declared.{replies.Reply.Reply, replies.ItemView.ItemView, replies.BidShown.BidShown, replies.ItemShown.ItemShown, rows.Entry.Entry}
+use Rattle.auction_rows.specs.declared.{replies.Reply.Reply, rows.Entry.Entry}
 use Rattle.auction_rows.specs.declared.replies.Reply.TheVariants.{BidsSeen, CategorySeen}
 use Rattle.worker_journals.specs.declared.heads.ShortReply.{ShortReply}
 use Rattle.worker_journals.specs.declared.heads.ShortReply.TheVariants as told
-use Rattle.worker_journals.specs.declared.heads.UserSeen.{UserSeen as SeenUser}
 use Rattle.auction_rows.specs.declared.requests.Request.{Request}
-use Rattle.worker_journals.specs.HeadLists.{AskedHead, IsHeadOf}
+use Rattle.worker_journals.specs.inner.HeadLists.{AskedHead, IsHeadOf}
 use Rattle.worker_journals.specs.Journals.{JournalView, IsOfScript, ComesAfter, IsLawfulJournal, closed_journal, seen, with_commit}
 use Rattle.auction_rows.specs.ItemViews.{item_reply}
-use Rattle.worker_journals.specs.Sides.{SideLists, reply_from, HasReply, SaysReply, with_reply_of, user_reply}
-use Rattle.worker_journals.specs.Entries.{entry_from, HasHead, shown, IsKept}
+use Rattle.worker_journals.specs.Shown.{ShownLists, shown_in}
+use Rattle.worker_journals.specs.inner.Sides.{SideLists, reply_from, HasReply, SaysReply, with_reply_of, with_shown, user_reply}
+use Rattle.worker_journals.specs.inner.Entries.{entry_from, HasHead, shown, IsKept}
 use Rattle.worker_journals.proofs.JournalLemmas.{lawful_after}
 
 part_stays : {X : Type 0} (xs more : List X) (place count : ℕ) → place + count ≤ length xs →
@@ -22,28 +22,27 @@ part_stays xs more place count h =
     ap (take count) (drop-append-le place xs more (omega arith))
     ∙ take-append-le count (drop place xs) more (omega (arith, length-drop place xs))
 
-module _ (items items' : List ItemView) (users users' : List SeenUser) (bids bids' : List BidShown) (latest latest' : List ItemShown) where
-  reply_stays : (short : ShortReply) → HasReply items users bids latest short →
-      SaysReply (items ++ items') (users ++ users') (bids ++ bids') (latest ++ latest') short (reply_from items users bids latest short)
+module _ (lists more : ShownLists) where
+  reply_stays : (short : ShortReply) → HasReply lists short → SaysReply (with_shown lists more) short (reply_from lists short)
   reply_stays (told.ItemStored id) h = record { within = tt; is = refl }
   reply_stays (told.BidStored id) h = record { within = tt; is = refl }
   reply_stays (told.CommentStored id) h = record { within = tt; is = refl }
   reply_stays (told.Bought id) h = record { within = tt; is = refl }
   reply_stays (told.ItemSeen place) h = record {
-    within = omega (arith, length-append items items', h);
-    is = ap item_reply (get_or_append_left items items' _ place h);
+    within = omega (arith, length-append lists.items more.items, h);
+    is = ap item_reply (get_or_append_left lists.items more.items _ place h);
   }
   reply_stays (told.BidsSeen count place) h = record {
-    within = (h.0, omega (arith, length-append bids bids', h.1));
-    is = ap BidsSeen (part_stays bids bids' place count h.1);
+    within = (h.0, omega (arith, length-append lists.bids more.bids, h.1));
+    is = ap BidsSeen (part_stays lists.bids more.bids place count h.1);
   }
   reply_stays (told.CategorySeen count place) h = record {
-    within = (h.0, omega (arith, length-append latest latest', h.1));
-    is = ap CategorySeen (part_stays latest latest' place count h.1);
+    within = (h.0, omega (arith, length-append lists.latest more.latest, h.1));
+    is = ap CategorySeen (part_stays lists.latest more.latest place count h.1);
   }
   reply_stays (told.UserSeen place) h = record {
-    within = omega (arith, length-append users users', h);
-    is = ap user_reply (get_or_append_left users users' _ place h);
+    within = omega (arith, length-append lists.users more.users, h);
+    is = ap user_reply (get_or_append_left lists.users more.users _ place h);
   }
   reply_stays (told.Refused reason) h = record { within = tt; is = refl }
 
@@ -58,7 +57,7 @@ module _ (phase worker : ℕ) (sides : SideLists) (reply : Reply) where
 
   head_stays : (head : AskedHead) → HasHead sides head → HasHead after head × (entry_from phase worker after head ≡ entry_from phase worker sides head)
   head_stays head h =
-      let answered = reply_stays sides.items _ sides.users _ sides.bids _ sides.latest _ head.head.reply h in
+      let answered = reply_stays sides.lists (shown_in reply) head.head.reply h in
       (answered.within, ap (entry_by phase worker head) answered.is)
 
   heads_stay : (heads : List AskedHead) → AllByRecursion (HasHead sides) heads →
@@ -70,7 +69,7 @@ module _ (phase worker : ℕ) (sides : SideLists) (reply : Reply) where
 
   -- a head that says the commit, at the end of the heads
   module _ (heads : List AskedHead) (head : AskedHead) (capacity : ℕ) (kept : IsKept phase worker heads capacity sides) (some : 0 < sides.left)
-      (answered : SaysReply after.items after.users after.bids after.latest head.head.reply reply) where
+      (answered : SaysReply after.lists head.head.reply reply) where
     abbrev said : Entry
     said = entry_by phase worker head reply
 
@@ -99,10 +98,9 @@ module _ (phase worker : ℕ) (sides : SideLists) (reply : Reply) where
 module _ (phase worker : ℕ) (heads new : List AskedHead) (capacity capacity' : ℕ) (sides sides' : SideLists) (head : AskedHead) (reply : Reply)
     (kept : IsKept phase worker heads capacity sides) (some : 0 < sides.left) (pushed : new ≡ heads ++ head ∷ []) (same : capacity' ≡ capacity)
     (grown : sides' ≡ with_reply_of sides reply)
-    (answered : SaysReply sides'.items sides'.users sides'.bids sides'.latest head.head.reply reply) where
-  answered' : SaysReply (with_reply_of sides reply).items (with_reply_of sides reply).users (with_reply_of sides reply).bids
-      (with_reply_of sides reply).latest head.head.reply reply
-  answered' = subst (λ (s : SideLists). SaysReply s.items s.users s.bids s.latest head.head.reply reply) grown answered
+    (answered : SaysReply sides'.lists head.head.reply reply) where
+  answered' : SaysReply (with_reply_of sides reply).lists head.head.reply reply
+  answered' = subst (λ (s : SideLists). SaysReply s.lists head.head.reply reply) grown answered
 
   pub pushed_shown : (journal : JournalView) → shown phase worker heads sides ≡ journal →
       shown phase worker new sides' ≡ with_commit journal head.head.number head.head.index head.request reply

@@ -2,11 +2,11 @@
 use Rattle.std.proofs.Common.{◌≡◌, ◌<◌, ◌∙◌, ℕ, zero, suc, List, [], ◌∷◌, ◌++◌, map, length, None, Some, refl, ap, arith}
 use Rattle.std.specs.Prelude.{slice_get, unwrap_or}
 use Rattle.std.specs.List.{AllByRecursion}
-use Rattle.std.proofs.lemmas.Option.{none-some, same_Some}
+use Rattle.std.proofs.lemmas.Option.{none-some}
 use Rattle.auction_rows.specs.declared.requests.Request.{Request}
 use Rattle.worker_journals.specs.declared.heads.Head.{Head}
-use Rattle.worker_journals.specs.Asked.{IsWithin, asked_at, no_request}
-use Rattle.worker_journals.specs.HeadLists.{AskedHead, IsHeadOf, asked_head, head_in, heads_of, request_in}
+use Rattle.worker_journals.specs.inner.Asked.{IsWithin, asked_at, no_request}
+use Rattle.worker_journals.specs.inner.HeadLists.{AskedHead, IsHeadOf, asked_head, head_in, heads_of, request_in}
 
 -- as many as there are heads
 pub as_many : (requests : List Request) (heads : List Head) → length requests ≡ length heads → length (heads_of requests heads) ≡ length heads
@@ -44,13 +44,6 @@ pub requests_alone : (requests : List Request) (heads : List Head) → length re
 requests_alone [] heads same = refl
 requests_alone (request ∷ requests) [] same = absurd (omega (arith, same))
 requests_alone (request ∷ requests) (head ∷ heads) same = ap (λ rs. request ∷ rs) (requests_alone requests heads (omega (arith, same)))
-
--- a head and its request are those of one place
-pub both_there : (askeds : List AskedHead) (place : ℕ) (head : Head) (request : Request) → slice_get (map head_in askeds) place ≡ Some head →
-    slice_get (map request_in askeds) place ≡ Some request → slice_get askeds place ≡ Some (asked_head head request)
-both_there [] place head request at there = absurd (none-some head at)
-both_there (asked ∷ askeds) zero head request at there = λ i. Some (asked_head (same_Some asked.head head at i) (same_Some asked.request request there i))
-both_there (asked ∷ askeds) (suc place) head request at there = both_there askeds place head request at there
 
 -- a list has a value at a place within it alone
 some_within : {X : Type 0} (xs : List X) (place : ℕ) (x : X) → slice_get xs place ≡ Some x → place < length xs

@@ -10,8 +10,9 @@ use Rattle.phase_laws.proofs.OrderLemmas.{all_push}
 use Rattle.auction_rows.specs.declared.rows.Entry.{Entry}
 use Rattle.worker_journals.specs.Journals.{JournalView, entry_worker, closed_journal, IsLawfulJournal}
 use Rattle.worker_journals.specs.Merged.{merged, in_order, entries_of, entry_count, AreByWorker}
-use Rattle.worker_journals.specs.Histories.{HistoryView, ArePhase, IsHistory, entries_in, journals_of, last_of, shown, with_phase}
-use Rattle.worker_journals.specs.Places.{first_entries, own_left}
+use Rattle.worker_journals.specs.Histories.{HistoryView, ArePhase, with_phase}
+use Rattle.worker_journals.specs.inner.Phases.{IsHistory, entries_in, journals_of, last_of, shown}
+use Rattle.worker_journals.specs.inner.Places.{first_entries, own_left}
 use Rattle.worker_journals.proofs.MergedLemmas.{all_entries, merged_parts, merged_count}
 use Rattle.worker_journals.proofs.StepLemmas.{drop_one}
 

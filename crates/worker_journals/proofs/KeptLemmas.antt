@@ -3,11 +3,11 @@ use Rattle.std.proofs.Common.{◌≡◌, ℕ, zero, suc, ◌+◌, ◌-◌, ◌*�
 use Rattle.std.specs.Prelude.{IsSome}
 use Rattle.std.proofs.lemmas.List.{length-take, take_more}
 use Rattle.std.proofs.lemmas.Option.{get_or_from_slice_get}
-use Rattle.auction_rows.specs.declared.{replies.Reply.Reply, replies.ItemView.ItemView, replies.BidShown.BidShown, replies.ItemShown.ItemShown}
+use Rattle.auction_rows.specs.declared.replies.Reply.{Reply}
 use Rattle.worker_journals.specs.declared.heads.ShortReply.{ShortReply}
-use Rattle.worker_journals.specs.declared.heads.UserSeen.{UserSeen as SeenUser}
 use Rattle.request_scripts.specs.ShortRequests.{HasListRoom}
-use Rattle.worker_journals.specs.Sides.{SaysReply}
+use Rattle.worker_journals.specs.Shown.{ShownLists}
+use Rattle.worker_journals.specs.inner.Sides.{SaysReply}
 
 module _ {X : Type 0} (start shown : List X) (place : ℕ) where
   -- one more value is at the end
@@ -61,9 +61,8 @@ part_left list start count place read within so_far few =
     omega (arith, ap length so_far, length-take place part, length-take (start + count - start) (drop start list))
 
 -- What says a reply says an equal one.
-pub said_of : (items : List ItemView) (users : List SeenUser) (bids : List BidShown) (latest : List ItemShown) (short : ShortReply) (one other : Reply) → one ≡ other →
-    SaysReply items users bids latest short one → SaysReply items users bids latest short other
-said_of items users bids latest short one other same says = subst (λ (reply : Reply). SaysReply items users bids latest short reply) same says
+pub said_of : (lists : ShownLists) (short : ShortReply) (one other : Reply) → one ≡ other → SaysReply lists short one → SaysReply lists short other
+said_of lists short one other same says = subst (λ (reply : Reply). SaysReply lists short reply) same says
 
 -- ---- the room of new lists
 

@@ -8,7 +8,8 @@ use Rattle.phase_laws.proofs.ListLemmas.{all-append}
 use Rattle.auction_rows.specs.declared.rows.Entry.{Entry}
 use Rattle.worker_journals.specs.Journals.{JournalView, IsLawfulJournal, IsOf}
 use Rattle.worker_journals.specs.Merged.{merged}
-use Rattle.worker_journals.specs.Histories.{ArePhase, entries_in, journals_of}
+use Rattle.worker_journals.specs.Histories.{ArePhase}
+use Rattle.worker_journals.specs.inner.Phases.{entries_in, journals_of}
 use Rattle.worker_journals.proofs.MergedLemmas.{all_entries}
 use Rattle.worker_journals.proofs.OrderedLemmas.{all_in_order}
 

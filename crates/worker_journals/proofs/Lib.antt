@@ -1,7 +1,6 @@
 pub mod JournalLemmas
 pub mod KeptLemmas
 pub mod GrowthLemmas
-pub mod ReadLemmas
 pub mod OrderedLemmas
 pub mod MergedLemmas
 pub mod TakingLemmas

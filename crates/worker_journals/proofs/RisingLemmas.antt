@@ -5,11 +5,11 @@ use Rattle.std.proofs.lemmas.List.{map-append}
 use Rattle.std.proofs.lemmas.Option.{same_Some}
 use Rattle.auction_rows.specs.declared.rows.Entry.{Entry}
 use Rattle.worker_journals.specs.declared.heads.Head.{Head}
-use Rattle.worker_journals.specs.HeadLists.{AskedHead, head_in}
-use Rattle.worker_journals.specs.Entries.{entry_from}
+use Rattle.worker_journals.specs.inner.HeadLists.{AskedHead, head_in, head_index}
+use Rattle.worker_journals.specs.inner.Entries.{entry_from}
 use Rattle.worker_journals.specs.Journals.{entry_index}
-use Rattle.worker_journals.specs.Rising.{RisesTo, EntriesRiseTo, HasPassed, head_index}
-use Rattle.worker_journals.specs.Sides.{SideLists}
+use Rattle.worker_journals.specs.Rising.{RisesTo, EntriesRiseTo, HasPassed}
+use Rattle.worker_journals.specs.inner.Sides.{SideLists}
 
 rises_further : (a b c : ℕ) (xs ys : List ℕ) → RisesTo a xs b → RisesTo b ys c → RisesTo a (xs ++ ys) c
 rises_further a b c [] ys first second = subst (λ n. RisesTo n ys c) first second

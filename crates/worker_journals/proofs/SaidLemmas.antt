@@ -1,5 +1,5 @@
 -- What a short reply says of values at the end of the side lists.
-use Rattle.std.proofs.Common.{◌≡◌, ◌≤◌, ℕ, List, [], ◌∷◌, ◌++◌, length, take, take_all, drop, sym, ap, ◌∙◌, arith, append-nil, length-append}
+use Rattle.std.proofs.Common.{◌≡◌, ◌≤◌, ℕ, List, [], ◌∷◌, ◌++◌, length, take, take_all, drop, sym, ap, ◌∙◌, arith, length-append}
 use Rattle.std.proofs.lemmas.List.{get_or_push}
 use Rattle.std.proofs.lemmas.List.Prefix.{front_rest}
 use Rattle.auction_rows.specs.declared.limits.TheConstants.{MOST_SHOWN}
@@ -8,7 +8,8 @@ use Rattle.auction_rows.specs.declared.replies.Reply.TheVariants.{ItemStored, Bi
 use Rattle.worker_journals.specs.declared.heads.ShortReply.TheVariants as told
 use Rattle.worker_journals.specs.declared.heads.UserSeen.{UserSeen as SeenUser}
 use Rattle.auction_rows.specs.ItemViews.{item_reply}
-use Rattle.worker_journals.specs.Sides.{SaysReply, shown_in, item_at}
+use Rattle.worker_journals.specs.Shown.{ShownLists, shown_in}
+use Rattle.worker_journals.specs.inner.Sides.{SaysReply, item_at}
 
 -- where a reply shows an item, it is that item's
 pub only_item : (reply : Reply) (seen : ItemView) → seen ∷ [] ≡ (shown_in reply).items → item_reply seen ≡ reply
@@ -28,10 +29,6 @@ only_item (Refused reason) seen e = absurd (cc)
 pub not_none : {X : Type 0} (xs : List X) (x : X) → [] ≡ xs → xs ≡ x ∷ [] → ⊥
 not_none xs x none one = absurd (cc)
 
--- no value more
-pub none_more : {X : Type 0} (xs more : List X) → [] ≡ more → xs ≡ xs ++ more
-none_more xs more none = sym (append-nil xs) ∙ ap (λ m. xs ++ m) none
-
 part_at_end : {X : Type 0} (list old shown : List X) (place count : ℕ) → list ≡ old ++ shown → place ≡ length old → count ≡ length shown →
     take count (drop place list) ≡ shown
 part_at_end list old shown place count kept at all =
@@ -40,22 +37,25 @@ part_at_end list old shown place count kept at all =
     ∙ take_all count shown (omega (arith, all))
 
 module _ (items : List ItemView) (users : List SeenUser) (bids : List BidShown) (latest : List ItemShown) (reply : Reply) (place : ℕ) where
+  abbrev pub lists : ShownLists
+  lists = record { items = items; users = users; bids = bids; latest = latest }
+
   pub says_item : (old : List ItemView) (seen : ItemView) → items ≡ old ++ seen ∷ [] → place ≡ length old → item_reply seen ≡ reply →
-      SaysReply items users bids latest (told.ItemSeen place) reply
+      SaysReply lists (told.ItemSeen place) reply
   says_item old seen kept at is = record {
     within = omega (arith, at, ap length kept, length-append old (seen ∷ []));
     is = ap item_reply (ap (λ xs. item_at xs place) kept ∙ get_or_push old seen _ place (sym at)) ∙ is;
   }
 
   pub says_bids : (old shown : List BidShown) (count : ℕ) → bids ≡ old ++ shown → place ≡ length old → count ≡ length shown → count ≤ MOST_SHOWN →
-      BidsSeen shown ≡ reply → SaysReply items users bids latest (told.BidsSeen count place) reply
+      BidsSeen shown ≡ reply → SaysReply lists (told.BidsSeen count place) reply
   says_bids old shown count kept at all few is = record {
     within = (few, omega (arith, at, all, ap length kept, length-append old shown));
     is = ap BidsSeen (part_at_end bids old shown place count kept at all) ∙ is;
   }
 
   pub says_latest : (old shown : List ItemShown) (count : ℕ) → latest ≡ old ++ shown → place ≡ length old → count ≡ length shown → count ≤ MOST_SHOWN →
-      CategorySeen shown ≡ reply → SaysReply items users bids latest (told.CategorySeen count place) reply
+      CategorySeen shown ≡ reply → SaysReply lists (told.CategorySeen count place) reply
   says_latest old shown count kept at all few is = record {
     within = (few, omega (arith, at, all, ap length kept, length-append old shown));
     is = ap CategorySeen (part_at_end latest old shown place count kept at all) ∙ is;

@@ -10,7 +10,7 @@ use Rattle.phase_laws.specs.Order.{IsOrderedBy}
 use Rattle.auction_rows.specs.declared.rows.Entry.{Entry}
 use Rattle.worker_journals.specs.Journals.{JournalView, entry_number, IsOf, IsLawfulJournal}
 use Rattle.worker_journals.specs.Merged.{merged, AreByWorker}
-use Rattle.worker_journals.specs.Places.{left_of, number_at, first_number, IsLeast, IsLeastOf, AreMerging}
+use Rattle.worker_journals.specs.inner.Places.{left_of, number_at, first_number, IsLeast, IsLeastOf, AreMerging}
 use Rattle.worker_journals.proofs.TakingLemmas.{without_first, first_of, merged_taken, merged_none}
 
 -- an iterator that gave the first of what was left goes on

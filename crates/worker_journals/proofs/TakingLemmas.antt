@@ -9,7 +9,7 @@ use Rattle.phase_laws.proofs.ListLemmas.{all-append}
 use Rattle.auction_rows.specs.declared.rows.Entry.{Entry}
 use Rattle.worker_journals.specs.Journals.{JournalView, entry_number, IsOf, IsLawfulJournal}
 use Rattle.worker_journals.specs.Merged.{comes_before, in_order, merged, AreByWorker}
-use Rattle.worker_journals.specs.Places.{first_number, IsLeast}
+use Rattle.worker_journals.specs.inner.Places.{first_number, IsLeast}
 use Rattle.worker_journals.proofs.OrderedLemmas.{not_before, before_by_number, first_in_order, first_among}
 use Rattle.worker_journals.proofs.MergedLemmas.{all_entries}
 

@@ -1,10 +1,7 @@
+pub mod inner
 pub mod Journals
-pub mod Sides
+pub mod Shown
 pub mod Answers
-pub mod Entries
 pub mod Merged
 pub mod Histories
-pub mod Places
 pub mod Rising
-pub mod HeadLists
-pub mod Asked

@@ -1,7 +1,6 @@
 -- Indexes that rise, as those of a worker do that puts nothing off.
-use Rattle.std.specs.Prelude.{◌≡◌, ℕ, ◌+◌, ◌≤◌, Bool, true, List, [], ◌∷◌, ◌++◌, map}
+use Rattle.std.specs.Prelude.{◌≡◌, ℕ, ◌+◌, ◌≤◌, List, [], ◌∷◌, ◌++◌, map}
 use Rattle.auction_rows.specs.declared.rows.Entry.{Entry}
-use Rattle.worker_journals.specs.HeadLists.{AskedHead}
 use Rattle.worker_journals.specs.Journals.{entry_index}
 
 -- indexes rise from one on, and the second is the one after the last of them
@@ -12,14 +11,6 @@ RisesTo from (index ∷ indexes) next = (from ≤ index) × RisesTo (index + 1) 
 -- the indexes of entries rise
 abbrev pub EntriesRiseTo : ℕ → List Entry → ℕ → Type 0
 EntriesRiseTo from entries next = RisesTo from (map entry_index entries) next
-
--- a head's index
-abbrev pub head_index : AskedHead → ℕ
-head_index asked = asked.head.index
-
--- if it is said, the indexes of heads rise up to the next one
-abbrev pub IsRising : Bool → List AskedHead → ℕ → Type 0
-IsRising said heads next = said ≡ true → RisesTo 0 (map head_index heads) next
 
 -- some entries were passed, whose indexes rise from one on, and these are left
 pub record HasPassed (from : ℕ) (entries left : List Entry) (next : ℕ) : Type 0 where

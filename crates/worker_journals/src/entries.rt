@@ -4,9 +4,12 @@ ghost use Rattle.auction_rows.specs.Choosing.{written_by};
 ghost use Rattle.auction_rows.specs.History.{row_of_entry};
 ghost use Rattle.auction_rows.specs.StoreReplies.{is_refusal, store_reply};
 ghost use Rattle.auction_rows.specs.ItemViews.{item_told};
-ghost use Rattle.worker_journals.specs.Sides.{shown_in};
+ghost use Rattle.worker_journals.specs.inner.Entries.{SaysEntry};
+ghost use Rattle.worker_journals.specs.Shown.{shown_in};
 
+use crate::heads::Head;
 use crate::journal::Journal;
+use crate::sides::Sides;
 use auction_rows::{
     Entry, ItemView, Object, Refusal, Reply, Request, Row, StoreReply, row_of_store,
 };
@@ -24,7 +27,7 @@ pub struct EntryRef<'a> {
 impl<'a> Model for EntryRef<'a> {
     ghost use Rattle.std.specs.Prelude.{◌<◌, length};
     ghost use Rattle.auction_rows.specs.declared.rows.Entry.{Entry};
-    ghost use Rattle.worker_journals.specs.Places.{entry_at};
+    ghost use Rattle.worker_journals.specs.inner.Places.{entry_at};
 
     ghost Value = { Entry };
 
@@ -45,6 +48,15 @@ impl<'a> EntryRef<'a> {
         EntryRef { journal, place }
     }
 
+    // The head of the entry, and the side lists of its journal.
+    #[inline(always)]
+    fn head(&self) -> (Head, &Sides)
+        ensures { SaysEntry result.1.now result.0 self.now }
+    {
+        let journal = self.journal;
+        (journal.heads.head(self.place), &journal.sides)
+    }
+
     /// The phase in which the entry was committed.
     pub fn phase(&self) -> u64
         ensures { result ≡ self.now.phase }
@@ -58,10 +70,11 @@ impl<'a> EntryRef<'a> {
     pub fn number(&self) -> u64
         ensures { result ≡ self.now.number }
     {
-        self.journal.number(self.place)
+        self.head().0.number
     }
 
     /// The worker whose commit it is.
+    #[inline(always)]
     pub fn worker(&self) -> u32
         ensures { result ≡ self.now.worker }
     {
@@ -74,28 +87,31 @@ impl<'a> EntryRef<'a> {
     pub fn index(&self) -> u32
         ensures { result ≡ self.now.index }
     {
-        self.journal.index(self.place)
+        self.head().0.index
     }
 
     /// What was asked.
+    #[inline(always)]
     pub fn request(&self) -> Request
         ensures { result ≡ self.now.request }
     {
-        self.journal.request(self.place)
+        let journal = self.journal;
+        journal.heads.request(self.place)
     }
 
     /// The reply, made whole.
     pub fn reply(&self) -> Reply
         ensures { result ≡ self.now.reply }
     {
-        self.journal.reply(self.place)
+        let (head, sides) = self.head();
+        sides.reply(head.reply)
     }
 
     /// The reply, if it is one to a store or a refusal: None if it shows what a view asked for.
     pub fn store_reply(&self) -> Option<StoreReply>
         ensures { result ≡ store_reply self.now.reply }
     {
-        self.journal.store_reply(self.place)
+        self.head().0.reply.as_store_reply()
     }
 
     /// What the entry shows of an item, if it is a view of one that is stored.
@@ -104,14 +120,15 @@ impl<'a> EntryRef<'a> {
         ensures { option_to_list (option_map (λ seen. seen.now) result)
             ≡ (shown_in self.now.reply).items }
     {
-        self.journal.item_seen(self.place)
+        let (head, sides) = self.head();
+        sides.item_seen(head.reply)
     }
 
     /// Whether the entry is refused.
     pub fn is_refused(&self) -> bool
         ensures { result ≡ is_refusal self.now.reply }
     {
-        self.journal.is_refused(self.place)
+        self.head().0.reply.is_refusal()
     }
 
     /// The object that the entry writes, if it is an accepted splittable store.
@@ -119,7 +136,8 @@ impl<'a> EntryRef<'a> {
     pub fn object_written(&self) -> Option<Object>
         ensures { result ≡ written_by self.now }
     {
-        self.journal.object_written(self.place)
+        let (head, _sides) = self.head();
+        head.reply.object_written(self.worker(), &self.request())
     }
 
     /// The row that the entry adds, if it is an accepted store.
@@ -133,7 +151,14 @@ impl<'a> EntryRef<'a> {
     pub fn to_entry(&self) -> Entry
         ensures { result ≡ self.now }
     {
-        self.journal.to_entry(self.place)
+        Entry {
+            phase: self.phase(),
+            number: self.number(),
+            worker: self.worker(),
+            index: self.index(),
+            request: self.request(),
+            reply: self.reply(),
+        }
     }
 
     /// Puts the entry, made whole, at the end of a list.

@@ -20,8 +20,8 @@ pub(crate) struct Heads {
 
 impl Model for Heads {
     ghost use Rattle.std.specs.Prelude.{min, vec_capacity};
-    ghost use Rattle.worker_journals.specs.Asked.{HaveRequests, requests_of, room_of};
-    ghost use Rattle.worker_journals.specs.HeadLists.{HeadList, heads_of};
+    ghost use Rattle.worker_journals.specs.inner.Asked.{HaveRequests, requests_of, room_of};
+    ghost use Rattle.worker_journals.specs.inner.HeadLists.{HeadList, heads_of};
 
     ghost Value = { HeadList };
 
@@ -34,7 +34,7 @@ impl Model for Heads {
 }
 
 impl Heads {
-    ghost use Rattle.worker_journals.specs.HeadLists.{IsHeadOf, asked_head, head_by, head_in, request_in};
+    ghost use Rattle.worker_journals.specs.inner.HeadLists.{IsHeadOf, asked_head, head_by, head_in, request_in};
 
     /// No head, with room for so many; the requests lie in these lists, emptied.
     pub(crate) fn with_room(

@@ -1,14 +1,11 @@
 //! What a journal keeps of each commit in its place: all that is small. The rest lies in side
 //! lists.
-ghost use Rattle.std.specs.Prelude.{◌≡◌, List};
-ghost use Rattle.auction_rows.specs.declared.replies.ItemView.{ItemView};
-ghost use Rattle.auction_rows.specs.declared.replies.BidShown.{BidShown};
-ghost use Rattle.auction_rows.specs.declared.replies.ItemShown.{ItemShown};
+ghost use Rattle.std.specs.Prelude.{◌≡◌};
 ghost use Rattle.auction_rows.specs.Choosing.{written_by};
 ghost use Rattle.auction_rows.specs.History.{commit};
 ghost use Rattle.auction_rows.specs.StoreReplies.{is_refusal, store_reply};
-ghost use Rattle.worker_journals.specs.declared.heads.UserSeen.{UserSeen as SeenUser};
-ghost use Rattle.worker_journals.specs.Sides.{reply_from};
+ghost use Rattle.worker_journals.specs.Shown.{ShownLists};
+ghost use Rattle.worker_journals.specs.inner.Sides.{reply_from};
 
 use auction_rows::{BidId, BuyId, CommentId, ItemId, Object, Refusal, Request, StoreReply};
 use request_scripts::SideIndex;
@@ -42,14 +39,12 @@ pub(crate) enum ShortReply {
 
 impl ShortReply {
     ghost use Rattle.auction_rows.specs.StoreReplies.{reply_of};
-    ghost use Rattle.worker_journals.specs.Sides.{SaysReply};
+    ghost use Rattle.worker_journals.specs.inner.Sides.{SaysReply};
 
     /// A reply that shows nothing.
     #[inline(always)]
     pub(crate) fn of_store(reply: StoreReply) -> ShortReply
-        ensures { (items : List ItemView) (users : List SeenUser) (bids : List BidShown)
-            (latest : List ItemShown) →
-            SaysReply items users bids latest result (reply_of reply) }
+        ensures { (lists : ShownLists) → SaysReply lists result (reply_of reply) }
     {
         match reply {
             StoreReply::ItemStored(id) => ShortReply::ItemStored(id),
@@ -62,9 +57,7 @@ impl ShortReply {
 
     /// The reply, if it shows nothing.
     pub(crate) fn as_store_reply(self) -> Option<StoreReply>
-        ensures { (items : List ItemView) (users : List SeenUser) (bids : List BidShown)
-            (latest : List ItemShown) →
-            result ≡ store_reply (reply_from items users bids latest self) }
+        ensures { (lists : ShownLists) → result ≡ store_reply (reply_from lists self) }
     {
         match self {
             ShortReply::ItemStored(id) => Some(StoreReply::ItemStored(id)),
@@ -78,9 +71,7 @@ impl ShortReply {
 
     /// Whether the reply is a refusal.
     pub(crate) fn is_refusal(self) -> bool
-        ensures { (items : List ItemView) (users : List SeenUser) (bids : List BidShown)
-            (latest : List ItemShown) →
-            result ≡ is_refusal (reply_from items users bids latest self) }
+        ensures { (lists : ShownLists) → result ≡ is_refusal (reply_from lists self) }
     {
         matches!(self, ShortReply::Refused(_))
     }
@@ -89,10 +80,8 @@ impl ShortReply {
     /// accepted splittable store.
     #[inline(always)]
     pub(crate) fn object_written(self, worker: u32, request: &Request) -> Option<Object>
-        ensures { (items : List ItemView) (users : List SeenUser) (bids : List BidShown)
-            (latest : List ItemShown) →
-            result ≡ written_by (commit worker request.now
-            (reply_from items users bids latest self)) }
+        ensures { (lists : ShownLists) →
+            result ≡ written_by (commit worker request.now (reply_from lists self)) }
     {
         match (request, self) {
             (Request::StoreItem { facts, .. }, ShortReply::ItemStored(id)) if id.worker == worker =>

@@ -7,7 +7,7 @@ ghost use Rattle.phase_laws.specs.Order.{part};
 ghost use Rattle.worker_journals.specs.Journals.{IsJournalOf, IsLawfulJournal, closed_journal, entry_worker};
 ghost use Rattle.worker_journals.specs.Merged.{AreByWorker, entries_of, merged};
 ghost use Rattle.worker_journals.specs.Histories.{ArePhase, no_history, with_phase};
-ghost use Rattle.worker_journals.specs.Places.{first_entries};
+ghost use Rattle.worker_journals.specs.inner.Places.{first_entries};
 ghost use Rattle.worker_journals.specs.Rising.{EntriesRiseTo, HasPassed};
 
 use crate::entries::EntryRef;
@@ -30,7 +30,8 @@ pub struct History {
 }
 
 impl Model for History {
-    ghost use Rattle.worker_journals.specs.Histories.{HistoryView, IsHistory, journals_of, shown};
+    ghost use Rattle.worker_journals.specs.Histories.{HistoryView};
+    ghost use Rattle.worker_journals.specs.inner.Phases.{IsHistory, journals_of, shown};
 
     ghost Value = { HistoryView };
 
@@ -202,7 +203,8 @@ impl<'a> Model for Entries<'a> {
     ghost use Rattle.std.specs.Prelude.{List, ◌++◌};
     ghost use Rattle.std.specs.List.{AllByRecursion};
     ghost use Rattle.auction_rows.specs.declared.rows.Entry.{Entry};
-    ghost use Rattle.worker_journals.specs.Histories.{ArePhase, entries_in, journals_of};
+    ghost use Rattle.worker_journals.specs.Histories.{ArePhase};
+    ghost use Rattle.worker_journals.specs.inner.Phases.{entries_in, journals_of};
 
     ghost Value = { List Entry };
 
@@ -245,8 +247,8 @@ pub struct WorkerEntries<'a> {
 impl<'a> Model for WorkerEntries<'a> {
     ghost use Rattle.std.specs.Prelude.{List};
     ghost use Rattle.auction_rows.specs.declared.rows.Entry.{Entry};
-    ghost use Rattle.worker_journals.specs.Histories.{journals_of};
-    ghost use Rattle.worker_journals.specs.Places.{own_left};
+    ghost use Rattle.worker_journals.specs.inner.Phases.{journals_of};
+    ghost use Rattle.worker_journals.specs.inner.Places.{own_left};
 
     ghost Value = { List Entry };
 

@@ -1,16 +1,14 @@
 //! What one worker commits in one phase.
-ghost use Rattle.std.specs.Prelude.{◌≡◌, ◌<◌, ◌≤◌, true, ◌+◌, ◌^◌, ◌==◌, Some, length, map, option_map, option_to_list, slice_get, IfOk, IfSome};
+ghost use Rattle.std.specs.Prelude.{◌≡◌, ◌<◌, ◌≤◌, true, ◌+◌, ◌^◌, ◌==◌, Some, length, slice_get, IfOk, IfSome};
 ghost use Rattle.std.specs.Iterator.{YieldsFirst, item_count};
 ghost use Rattle.std.specs.List.{AllByRecursion};
-ghost use Rattle.auction_rows.specs.Choosing.{written_by};
-ghost use Rattle.worker_journals.specs.Journals.{IsLawfulJournal, IsOfScript, ComesAfter, closed_journal, empty_journal, entry_index, entry_number, with_commit};
+ghost use Rattle.worker_journals.specs.Journals.{IsLawfulJournal, IsOfScript, ComesAfter, closed_journal, empty_journal, with_commit};
 ghost use Rattle.worker_journals.specs.Rising.{EntriesRiseTo};
-ghost use Rattle.worker_journals.specs.Places.{entry_items, entry_reply, entry_request, entry_store_reply, is_refused};
 
 use crate::entries::{Answer, EntryRef};
 use crate::head_list::Heads;
 use crate::sides::Sides;
-use auction_rows::{Entry, ItemView, Object, Reply, Request, StoreReply};
+use auction_rows::{Reply, Request};
 use request_scripts::{KeptRequests, OwnScript};
 use std::alloc::{AllocError, Global};
 use std::marker::Model;
@@ -24,8 +22,8 @@ use std::marker::Model;
 pub struct Journal {
     phase: u64,
     worker: u32,
-    heads: Heads,
-    sides: Sides,
+    pub(crate) heads: Heads,
+    pub(crate) sides: Sides,
     // Whether the indexes of the entries rise.
     is_rising: bool,
     // The index after the last one.
@@ -64,7 +62,7 @@ impl Drop for SpareLists {
 }
 
 impl Model for SpareLists {
-    ghost use Rattle.worker_journals.specs.Sides.{SideLists};
+    ghost use Rattle.worker_journals.specs.inner.Sides.{SideLists};
 
     ghost Value = { SideLists };
 
@@ -89,8 +87,8 @@ impl SpareLists {
 
 impl Model for Journal {
     ghost use Rattle.worker_journals.specs.Journals.{JournalView};
-    ghost use Rattle.worker_journals.specs.Entries.{shown, IsKept};
-    ghost use Rattle.worker_journals.specs.Rising.{IsRising};
+    ghost use Rattle.worker_journals.specs.inner.Entries.{shown, IsKept};
+    ghost use Rattle.worker_journals.specs.inner.HeadLists.{IsRising};
 
     ghost Value = { JournalView };
 
@@ -245,90 +243,6 @@ impl Journal {
         ensures next { place + 1 < 2 ^ 64 }
     {
         EntryRef::of(self, place)
-    }
-
-    /// The entry at a place from 0, made whole.
-    pub(crate) fn to_entry(&self, place: usize) -> Entry
-        requires { place < length self.now.entries }
-        ensures { slice_get self.now.entries place ≡ Some result }
-    {
-        let head = self.heads.head(place);
-        Entry {
-            phase: self.phase,
-            number: head.number,
-            worker: self.worker,
-            index: head.index,
-            request: self.heads.request(place),
-            reply: self.sides.reply(head.reply),
-        }
-    }
-
-    /// The number of the entry at a place from 0.
-    pub(crate) fn number(&self, place: usize) -> u64
-        requires { place < length self.now.entries }
-        ensures { slice_get (map entry_number self.now.entries) place ≡ Some result }
-    {
-        self.heads.head(place).number
-    }
-
-    /// The index of the entry at a place from 0.
-    pub(crate) fn index(&self, place: usize) -> u32
-        requires { place < length self.now.entries }
-        ensures { slice_get (map entry_index self.now.entries) place ≡ Some result }
-    {
-        self.heads.head(place).index
-    }
-
-    /// What was asked at a place from 0.
-    pub(crate) fn request(&self, place: usize) -> Request
-        requires { place < length self.now.entries }
-        ensures { slice_get (map entry_request self.now.entries) place ≡ Some result }
-    {
-        self.heads.request(place)
-    }
-
-    /// The reply at a place from 0, made whole.
-    pub(crate) fn reply(&self, place: usize) -> Reply
-        requires { place < length self.now.entries }
-        ensures { slice_get (map entry_reply self.now.entries) place ≡ Some result }
-    {
-        self.sides.reply(self.heads.head(place).reply)
-    }
-
-    /// The reply at a place from 0, if it shows nothing.
-    pub(crate) fn store_reply(&self, place: usize) -> Option<StoreReply>
-        requires { place < length self.now.entries }
-        ensures { slice_get (map entry_store_reply self.now.entries) place ≡ Some result }
-    {
-        self.heads.head(place).reply.as_store_reply()
-    }
-
-    /// What the entry at a place from 0 shows of an item, if it is a view of one.
-    #[inline(always)]
-    pub(crate) fn item_seen(&self, place: usize) -> Option<&ItemView>
-        requires { place < length self.now.entries }
-        ensures { slice_get (map entry_items self.now.entries) place
-            ≡ Some (option_to_list (option_map (λ seen. seen.now) result)) }
-    {
-        self.sides.item_seen(self.heads.head(place).reply)
-    }
-
-    /// Whether the entry at a place from 0 is refused.
-    pub(crate) fn is_refused(&self, place: usize) -> bool
-        requires { place < length self.now.entries }
-        ensures { slice_get (map is_refused self.now.entries) place ≡ Some result }
-    {
-        self.heads.head(place).reply.is_refusal()
-    }
-
-    /// The object that the entry at a place from 0 writes, if it is an accepted splittable store.
-    #[inline(always)]
-    pub(crate) fn object_written(&self, place: usize) -> Option<Object>
-        requires { place < length self.now.entries }
-        ensures { slice_get (map written_by self.now.entries) place ≡ Some result }
-    {
-        let reply = self.heads.head(place).reply;
-        reply.object_written(self.worker, &self.heads.request(place))
     }
 
     /// For how many entries in all there is a place.

@@ -9,7 +9,7 @@ ghost use Rattle.auction_rows.specs.declared.rows.Entry.{Entry};
 ghost use Rattle.worker_journals.specs.Histories.{ArePhase};
 ghost use Rattle.worker_journals.specs.Journals.{IsLawfulJournal, entry_number, entry_worker, JournalView, ComesAfter};
 ghost use Rattle.worker_journals.specs.Merged.{AreByWorker, entries_of, entry_count, merged};
-ghost use Rattle.worker_journals.specs.Places.{IsLeastOf, first_number, lesser, number_at};
+ghost use Rattle.worker_journals.specs.inner.Places.{IsLeastOf, first_number, lesser, number_at};
 
 use crate::entries::EntryRef;
 use crate::journal::Journal;
@@ -32,7 +32,7 @@ impl<'a> Model for Merging<'a> {
     ghost use Rattle.auction_rows.specs.declared.limits.TheConstants.{MOST_WORKERS};
     ghost use Rattle.auction_rows.specs.declared.rows.Entry.{Entry};
     ghost use Rattle.worker_journals.specs.Merged.{merged};
-    ghost use Rattle.worker_journals.specs.Places.{left_of, AreMerging};
+    ghost use Rattle.worker_journals.specs.inner.Places.{left_of, AreMerging};
 
     ghost Value = { List Entry };
 
@@ -123,11 +123,10 @@ fn number_at(journal: &Journal, place: usize) -> Option<u64>
     ensures number { result ≡ number_at place journal.now }
     ensures lawful { IsLawfulJournal journal.now }
 {
-    if place < journal.len() {
-        Some(journal.number(place))
-    } else {
-        None
+    if place >= journal.len() {
+        return None;
     }
+    Some(EntryRef::of(journal, place).number())
 }
 
 // The place of the first of the least numbers, if there is a number.

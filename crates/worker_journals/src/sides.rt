@@ -1,7 +1,7 @@
 //! What a journal keeps beside its heads.
-ghost use Rattle.std.specs.Prelude.{◌≡◌, ◌+◌, ◌<◌, ◌≤◌, ◌++◌, [], length, take, drop, option_map, option_to_list, vec_len, vec_capacity, IfOk};
+ghost use Rattle.std.specs.Prelude.{◌≡◌, ◌+◌, ◌<◌, ◌≤◌, ◌++◌, length, take, drop, option_map, option_to_list, vec_len, vec_capacity, IfOk};
 ghost use Rattle.request_scripts.specs.ShortRequests.{HasListRoom};
-ghost use Rattle.worker_journals.specs.Sides.{SaysReply, shown_in};
+ghost use Rattle.worker_journals.specs.Shown.{shown_in};
 
 use crate::entries::{Answer, ReplyForm};
 use crate::heads::{ShortReply, UserSeen};
@@ -25,15 +25,17 @@ impl Model for Sides {
     ghost use Rattle.std.specs.Prelude.{◌*◌, vec_len, vec_capacity};
     ghost use Rattle.auction_rows.specs.declared.limits.TheConstants.{MOST_SHOWN};
     ghost use Rattle.request_scripts.specs.ShortRequests.{HasListRoom};
-    ghost use Rattle.worker_journals.specs.Sides.{SideLists};
+    ghost use Rattle.worker_journals.specs.inner.Sides.{SideLists};
 
     ghost Value = { SideLists };
 
     ghost view = { λ s. record {
-      items = s.items.items;
-      users = s.users.items;
-      bids = s.bids.items;
-      latest = s.latest.items;
+      lists = record {
+        items = s.items.items;
+        users = s.users.items;
+        bids = s.bids.items;
+        latest = s.latest.items;
+      };
       left = s.left;
     } };
 
@@ -44,7 +46,8 @@ impl Model for Sides {
 }
 
 impl Sides {
-    ghost use Rattle.worker_journals.specs.Sides.{HasReplyWith, SaysReplyWith, no_sides, reply_with, with_reply_of};
+    ghost use Rattle.auction_rows.specs.ItemViews.{item_reply};
+    ghost use Rattle.worker_journals.specs.inner.Sides.{HasReply, SaysReply, no_sides, reply_from, with_reply_of};
 
     /// Empty lists without room.
     pub(crate) fn none(alloc: Global) -> Sides
@@ -114,26 +117,66 @@ impl Sides {
     pub(crate) fn keep(&mut self, reply: &Answer<'_>) -> ShortReply
         requires { 0 < self.old.left }
         ensures kept { self.new ≡ with_reply_of self.old reply.now }
-        ensures reply { SaysReplyWith self.new result reply.now }
+        ensures reply { SaysReply self.new.lists result reply.now }
+    {
+        match reply.form {
+            ReplyForm::Store(store) => {
+                self.left -= 1;
+                ShortReply::of_store(store)
+            }
+            ReplyForm::Item(seen) => self.keep_item(*seen),
+            ReplyForm::Whole(whole) => self.keep_reply(whole),
+        }
+    }
+
+    // As `keep`, of the view of an item, which shows this.
+    #[inline(always)]
+    fn keep_item(&mut self, seen: ItemView) -> ShortReply
+        requires { 0 < self.old.left }
+        ensures kept { self.new ≡ with_reply_of self.old (item_reply seen) }
+        ensures reply { SaysReply self.new.lists result (item_reply seen) }
     {
         self.left -= 1;
-        match reply.form {
-            ReplyForm::Store(store) => ShortReply::of_store(store),
-            ReplyForm::Item(seen) => ShortReply::ItemSeen(keep_one(&mut self.items, *seen)),
-            ReplyForm::Whole(whole) => keep_reply(
-                &mut self.items,
-                &mut self.users,
-                &mut self.bids,
-                &mut self.latest,
-                whole,
-            ),
+        ShortReply::ItemSeen(keep_one(&mut self.items, seen))
+    }
+
+    // As `keep`, of a whole reply.
+    fn keep_reply(&mut self, reply: &Reply) -> ShortReply
+        requires { 0 < self.old.left }
+        ensures kept { self.new ≡ with_reply_of self.old reply.now }
+        ensures reply { SaysReply self.new.lists result reply.now }
+    {
+        if let Some(seen) = item_seen(reply) {
+            return self.keep_item(seen);
+        }
+        self.left -= 1;
+        match reply {
+            Reply::ItemStored(id) => ShortReply::ItemStored(*id),
+            Reply::BidStored(id) => ShortReply::BidStored(*id),
+            Reply::CommentStored(id) => ShortReply::CommentStored(*id),
+            Reply::Bought(id) => ShortReply::Bought(*id),
+            Reply::ItemSeen { .. } => unreachable!(),
+            Reply::BidsSeen(shown) => {
+                ShortReply::BidsSeen(shown.len() as u8, keep_all(&mut self.bids, shown))
+            }
+            Reply::CategorySeen(shown) => {
+                ShortReply::CategorySeen(shown.len() as u8, keep_all(&mut self.latest, shown))
+            }
+            Reply::UserSeen { rating, comments } => {
+                let seen = UserSeen {
+                    rating: *rating,
+                    comments: *comments,
+                };
+                ShortReply::UserSeen(keep_one(&mut self.users, seen))
+            }
+            Reply::Refused(reason) => ShortReply::Refused(*reason),
         }
     }
 
     /// The reply of a head of this journal.
     pub(crate) fn reply(&self, short: ShortReply) -> Reply
-        requires { HasReplyWith self.now short }
-        ensures { result ≡ reply_with self.now short }
+        requires { HasReply self.now.lists short }
+        ensures { result ≡ reply_from self.now.lists short }
     {
         match short {
             ShortReply::ItemStored(id) => Reply::ItemStored(id),
@@ -161,9 +204,9 @@ impl Sides {
     /// What a head of this journal shows of an item, if it is of a view of one.
     #[inline(always)]
     pub(crate) fn item_seen(&self, short: ShortReply) -> Option<&ItemView>
-        requires { HasReplyWith self.now short }
+        requires { HasReply self.now.lists short }
         ensures { option_to_list (option_map (λ seen. seen.now) result)
-            ≡ (shown_in (reply_with self.now short)).items }
+            ≡ (shown_in (reply_from self.now.lists short)).items }
     {
         match short {
             ShortReply::ItemSeen(place) => Some(&self.items[place.get()]),
@@ -242,51 +285,4 @@ fn item_seen(reply: &Reply) -> Option<ItemView>
         });
     }
     None
-}
-
-// A reply, with what it shows at the end of what views of its kind show.
-fn keep_reply(
-    items: &mut Vec<ItemView>,
-    users: &mut Vec<UserSeen>,
-    bids: &mut Vec<BidShown>,
-    latest: &mut Vec<ItemShown>,
-    reply: &Reply,
-) -> ShortReply
-    requires items { HasListRoom 1 (vec_len items.old) (vec_capacity items.old) }
-    requires users { HasListRoom 1 (vec_len users.old) (vec_capacity users.old) }
-    requires bids { HasListRoom MOST_SHOWN (vec_len bids.old) (vec_capacity bids.old) }
-    requires latest { HasListRoom MOST_SHOWN (vec_len latest.old) (vec_capacity latest.old) }
-    ensures items { items.new.items ≡ items.old.items ++ (shown_in reply.now).items }
-    ensures users { users.new.items ≡ users.old.items ++ (shown_in reply.now).users }
-    ensures bids { bids.new.items ≡ bids.old.items ++ (shown_in reply.now).bids }
-    ensures latest { latest.new.items ≡ latest.old.items ++ (shown_in reply.now).latest }
-    ensures says { SaysReply items.new.items users.new.items bids.new.items latest.new.items
-        result reply.now }
-    ensures capacities { (vec_capacity items.new ≡ vec_capacity items.old)
-        × (vec_capacity users.new ≡ vec_capacity users.old)
-        × (vec_capacity bids.new ≡ vec_capacity bids.old)
-        × (vec_capacity latest.new ≡ vec_capacity latest.old) }
-{
-    if let Some(seen) = item_seen(reply) {
-        return ShortReply::ItemSeen(keep_one(items, seen));
-    }
-    match reply {
-        Reply::ItemStored(id) => ShortReply::ItemStored(*id),
-        Reply::BidStored(id) => ShortReply::BidStored(*id),
-        Reply::CommentStored(id) => ShortReply::CommentStored(*id),
-        Reply::Bought(id) => ShortReply::Bought(*id),
-        Reply::ItemSeen { .. } => unreachable!(),
-        Reply::BidsSeen(shown) => ShortReply::BidsSeen(shown.len() as u8, keep_all(bids, shown)),
-        Reply::CategorySeen(shown) => {
-            ShortReply::CategorySeen(shown.len() as u8, keep_all(latest, shown))
-        }
-        Reply::UserSeen { rating, comments } => {
-            let seen = UserSeen {
-                rating: *rating,
-                comments: *comments,
-            };
-            ShortReply::UserSeen(keep_one(users, seen))
-        }
-        Reply::Refused(reason) => ShortReply::Refused(*reason),
-    }
 }

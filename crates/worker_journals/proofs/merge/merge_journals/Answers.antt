@@ -6,7 +6,7 @@ use Rattle.phase_laws.specs.Order.{IsAscending, part}
 use Rattle.auction_rows.specs.declared.rows.Entry.{Entry}
 use Rattle.worker_journals.specs.Journals.{IsLawfulJournal, entry_number, entry_worker}
 use Rattle.worker_journals.specs.Merged.{merged}
-use Rattle.worker_journals.specs.Places.{left_of, first_number, IsLeastOf}
+use Rattle.worker_journals.specs.inner.Places.{left_of, first_number, IsLeastOf}
 use Rattle.worker_journals.proofs.MergedLemmas.{all_entries, merged_ascends, merged_parts, merged_permutes}
 use Rattle.worker_journals.proofs.StepLemmas.{starts_before, starts_merging, none_left, place_within, entry_listed, still_merging}
 use Rattle.worker_journals.proofs.merge.merge_journals.Goals as goal

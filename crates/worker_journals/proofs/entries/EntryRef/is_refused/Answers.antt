@@ -1,8 +1,6 @@
-use Rattle.worker_journals.specs.Places.{is_refused}
-use Rattle.worker_journals.proofs.PlaceLemmas.{part_there}
+use Rattle.std.proofs.Common.{◌∙◌, ap}
+use Rattle.auction_rows.specs.StoreReplies.{is_refusal}
 use Rattle.worker_journals.proofs.entries.EntryRef.is_refused.Goals as goal
 
 pub returns : goal.returns
-returns c =
-    let e = c.self.inside in
-    rw (← c.self.view_is) (part_there is_refused e.journal.now.entries e.place c.is_refused.result c.is_refused.ensures)
+returns c = c.is_refusal.ensures c.head.result.1.now.lists ∙ ap is_refusal c.head.ensures.reply.is

@@ -1,8 +1,9 @@
-use Rattle.worker_journals.specs.Places.{entry_items}
-use Rattle.worker_journals.proofs.PlaceLemmas.{part_there}
+use Rattle.std.proofs.Common.{◌∙◌, ap}
+use Rattle.worker_journals.specs.Shown.{shown_in}
 use Rattle.worker_journals.proofs.entries.EntryRef.item_seen.Goals as goal
 
+pub item_seen-requires : goal.item_seen-requires
+item_seen-requires c = c.head-head.ensures.reply.within
+
 pub returns : goal.returns
-returns c =
-    let e = c.self.inside in
-    rw (← c.self.view_is) (part_there entry_items e.journal.now.entries e.place _ c.item_seen.ensures)
+returns c = c.item_seen.ensures ∙ ap (λ reply. (shown_in reply).items) c.head-head.ensures.reply.is

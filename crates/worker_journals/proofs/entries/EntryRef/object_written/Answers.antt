@@ -1,8 +1,9 @@
+use Rattle.std.proofs.Common.{◌∙◌}
 use Rattle.auction_rows.specs.Choosing.{written_by}
-use Rattle.worker_journals.proofs.PlaceLemmas.{part_there}
+use Rattle.auction_rows.specs.History.{commit}
 use Rattle.worker_journals.proofs.entries.EntryRef.object_written.Goals as goal
 
 pub returns : goal.returns
 returns c =
-    let e = c.self.inside in
-    rw (← c.self.view_is) (part_there written_by e.journal.now.entries e.place c.object_written.result c.object_written.ensures)
+    c.object_written.ensures c.head-head.result.1.now.lists
+    ∙ (λ i. written_by (commit (c.worker.ensures i) (c.request.ensures i) (c.head-head.ensures.reply.is i)))

@@ -1,8 +1,7 @@
-use Rattle.worker_journals.specs.Places.{entry_request}
-use Rattle.worker_journals.proofs.PlaceLemmas.{part_there}
+use Rattle.worker_journals.proofs.PlaceLemmas.{request_is}
 use Rattle.worker_journals.proofs.entries.EntryRef.request.Goals as goal
 
 pub returns : goal.returns
 returns c =
-    let e = c.self.inside in
-    rw (← c.self.view_is) (part_there entry_request e.journal.now.entries e.place c.request.result c.request.ensures)
+    let j = c.journal.inside in
+    request_is j.phase j.worker j.sides j.heads.heads c.self.inside.place _ _ c.journal.view_is c.self.view_is _ c.request.ensures

@@ -1,8 +1,6 @@
-use Rattle.worker_journals.specs.Places.{entry_store_reply}
-use Rattle.worker_journals.proofs.PlaceLemmas.{part_there}
+use Rattle.std.proofs.Common.{◌∙◌, ap}
+use Rattle.auction_rows.specs.StoreReplies.{store_reply}
 use Rattle.worker_journals.proofs.entries.EntryRef.store_reply.Goals as goal
 
 pub returns : goal.returns
-returns c =
-    let e = c.self.inside in
-    rw (← c.self.view_is) (part_there entry_store_reply e.journal.now.entries e.place c.store_reply.result c.store_reply.ensures)
+returns c = c.as_store_reply.ensures c.head.result.1.now.lists ∙ ap store_reply c.head.ensures.reply.is

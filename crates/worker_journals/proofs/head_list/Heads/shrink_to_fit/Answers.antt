@@ -1,6 +1,6 @@
 use Rattle.std.proofs.Common.{◌∙◌, ap, subst, sym}
-use Rattle.worker_journals.specs.Asked.{HaveRequests, requests_of}
-use Rattle.worker_journals.specs.HeadLists.{HeadList, heads_of}
+use Rattle.worker_journals.specs.inner.Asked.{HaveRequests, requests_of}
+use Rattle.worker_journals.specs.inner.HeadLists.{HeadList, heads_of}
 use Rattle.worker_journals.proofs.head_list.Heads.shrink_to_fit.Goals as goal
 
 pub invariant_of-self : goal.invariant_of-self

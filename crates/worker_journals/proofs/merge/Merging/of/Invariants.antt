@@ -1,5 +1,5 @@
 use Rattle.std.proofs.Common.{◌≡◌, take, map, length}
-use Rattle.worker_journals.specs.Places.{first_number}
+use Rattle.worker_journals.specs.inner.Places.{first_number}
 use Rattle.worker_journals.proofs.merge.Merging.of.Given as goal
 
 abbrev pub invariant-loop-worker : goal.invariant-loop-worker

@@ -1,8 +1,9 @@
 -- The heads of a journal, with their requests.
-use Rattle.std.specs.Prelude.{◌≡◌, ℕ, List, [], ◌∷◌, Some, slice_get}
+use Rattle.std.specs.Prelude.{◌≡◌, ℕ, Bool, true, List, [], ◌∷◌, Some, map, slice_get}
 use Rattle.auction_rows.specs.declared.requests.Request.{Request}
 use Rattle.worker_journals.specs.declared.heads.Head.{Head}
 use Rattle.worker_journals.specs.declared.heads.ShortReply.{ShortReply}
+use Rattle.worker_journals.specs.Rising.{RisesTo}
 
 -- a head by its parts
 abbrev pub head_by : ℕ → ℕ → ShortReply → Head
@@ -38,3 +39,11 @@ heads_of (request ∷ requests) (head ∷ heads) = asked_head head request ∷ h
 -- a head's request is that of a script at its index
 abbrev pub IsHeadOf : List Request → AskedHead → Type 0
 IsHeadOf script asked = slice_get script asked.head.index ≡ Some asked.request
+
+-- a head's index
+abbrev pub head_index : AskedHead → ℕ
+head_index asked = asked.head.index
+
+-- if it is said, the indexes of heads rise up to the next one
+abbrev pub IsRising : Bool → List AskedHead → ℕ → Type 0
+IsRising said heads next = said ≡ true → RisesTo 0 (map head_index heads) next

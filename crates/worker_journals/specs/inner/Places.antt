@@ -1,13 +1,11 @@
 -- What is left of journals while their entries are told in one order.
-use Rattle.std.specs.Prelude.{◌≡◌, Bool, ℕ, ◌<◌, ◌≤◌, List, [], ◌∷◌, ◌++◌, Option, None, Some, map, take, drop, length, slice_get, slice_index_or, unwrap_or, IfSome, nat_lt, if◌then◌else◌}
+use Rattle.std.specs.Prelude.{◌≡◌, ℕ, ◌<◌, ◌≤◌, List, [], ◌∷◌, ◌++◌, Option, None, Some, map, take, drop, length, slice_get, slice_index_or, unwrap_or, IfSome, nat_lt, if◌then◌else◌}
 use Rattle.std.specs.List.{flat_map, AllByRecursion}
-use Rattle.auction_rows.specs.declared.{requests.Request.Request, replies.Reply.Reply, replies.StoreReply.StoreReply, replies.ItemView.ItemView, rows.Entry.Entry}
+use Rattle.auction_rows.specs.declared.rows.Entry.{Entry}
 use Rattle.auction_rows.specs.declared.requests.Request.TheVariants.{ViewUser}
 use Rattle.auction_rows.specs.declared.replies.Reply.TheVariants.{Refused}
 use Rattle.auction_rows.specs.declared.replies.Refusal.TheVariants.{NoSuchItem}
-use Rattle.auction_rows.specs.StoreReplies.{is_refusal, store_reply}
 use Rattle.worker_journals.specs.Journals.{JournalView, entry_number, IsLawfulJournal}
-use Rattle.worker_journals.specs.Sides.{shown_in}
 use Rattle.worker_journals.specs.Merged.{entries_of, AreByWorker}
 
 -- the journals with their entries from these places on
@@ -79,26 +77,6 @@ lesser least i None = least
 lesser None i (Some next) = Some (i, next)
 lesser (Some now) i (Some next) =
     if nat_lt next (number_there now) then Some (i, next) else Some now
-
--- an entry's reply
-abbrev pub entry_reply : Entry → Reply
-entry_reply entry = entry.reply
-
--- an entry's request
-abbrev pub entry_request : Entry → Request
-entry_request entry = entry.request
-
--- an entry's reply, if it shows nothing
-abbrev pub entry_store_reply : Entry → Option StoreReply
-entry_store_reply entry = store_reply entry.reply
-
--- the item that an entry shows, if it does
-abbrev pub entry_items : Entry → List ItemView
-entry_items entry = (shown_in entry.reply).items
-
--- whether an entry is refused
-abbrev pub is_refused : Entry → Bool
-is_refused entry = is_refusal entry.reply
 
 -- an entry that no place says
 abbrev pub no_entry : Entry

@@ -1,10 +1,11 @@
 -- The entries that a journal's heads say.
-use Rattle.std.specs.Prelude.{ℕ, ◌+◌, ◌-◌, ◌≤◌, List, map, length}
+use Rattle.std.specs.Prelude.{◌≡◌, ℕ, ◌+◌, ◌-◌, ◌≤◌, List, map, length}
 use Rattle.std.specs.List.{AllByRecursion}
 use Rattle.auction_rows.specs.declared.rows.Entry.{Entry}
-use Rattle.worker_journals.specs.HeadLists.{AskedHead}
+use Rattle.worker_journals.specs.declared.heads.Head.{Head}
+use Rattle.worker_journals.specs.inner.HeadLists.{AskedHead}
 use Rattle.worker_journals.specs.Journals.{JournalView, seen, IsLawfulJournal}
-use Rattle.worker_journals.specs.Sides.{SideLists, reply_with, HasReplyWith}
+use Rattle.worker_journals.specs.inner.Sides.{SideLists, reply_from, HasReply, SaysReply}
 
 -- the entry that a head of a worker's journal of a phase says, with the journal's side lists
 abbrev pub entry_from : ℕ → ℕ → SideLists → AskedHead → Entry
@@ -14,12 +15,18 @@ entry_from phase worker sides asked = record {
   worker = worker;
   index = asked.head.index;
   request = asked.request;
-  reply = reply_with sides asked.head.reply;
+  reply = reply_from sides.lists asked.head.reply;
 }
 
 -- the place of a head's reply lies within the side lists
 abbrev pub HasHead : SideLists → AskedHead → Type 0
-HasHead sides asked = HasReplyWith sides asked.head.reply
+HasHead sides asked = HasReply sides.lists asked.head.reply
+
+-- a head says an entry of its journal, with the journal's side lists
+pub record SaysEntry (sides : SideLists) (head : Head) (entry : Entry) : Type 0 where
+  pub number : head.number ≡ entry.number
+  pub index : head.index ≡ entry.index
+  pub reply : SaysReply sides.lists head.reply entry.reply
 
 -- a journal by its heads and side lists
 abbrev pub shown : ℕ → ℕ → List AskedHead → SideLists → JournalView
