@@ -11,6 +11,9 @@ use std::marker::Model;
 // For how many requests more a full script asks for room, at least.
 const REQUESTS_MORE: usize = 128;
 
+// For how many requests ahead a script that others join asks for room, at most.
+const REQUESTS_AHEAD: usize = 65_536;
+
 /// A bid that a script asks for.
 #[derive(Clone, Copy)]
 pub struct BidRequest {
@@ -95,7 +98,7 @@ impl Script {
         ensures refused { OnErr result (self.new ≡ self.old) }
     {
         let before = self.facts.len();
-        self.requests.reserve(other.requests.len())?;
+        make_room_for(&mut self.requests, other.requests.len())?;
         self.facts.extend_from_slice(&other.facts)?;
         push_after(&mut self.requests, &other.requests, before);
         Ok(())
@@ -175,6 +178,20 @@ fn push_after(requests: &mut Vec<ShortRequest>, others: &[ShortRequest], before:
     for short in others {
         requests.push_reserved(short.after(before));
     }
+}
+
+// Room for so many requests more. A short list that is full gets four times its length: to enlarge
+// it moves its memory, and what nothing fills is never touched.
+fn make_room_for(requests: &mut Vec<ShortRequest>, more: usize) -> Result<(), AllocError>
+    ensures same { requests.new.items ≡ requests.old.items }
+    ensures room { OnOk result (HasListRoom more (vec_len requests.new)
+        (vec_capacity requests.new)) }
+{
+    if more <= requests.capacity() - requests.len() {
+        return Ok(());
+    }
+    let ahead = requests.len().saturating_mul(3).min(REQUESTS_AHEAD);
+    requests.reserve(more.max(ahead))
 }
 
 // Room for one request more.
