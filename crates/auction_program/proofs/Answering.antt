@@ -12,7 +12,8 @@ use Rattle.item_shards.specs.declared.openings.ResumeFault.TheVariants as resume
 use Rattle.run_laws.specs.Answers.{IsAnswer}
 use Rattle.byte_texts.specs.declared.writing.WriteFault.{WriteFault}
 use Rattle.program_opening.specs.Options.{commits_text, opening_asked, policy_of}
-use Rattle.auction_program.specs.Execution.{added_text, Answers, IsAllowed, IsCausedBy, IsNotPerformed, IsNotRun, IsRefused, OfInput, Performs}
+use Rattle.auction_program.specs.Execution.{added_text, Answers, IsAllowed, IsCausedBy, IsNotRun, IsRefused, OfInput}
+use Rattle.auction_program.specs.inner.Performing.{IsNotPerformed, Performs}
 use Rattle.auction_run.specs.Beginning.{HaveWorkers, HasShards, HasQuotas, AreShort}
 use Rattle.auction_run.specs.Phases.{HaveMetLastNumber, hot_sets}
 use Rattle.auction_run.specs.RunFault.{RunFault}

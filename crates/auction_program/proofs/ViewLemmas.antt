@@ -9,7 +9,8 @@ use Rattle.auction_rows.specs.declared.{values.Opening.Opening, requests.Request
 use Rattle.auction_rows.specs.Book.{Book}
 use Rattle.auction_rows.specs.Replies.{reply}
 use Rattle.phase_floor.specs.States.{JoinedState}
-use Rattle.auction_program.specs.Report.{views, IsEnd}
+use Rattle.auction_program.specs.Report.{views}
+use Rattle.auction_program.specs.inner.Views.{IsEnd}
 
 range_more : (a n : ℕ) → range_with_len a (suc n) ≡ range_with_len a n ++ (a + n) ∷ []
 range_more a zero = ap (λ k. k ∷ []) (omega arith)

@@ -7,7 +7,8 @@ use Rattle.auction_rows.specs.Book.{Book}
 use Rattle.auction_text.specs.Report.{report_text}
 use Rattle.auction_text.specs.declared.writing.report.ReportLines.{ReportLines}
 use Rattle.byte_texts.specs.Writing.{IsPartWritten}
-use Rattle.auction_program.specs.Report.{report_of, AreViews}
+use Rattle.auction_program.specs.Report.{report_of}
+use Rattle.auction_program.specs.inner.Views.{AreViews}
 
 module _ (old new : Option (List ℕ)) (text added : List ℕ) where
   pub nothing_added : added ≡ [] → Appends old new text → Appends old new (text ++ added)

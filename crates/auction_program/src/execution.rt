@@ -8,8 +8,9 @@ ghost use Rattle.item_shards.specs.OpeningBooks as opened;
 ghost use Rattle.byte_texts.specs.declared.writing.WriteFault.{WriteFault};
 ghost use Rattle.program_opening.specs.Options.{opening_asked};
 ghost use Rattle.program_opening.specs.declared.options.Options.{Options as Asked};
-ghost use Rattle.auction_program.specs.Execution.{Answers, ArePartWritten, AreWritten, IsCausedBy, IsOneWritten, IsUnwritten, IsNotPerformed, Performs, IsAnsweredBy};
-ghost use Rattle.auction_program.specs.Report.{AreViews, IsEnd};
+ghost use Rattle.auction_program.specs.Execution.{Answers, ArePartWritten, AreWritten, IsCausedBy, IsOneWritten, IsUnwritten, IsAnsweredBy};
+ghost use Rattle.auction_program.specs.inner.Performing.{IsNotPerformed, Performs};
+ghost use Rattle.auction_program.specs.inner.Views.{AreViews, IsEnd};
 
 use crate::texts::{report_lines, write_texts};
 use auction_rows::{Object, Opening};

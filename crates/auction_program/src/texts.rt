@@ -7,8 +7,10 @@ ghost use Rattle.auction_rows.specs.Replies.{reply};
 ghost use Rattle.auction_rows.specs.Requests.{is_view};
 ghost use Rattle.byte_texts.specs.Writing.{WritesText};
 ghost use Rattle.program_opening.specs.Options.{commits_text};
-ghost use Rattle.auction_program.specs.Execution.{AreWritten, ArePartWritten, HasLastViews, IsOneWritten, OfTexts};
-ghost use Rattle.auction_program.specs.Report.{category_views, user_views, view_of, views, IsEnd};
+ghost use Rattle.auction_program.specs.Execution.{AreWritten, ArePartWritten, IsOneWritten};
+ghost use Rattle.auction_program.specs.inner.Performing.{HasLastViews, OfTexts};
+ghost use Rattle.auction_program.specs.Report.{category_views, user_views, views};
+ghost use Rattle.auction_program.specs.inner.Views.{view_of, IsEnd};
 
 use crate::execution::Performed;
 use auction_rows::{Opening, Reply, Request, Row};

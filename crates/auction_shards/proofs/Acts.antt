@@ -20,8 +20,9 @@ use Rattle.item_shards.specs.Contents.{Contents, target, after_act, after_acts}
 use Rattle.item_shards.specs.Writing.{writes_of, first_act, second_act, is_cold_in, is_done_on}
 use Rattle.item_shards.proofs.StandingLemmas.{cold_here}
 use Rattle.shard_boxes.specs.States.{ShardState, state_of, state_at, no_shard}
-use Rattle.auction_shards.specs.Shards.{AreNumbered, AreOfOne, IsShardOf}
-use Rattle.auction_shards.specs.Writing.{CanWriteOn, HasRoomIn, HaveDone, with_acts}
+use Rattle.auction_shards.specs.Shards.{AreNumbered, AreOfOne}
+use Rattle.auction_shards.specs.inner.Acting.{IsShardOf, HasRoomIn}
+use Rattle.auction_shards.specs.Writing.{CanWriteOn, HaveDone, with_acts}
 use Rattle.auction_shards.proofs.Placed.{seen, lies_there}
 
 abbrev pub acted : Event → ShardState → ShardState

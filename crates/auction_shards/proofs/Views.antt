@@ -9,7 +9,8 @@ use Rattle.auction_rows.specs.Requests.{number_of, shard_of}
 use Rattle.item_shards.specs.declared.shard.Shard.{Shard}
 use Rattle.item_shards.specs.ShardContents.{LiesIn, opening, contents, ForEachBook, ShardStandsFor}
 use Rattle.shard_boxes.specs.States.{ShardState, state_of}
-use Rattle.auction_shards.specs.Shards.{AreOfOne, IsShardOf, ShardsStandFor, opening_in, value_on}
+use Rattle.auction_shards.specs.Shards.{AreOfOne, ShardsStandFor, opening_in, value_on}
+use Rattle.auction_shards.specs.inner.Acting.{IsShardOf}
 use Rattle.auction_shards.proofs.Placed.{seen, number_there, count_there, lies_there, opening_there, value_there}
 
 module _ (shards : List Shard) (one : AreOfOne (map state_of shards)) (object : Object) (shard : Shard) (is : IsShardOf shards object shard) where

@@ -1,3 +1,4 @@
+pub mod inner
 pub mod Shards
 pub mod Making
 pub mod Writing

@@ -1,11 +1,10 @@
 -- The shards of one auction: what they have in common, and what they show.
-use Rattle.std.specs.Prelude.{◌≡◌, ℕ, ◌<◌, ◌≤◌, List, length, slice_index_or, ⊤}
+use Rattle.std.specs.Prelude.{◌≡◌, ℕ, ◌<◌, ◌≤◌, List, length, ⊤}
 use Rattle.auction_rows.specs.declared.limits.TheConstants.{MOST_SHARDS}
 use Rattle.auction_rows.specs.declared.{values.Opening.Opening, requests.Object.Object}
 use Rattle.auction_rows.specs.declared.requests.Object.TheVariants.{Item, User, Category}
 use Rattle.auction_rows.specs.Book.{Book}
 use Rattle.auction_rows.specs.Requests.{shard_of}
-use Rattle.item_shards.specs.declared.shard.Shard.{Shard}
 use Rattle.item_shards.specs.Standing.{ContentsStandsFor}
 use Rattle.item_shards.specs.Values.{Value}
 use Rattle.shard_boxes.specs.States.{ShardState, state_at}
@@ -28,11 +27,6 @@ pub record AreOfOne (states : List ShardState) : Type 0 where
   pub numbered : AreNumbered states
   -- they have the same users and categories
   pub opening_is : (s : ℕ) → s < length states → (state_at states s).opening ≡ opening_in states
-
--- the shard of these in which an object lies
-abbrev pub IsShardOf : List Shard → Object → Shard → Type 0
-IsShardOf shards object shard =
-    shard ≡ slice_index_or shards (shard_of object (length shards)) shard
 
 -- the value of an object on the shard in which it lies
 abbrev pub value_on : List ShardState → Object → Value

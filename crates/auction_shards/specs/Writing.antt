@@ -1,18 +1,12 @@
 -- Rows that are written on the shards of one auction.
-use Rattle.std.specs.Prelude.{◌≡◌, ℕ, ◌<◌, true, List, [], length, Some}
+use Rattle.std.specs.Prelude.{◌≡◌, ℕ, ◌<◌, true, List, [], length}
 use Rattle.std.specs.List.{AllByRecursion}
-use Rattle.auction_rows.specs.declared.{requests.ItemId.ItemId, requests.Object.Object, rows.Row.Row}
-use Rattle.auction_rows.specs.declared.requests.Object.TheVariants as object
-use Rattle.item_shards.specs.declared.shard.acts.Act.{Act}
+use Rattle.auction_rows.specs.declared.rows.Row.{Row}
 use Rattle.item_shards.specs.Events.{Event}
-use Rattle.item_shards.specs.declared.shard.Shard.{Shard}
-use Rattle.item_shards.specs.Acting.{CanActOn, CanAct}
-use Rattle.item_shards.specs.Looking.{event_at}
-use Rattle.item_shards.specs.Contents.{target, after_acts}
-use Rattle.item_shards.specs.ShardContents.{contents, HasItemRoom}
+use Rattle.item_shards.specs.Acting.{CanActOn}
+use Rattle.item_shards.specs.Contents.{after_acts}
 use Rattle.item_shards.specs.Writing.{writes_of, is_done_on, done_on}
 use Rattle.shard_boxes.specs.States.{ShardState, state_at}
-use Rattle.auction_shards.specs.Shards.{IsShardOf}
 
 -- each act that writes a row can be done on the shard where its object lies, once there is room for
 -- the item that it adds
@@ -21,17 +15,6 @@ CanWriteOn states row = (s : ℕ) → s < length states →
     AllByRecursion (λ act. is_done_on s (length states) [] act ≡ true →
     CanActOn (state_at states s).opening s (length states) (λ id. true)
     (state_at states s).contents act) (writes_of row)
-
--- the act can be done on the shard in which its object lies, if it has one
-abbrev pub CanActIn : List Shard → Act → Type 0
-CanActIn shards act = (object : Object) (shard : Shard) →
-    target (event_at (contents shard) act) ≡ Some object → IsShardOf shards object shard →
-    CanAct shard act
-
--- there is room for the item in the shard in which it lies
-abbrev pub HasRoomIn : List Shard → ItemId → Type 0
-HasRoomIn shards id = (shard : Shard) → IsShardOf shards (object.Item id) shard →
-    HasItemRoom shard id
 
 -- a shard after those of the acts that are about its objects
 abbrev pub with_acts : ℕ → List Event → ShardState → ShardState

@@ -8,7 +8,8 @@ ghost use Rattle.item_shards.specs.Looking.{IsEvent};
 ghost use Rattle.item_shards.specs.Writing.{writes_of};
 ghost use Rattle.shard_boxes.specs.States.{state_of};
 ghost use Rattle.auction_shards.specs.Shards.{AreOfOne};
-ghost use Rattle.auction_shards.specs.Writing.{CanActIn, CanWriteOn, HasRoomIn, HaveDone};
+ghost use Rattle.auction_shards.specs.Writing.{CanWriteOn, HaveDone};
+ghost use Rattle.auction_shards.specs.inner.Acting.{CanActIn, HasRoomIn};
 
 use crate::shards::Shards;
 use auction_rows::{Object, Row, shard_of};

@@ -6,7 +6,8 @@ use Rattle.auction_rows.specs.declared.{values.Opening.Opening, rows.Row.Row}
 use Rattle.auction_rows.specs.Book.{Book}
 use Rattle.item_shards.specs.declared.serial.SerialAuction.{SerialAuction}
 use Rattle.item_shards.specs.Serial.{CanFollow, CanAdd, HoldsBook, serial_opening}
-use Rattle.auction_window.specs.Published.{book_of, HasPhases, IsLastPhase}
+use Rattle.auction_window.specs.Published.{book_of}
+use Rattle.auction_window.specs.inner.Copies.{HasPhases, IsLastPhase}
 use Rattle.auction_window.proofs.Prefixes.{prefix_shorter, prefix_whole}
 
 -- the book with one phase more is the book with its rows at the end

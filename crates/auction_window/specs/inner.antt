@@ -1,2 +1,3 @@
 -- What no contract of a public function names.
 pub mod PhaseRule
+pub mod Copies

@@ -4,7 +4,8 @@ ghost use Rattle.std.specs.Prelude.{◌≡◌, ◌++◌, ◌∷◌, [], List, If
 ghost use mathlib.Core.List.{IsPrefix};
 ghost use Rattle.auction_rows.specs.Replies.{reply};
 ghost use Rattle.item_shards.specs.OpeningBooks.{opening_of, rows_of_book};
-ghost use Rattle.auction_window.specs.Published.{book_of, IsLastPhase};
+ghost use Rattle.auction_window.specs.Published.{book_of};
+ghost use Rattle.auction_window.specs.inner.Copies.{IsLastPhase};
 
 use crate::phases::{Prefix, WindowName};
 use auction_rows::{Reply, Request, Row};
@@ -24,7 +25,7 @@ pub struct AddPhase<J: WindowName> {
 impl<J: WindowName> Model for AddPhase<J> {
     ghost use Rattle.std.specs.Prelude.{List};
     ghost use Rattle.auction_rows.specs.declared.rows.Row.{Row};
-    ghost use Rattle.auction_window.specs.Published.{IsLastPhase};
+    ghost use Rattle.auction_window.specs.inner.Copies.{IsLastPhase};
 
     ghost Value = { List (List Row) };
 
@@ -54,7 +55,7 @@ pub struct AuctionCopy<J: WindowName> {
 impl<J: WindowName> Model for AuctionCopy<J> {
     ghost use Rattle.std.specs.Prelude.{List};
     ghost use Rattle.auction_rows.specs.declared.rows.Row.{Row};
-    ghost use Rattle.auction_window.specs.Published.{HasPhases};
+    ghost use Rattle.auction_window.specs.inner.Copies.{HasPhases};
 
     ghost Value = { List (List Row) };
 

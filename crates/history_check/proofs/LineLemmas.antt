@@ -8,7 +8,8 @@ use Rattle.auction_rows.specs.declared.rows.Entry.{Entry}
 use Rattle.auction_text.specs.Replies.{history_line, reply_text}
 use Rattle.history_check.specs.declared.lines.CommitId.{CommitId}
 use Rattle.history_check.specs.CommitIds.{line_at, Fits, commit_id_of}
-use Rattle.history_check.specs.Texts.{with_byte, lines_of, history_lines, ReadsLine}
+use Rattle.history_check.specs.Texts.{with_byte, lines_of, history_lines}
+use Rattle.history_check.specs.inner.Reading.{ReadsLine}
 use Rattle.history_check.proofs.NumberLemmas.{numbers_apart, take_front}
 
 -- ---- the first line of a text

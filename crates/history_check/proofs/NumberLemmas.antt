@@ -11,7 +11,7 @@ use Rattle.std.proofs.lemmas.Fmt.{digits_decimal, digits_value-decimal, decimal-
 use Rattle.std.proofs.lemmas.Str.Parse.{IsNumeralModel, numerals_by_value}
 use Rattle.std.proofs.lemmas.Option.{same_Some}
 use Rattle.auction_text.specs.Fields.{is_numeral, is_empty, number}
-use Rattle.history_check.specs.CommitIds.{is_space}
+use Rattle.history_check.specs.inner.Reading.{is_space}
 
 abbrev AreDigits : List ℕ → Type 0
 AreDigits ds = list_all is_ascii_digit ds ≡ true

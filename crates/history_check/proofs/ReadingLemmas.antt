@@ -14,7 +14,8 @@ use Rattle.history_check.specs.declared.lines.Wrong.{Wrong}
 use Rattle.history_check.specs.declared.lines.CommitId.{CommitId}
 use Rattle.history_check.specs.declared.replay.Replay.{Replay}
 use Rattle.history_check.specs.CommitIds.{IsLineOf, line_at, commit_id_of}
-use Rattle.history_check.specs.Texts.{history_lines, lines_of, ReadsLine}
+use Rattle.history_check.specs.Texts.{history_lines, lines_of}
+use Rattle.history_check.specs.inner.Reading.{ReadsLine}
 use Rattle.history_check.specs.Checking.{IsAccepted, IsWrong, IsVerdict}
 use Rattle.history_check.specs.Taking.{HasTaken, AreMarked, IsUnmarked}
 use Rattle.history_check.proofs.ScriptLemmas.{worker_within}

@@ -8,7 +8,8 @@ use Rattle.auction_rows.specs.declared.requests.Request.{Request}
 use Rattle.run_laws.specs.Serving.{script_of}
 use Rattle.run_laws.proofs.ScriptLemmas.{past_end}
 use Rattle.history_check.specs.Scripts.{request_at}
-use Rattle.history_check.specs.Marks.{is_marked, AreWide, HasPlaces}
+use Rattle.history_check.specs.Marks.{is_marked, HasPlaces}
+use Rattle.history_check.specs.inner.MarkRows.{AreWide}
 
 -- a request that there is, is of a worker and at an index that there is
 pub index_within : (scripts : List (List Request)) (worker index : ℕ) (request : Request) → request_at scripts worker index ≡ Some request → index < length (script_of scripts worker)

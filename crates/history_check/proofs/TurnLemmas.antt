@@ -8,7 +8,8 @@ use Rattle.phase_laws.specs.Order.{IsOrderedBy}
 use Rattle.phase_laws.proofs.ListLemmas.{greatest_bounds, greatest_least}
 use Rattle.auction_rows.specs.declared.rows.Entry.{Entry}
 use Rattle.history_check.specs.declared.lines.Order.{Order}
-use Rattle.history_check.specs.Orders.{is_bound, is_late, MayPrecede, turn, turn_after}
+use Rattle.history_check.specs.Orders.{is_bound, MayPrecede, turn, turn_after}
+use Rattle.history_check.specs.inner.Replaying.{is_late}
 
 max_zero : (a : ℕ) → max a 0 ≡ a
 max_zero a = omega arith

@@ -1,10 +1,7 @@
 -- What a line of a history begins with.
-use Rattle.std.specs.Prelude.{ℕ, ◌==◌, ◌<◌, ◌^◌, ◌≡◌, Bool, List, [], ◌∷◌, ◌++◌, decimal}
+use Rattle.std.specs.Prelude.{ℕ, ◌<◌, ◌^◌, ◌≡◌, List, [], ◌∷◌, ◌++◌, decimal}
 use Rattle.auction_rows.specs.declared.{requests.Request.Request, replies.Reply.Reply, rows.Entry.Entry}
 use Rattle.history_check.specs.declared.lines.CommitId.{CommitId}
-
-abbrev pub is_space : ℕ → Bool
-is_space byte = byte == 32
 
 -- the text of a commit's id, a space and what follows
 abbrev pub with_commit_id : CommitId → List ℕ → List ℕ

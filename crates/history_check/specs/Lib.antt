@@ -1,3 +1,4 @@
+pub mod inner
 pub mod Scripts
 pub mod Marks
 pub mod CommitIds

@@ -1,5 +1,5 @@
 -- The order in which a worker's entries are to stand.
-use Rattle.std.specs.Prelude.{ℕ, suc, ◌<◌, ◌≡◌, ◌==◌, ◌&&◌, Bool, true, false, nat_lt, List, if◌then◌else◌}
+use Rattle.std.specs.Prelude.{ℕ, suc, ◌<◌, ◌≡◌, ◌==◌, Bool, true, false, List, if◌then◌else◌}
 use Rattle.phase_laws.specs.Numbers.{greatest_by}
 use Rattle.auction_rows.specs.Requests.{is_splittable}
 use Rattle.auction_rows.specs.declared.{requests.Request.Request, rows.Entry.Entry}
@@ -24,7 +24,3 @@ turn worker e = if e.worker == worker then suc e.index else 0
 -- one past the greatest index of a worker's entries, and 0 if it has none
 abbrev pub turn_after : ℕ → List Entry → ℕ
 turn_after worker history = greatest_by (turn worker) history
-
--- whether a request is bound, and its worker's turn has passed
-abbrev pub is_late : Order → Request → ℕ → ℕ → Bool
-is_late order request index turn = is_bound order request && nat_lt index turn

@@ -1,14 +1,12 @@
 -- A replay that has performed the entries of a history so far.
-use Rattle.std.specs.Prelude.{ℕ, ◌+◌, ◌≡◌, ◌<◌, ◌≤◌, Bool, if◌then◌else◌, true, false, List, Some, length, count_by, get_or}
+use Rattle.std.specs.Prelude.{ℕ, ◌+◌, ◌≡◌, ◌<◌, ◌≤◌, Bool, if◌then◌else◌, true, false, List, length, count_by, get_or}
 use Rattle.auction_rows.specs.declared.limits.TheConstants.{MOST_WORKERS}
-use Rattle.auction_rows.specs.declared.{values.Opening.Opening, requests.Request.Request, replies.Reply.Reply, rows.Entry.Entry}
+use Rattle.auction_rows.specs.declared.{values.Opening.Opening, requests.Request.Request, rows.Entry.Entry}
 use Rattle.auction_rows.specs.Book.{Book}
 use Rattle.auction_rows.specs.History.{book_after}
-use Rattle.auction_text.specs.Replies.{reply_text}
 use Rattle.item_shards.specs.Serial.{HoldsBook, serial_opening}
 use Rattle.run_laws.specs.Serving.{script_of}
 use Rattle.history_check.specs.declared.lines.Order.{Order}
-use Rattle.history_check.specs.declared.lines.Wrong.TheVariants.{Due}
 use Rattle.history_check.specs.declared.replay.Replay.{Replay}
 use Rattle.history_check.specs.Scripts.{is_of}
 use Rattle.history_check.specs.Marks.{is_marked, HasPlaces}
@@ -45,11 +43,6 @@ abbrev pub ForEachTaken : List (List Request) → Replay →
 ForEachTaken scripts replay IsSo =
     (opening : Opening) (start : Book) (order : Order) (history : List Entry) →
     HasTaken opening start scripts order history replay → IsSo opening start order history
-
--- a text is that of the reply that was due; or it is not, and the replay keeps which one was due
-abbrev pub HasCompared : Bool → Reply → List ℕ → Replay → Type 0
-HasCompared true due text replay = text ≡ reply_text due
-HasCompared false due text replay = (replay.wrong ≡ Some (Due due)) × ¬ (text ≡ reply_text due)
 
 -- each request of each script has a mark
 abbrev pub AreMarked : List (List Request) → List (List Bool) → Type 0

@@ -1,5 +1,5 @@
 -- The lines of a text.
-use Rattle.std.specs.Prelude.{ℕ, ◌==◌, ◌≡◌, Bool, true, false, List, [], ◌∷◌, Option, None, Some, ⊤, map, if◌then◌else◌}
+use Rattle.std.specs.Prelude.{ℕ, ◌==◌, List, [], ◌∷◌, ⊤, map, if◌then◌else◌}
 use Rattle.auction_rows.specs.declared.{replies.Reply.Reply, rows.Entry.Entry}
 use Rattle.auction_rows.specs.declared.replies.Reply.TheVariants.{ItemStored, BidStored, CommentStored, Bought, ItemSeen, BidsSeen, CategorySeen, UserSeen, Refused}
 use Rattle.auction_rows.specs.Name.{IsName}
@@ -19,13 +19,6 @@ lines_of (byte ∷ rest) =
 -- the lines of a history
 abbrev pub history_lines : List Entry → List (List ℕ)
 history_lines history = map history_line history
-
--- a line is the next one of what is left to read, if this is known; or there is none
-abbrev pub ReadsLine : Option (List ℕ) → Option (List ℕ) → Bool → List ℕ → Type 0
-ReadsLine None new found line = ⊤
-ReadsLine (Some text) new true line = (rest : List ℕ) × (new ≡ Some rest)
-    × (lines_of text ≡ line ∷ lines_of rest)
-ReadsLine (Some text) new false line = lines_of text ≡ []
 
 -- the name that a reply shows is a name
 abbrev pub ShowsName : Reply → Type 0

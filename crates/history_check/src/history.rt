@@ -9,7 +9,8 @@ ghost use Rattle.item_shards.specs.OpeningBooks.{opening_of, rows_of_book};
 ghost use Rattle.auction_text.specs.Replies.{history_line, history_text, reply_text};
 ghost use Rattle.history_check.specs.declared.lines.CheckFault.TheVariants.{TooLong};
 ghost use Rattle.history_check.specs.declared.lines.Verdict.TheVariants.{Replays};
-ghost use Rattle.history_check.specs.Texts.{lines_of, ReadsLine, ShowsName, history_lines};
+ghost use Rattle.history_check.specs.Texts.{lines_of, ShowsName, history_lines};
+ghost use Rattle.history_check.specs.inner.Reading.{ReadsLine};
 ghost use Rattle.history_check.specs.Checking.{IsAccepted, IsVerdict};
 ghost use Rattle.history_check.specs.CommitIds.{line_at, commit_id_of};
 

@@ -3,7 +3,8 @@
 ghost use Rattle.std.specs.Prelude.{◌≡◌, ◌++◌, ◌∷◌, [], ◌<◌, ◌^◌, ℕ, List, decimal, length, IfSome, IfNone, IsSomeAnd};
 ghost use Rattle.std.specs.List.{position};
 ghost use Rattle.history_check.specs.declared.lines.CommitId.{CommitId as CommitIdValue};
-ghost use Rattle.history_check.specs.CommitIds.{is_space, with_commit_id, Fits, IsLineOf};
+ghost use Rattle.history_check.specs.CommitIds.{with_commit_id, Fits, IsLineOf};
+ghost use Rattle.history_check.specs.inner.Reading.{is_space};
 
 use auction_rows::Reply;
 use auction_text::read_u64;

@@ -11,8 +11,10 @@ ghost use Rattle.item_shards.specs.OpeningBooks.{opening_of, rows_of_book};
 ghost use Rattle.item_shards.specs.Serial.{CanGrow, HoldsBook, IsNotFull, serial_opening};
 ghost use Rattle.auction_text.specs.Replies.{reply_text, history_line};
 ghost use Rattle.history_check.specs.Scripts.{request_at};
-ghost use Rattle.history_check.specs.Marks.{is_marked, HasPlaces, AreWide};
-ghost use Rattle.history_check.specs.Orders.{is_bound, is_late};
+ghost use Rattle.history_check.specs.Marks.{is_marked, HasPlaces};
+ghost use Rattle.history_check.specs.inner.MarkRows.{AreWide};
+ghost use Rattle.history_check.specs.Orders.{is_bound};
+ghost use Rattle.history_check.specs.inner.Replaying.{is_late};
 ghost use Rattle.history_check.specs.declared.lines.CheckFault.TheVariants.{TooLong};
 ghost use Rattle.history_check.specs.CommitIds.{Fits, IsLineOf, commit_id_of};
 ghost use Rattle.history_check.specs.Checking.{IsWrong};
@@ -187,7 +189,8 @@ fn reply_of(reply: StoreReply) -> Reply
 }
 
 impl Replay {
-    ghost use Rattle.history_check.specs.Taking.{HasTaken, CanTake, ForEachTaken, HasCompared, AreMarked, IsUnmarked};
+    ghost use Rattle.history_check.specs.Taking.{HasTaken, CanTake, ForEachTaken, AreMarked, IsUnmarked};
+    ghost use Rattle.history_check.specs.inner.Replaying.{HasCompared};
 
     /// The auction of an opening book, before the first line.
     pub fn new(

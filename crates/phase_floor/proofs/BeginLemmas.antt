@@ -19,7 +19,8 @@ use Rattle.worker_slices.proofs.Places.{stocks_of_rows}
 use Rattle.closing_laws.specs.Standing.{counters_at}
 use Rattle.phase_floor.specs.declared.floor.BeginFault.TheVariants.{UnknownHot, TooLong, Memory}
 use Rattle.phase_floor.specs.declared.start.Kit.{Kit}
-use Rattle.phase_floor.specs.Begins.{IsTooLong, asked_in_all, empty_stash, IsKit, AreKits, HaveStashRoom, HasRefusedJoined, HasRefusedSplit}
+use Rattle.phase_floor.specs.Begins.{IsTooLong, asked_in_all, empty_stash, HasRefusedJoined, HasRefusedSplit}
+use Rattle.phase_floor.specs.inner.Kits.{IsKit, AreKits, HaveStashRoom}
 use Rattle.phase_floor.specs.Floors.{FloorState, IsOpen, IsNewPermit, no_stash, stash_at}
 use Rattle.phase_floor.specs.States.{JoinedState, DoAllExist, states_of}
 use Rattle.phase_floor.proofs.HotItems.{objects_of_slices, hot_is_stored}

@@ -12,7 +12,8 @@ use Rattle.shard_boxes.specs.Closed.{AreClosed, AreSpent, IsSpent}
 use Rattle.shard_boxes.specs.States.{ShardState}
 use Rattle.phase_transactions.specs.Workers.{WorkerState}
 use Rattle.closing_laws.specs.Phases.{receipt_at, no_receipt, key_of, journal_of, HasClosed}
-use Rattle.phase_floor.specs.Closings.{AreReceiptsOf, IsFinished, phase_of}
+use Rattle.phase_floor.specs.Closings.{AreReceiptsOf, phase_of}
+use Rattle.phase_floor.specs.inner.Parts.{IsFinished}
 use Rattle.phase_floor.specs.Floors.{FloorState, IsOpen}
 use Rattle.phase_floor.proofs.Every.{at_place}
 

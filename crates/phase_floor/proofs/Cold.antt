@@ -13,7 +13,8 @@ use Rattle.auction_shards.specs.Merging.{after_merge}
 use Rattle.auction_shards.specs.Shards.{at_start}
 use Rattle.closing_laws.specs.Merging.{slices_left}
 use Rattle.closing_laws.specs.Phases.{no_receipt}
-use Rattle.phase_floor.specs.Closings.{AreReceiptsOf, HasSettled, HasReconciled, from_the_last, sliced_of, slices_kept}
+use Rattle.phase_floor.specs.Closings.{AreReceiptsOf, HasSettled, HasReconciled}
+use Rattle.phase_floor.specs.inner.Parts.{from_the_last, sliced_of, slices_kept}
 use Rattle.phase_floor.specs.Floors.{FloorState}
 use Rattle.phase_laws.proofs.ListLemmas.{every_from}
 

@@ -22,7 +22,7 @@ use Rattle.closing_laws.specs.Standing.{StandFor, AreOfWorkers, counters_at}
 use Rattle.closing_laws.proofs.CommitLemmas.{book_left, stores_few, workers_go_on}
 use Rattle.phase_floor.specs.Closings.{AreReceiptsOf, phase_of}
 use Rattle.phase_floor.specs.Floors.{FloorState, IsOpen}
-use Rattle.phase_floor.specs.Resuming.{AreReady}
+use Rattle.phase_floor.specs.inner.Rows.{AreReady}
 use Rattle.phase_floor.specs.States.{IsKept, IsWithinMost, AreWithinMost, AreOfABook}
 use Rattle.phase_floor.proofs.BookSize.{size_at_most}
 

@@ -23,7 +23,8 @@ use Rattle.closing_laws.specs.Phases.{HasClosed, counters_of, journal_of, receip
 use Rattle.closing_laws.specs.Standing.{StandFor, counters_at}
 use Rattle.closing_laws.proofs.CommitLemmas.{commits_grow}
 use Rattle.closing_laws.proofs.ReplayLemmas.{entries_replay}
-use Rattle.phase_floor.specs.Closings.{AreReceiptsOf, AreKnown, ArePartsOf, HasReconciled, IsFinished, Leaves, from_the_last, phase_of, sliced_of, stash_of}
+use Rattle.phase_floor.specs.Closings.{AreReceiptsOf, HasReconciled, Leaves, phase_of, stash_of}
+use Rattle.phase_floor.specs.inner.Parts.{AreKnown, ArePartsOf, IsFinished, from_the_last, sliced_of}
 use Rattle.phase_floor.specs.Floors.{FloorState, IsOpen}
 use Rattle.phase_floor.specs.States.{IsKept, joined_of}
 use Rattle.phase_floor.proofs.Closings.{finished, has_closed, in_order}

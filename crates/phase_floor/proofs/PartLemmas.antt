@@ -9,7 +9,8 @@ use Rattle.worker_slices.specs.declared.slices.Hot.{Hot}
 use Rattle.worker_slices.specs.Stashes.{StashState}
 use Rattle.phase_transactions.specs.Workers.{WorkerState}
 use Rattle.closing_laws.specs.Phases.{key_of, journal_of, counters_of}
-use Rattle.phase_floor.specs.Closings.{ArePartsOf, stash_of, sliced_of, slices_kept}
+use Rattle.phase_floor.specs.Closings.{stash_of}
+use Rattle.phase_floor.specs.inner.Parts.{ArePartsOf, sliced_of, slices_kept}
 
 -- what was there, with one more at the end
 more : {B : Type 0} (f : WorkerState → B) (receipts : List WorkerState) (receipt : WorkerState) (old new : List B) → new ≡ old ++ f receipt ∷ [] → old ≡ map f receipts → new ≡ map f (receipts ++ receipt ∷ [])

@@ -24,9 +24,10 @@ use Rattle.closing_laws.proofs.MergeLemmas.{as_many as as_many_merged}
 use Rattle.closing_laws.proofs.ReconcileLemmas.{reconciled_stand}
 use Rattle.closing_laws.proofs.RoomLemmas.{merges_can_be_done}
 use Rattle.shard_boxes.specs.declared.limits.TheConstants.{MOST_COMMITS}
-use Rattle.phase_floor.specs.Closings.{AreReceiptsOf, AreKnown, phase_of, sliced_of, from_the_last}
+use Rattle.phase_floor.specs.Closings.{AreReceiptsOf, phase_of}
+use Rattle.phase_floor.specs.inner.Parts.{AreKnown, sliced_of, from_the_last}
 use Rattle.phase_floor.specs.Floors.{FloorState, IsOpen}
-use Rattle.phase_floor.specs.Resuming.{AreReady}
+use Rattle.phase_floor.specs.inner.Rows.{AreReady}
 use Rattle.phase_floor.specs.States.{DoesExist, DoAllExist}
 use Rattle.phase_floor.proofs.Started.{same_length, started, start_stands}
 use Rattle.phase_floor.proofs.Turns.{one_after, opening_after}

@@ -15,7 +15,7 @@ use Rattle.shard_boxes.specs.States.{ShardState, state_at}
 use Rattle.auction_shards.specs.Shards.{ShardsStandFor}
 use Rattle.auction_shards.specs.Writing.{CanWriteOn, HaveDone}
 use Rattle.auction_shards.proofs.Acts.{numbered_next}
-use Rattle.phase_floor.specs.Resuming.{AreReady}
+use Rattle.phase_floor.specs.inner.Rows.{AreReady}
 
 module _ (opening : Opening) (old new : List ShardState) (r : Row) (ready : AreReady opening old) where
   -- after the acts of a row the shards are ready, and stand for the book with the row

@@ -25,8 +25,9 @@ use Rattle.worker_slices.specs.declared.counters.Counters.{Counters}
 use Rattle.phase_permits.specs.Replying.{CountsOf}
 use Rattle.phase_transactions.specs.Workers.{no_counters}
 use Rattle.closing_laws.specs.Standing.{StandFor, AreCountersOf, AreOfWorkers, counters_at, stores}
-use Rattle.phase_floor.specs.Adding.{CanTake, KeepsBooks, with_counted}
-use Rattle.phase_floor.specs.Resuming.{AreReady, HaveRoom, with_row}
+use Rattle.phase_floor.specs.Adding.{KeepsBooks, with_counted}
+use Rattle.phase_floor.specs.inner.Rows.{CanTake, AreReady, HaveRoom}
+use Rattle.phase_floor.specs.Resuming.{with_row}
 use Rattle.phase_floor.specs.States.{JoinedState, AreOfABook, AreWithinMost, IsBookOf, IsKept, IsWithinMost, joined_of, states_of}
 use Rattle.phase_floor.proofs.BookSize.{size_at_most}
 use Rattle.phase_floor.proofs.Kept.{are_opened}

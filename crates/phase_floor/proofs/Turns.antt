@@ -12,7 +12,7 @@ use Rattle.worker_slices.specs.Slicing.{slices_in}
 use Rattle.auction_shards.specs.Merging.{after_merge, CanMerge}
 use Rattle.auction_shards.specs.Shards.{AreOfOne, IsKnown, opening_in}
 use Rattle.auction_shards.proofs.Merges.{still_of_one, one_opening}
-use Rattle.phase_floor.specs.Closings.{AreKnown, from_the_last}
+use Rattle.phase_floor.specs.inner.Parts.{AreKnown, from_the_last}
 
 saw_split : {D S : Type 0} (P : S → D → Type 0) (step : S → D → S) (xs ys : List D) (s : S) → SawInTurn P step s (xs ++ ys) → SawInTurn P step s xs × SawInTurn P step (fold step s xs) ys
 saw_split P step [] ys s h = (tt, h)

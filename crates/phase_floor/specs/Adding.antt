@@ -1,8 +1,7 @@
 -- Rows that are added to a state.
-use Rattle.std.specs.Prelude.{◌≡◌, ◌<◌, ◌≤◌, ℕ, List, [], ◌∷◌, length, slice_set}
+use Rattle.std.specs.Prelude.{◌≡◌, ◌<◌, ◌≤◌, ℕ, List, length, slice_set}
 use Rattle.auction_rows.specs.declared.{requests.Opened.Opened, rows.Row.Row}
 use Rattle.auction_rows.specs.Book.{Book, worker_of}
-use Rattle.auction_rows.specs.History.{GoOn}
 use Rattle.worker_slices.specs.declared.counters.Counters.{Counters}
 use Rattle.closing_laws.specs.Standing.{counters_at}
 use Rattle.phase_floor.specs.Resuming.{counters_in, with_row}
@@ -27,18 +26,6 @@ IsOwn state opened = opened.worker < length state.counters
 abbrev pub IsFull : JoinedState → Opened → Type 0
 IsFull state opened = IsOwn state opened
     × (state.limit ≤ (counters_at state.counters opened.worker).commits)
-
--- A row goes on a book of a state, and is of one of its workers, which may commit more.
-pub record CanTake (state : JoinedState) (row : Row) : Type 0 where
-  -- the state is of this book
-  pub book : Book
-  pub is_of : IsBookOf state book
-  -- the row goes on the book
-  pub goes_on : GoOn state.opening book (row ∷ [])
-  -- it is of one of the state's workers
-  pub own : worker_of row < length state.counters
-  -- which may commit more
-  pub room : (counters_at state.counters (worker_of row)).commits < state.limit
 
 -- counters with one more row, which is counted among its worker's
 abbrev pub with_counted : Row → List Counters → List Counters

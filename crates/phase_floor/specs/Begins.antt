@@ -1,18 +1,16 @@
 -- When a phase begins, and when it does not.
-use Rattle.std.specs.Prelude.{◌≡◌, ◌+◌, ◌<◌, ◌^◌, ◌↔◌, ℕ, List, [], length, map, slice_index, slice_index_or}
+use Rattle.std.specs.Prelude.{◌≡◌, ◌+◌, ◌<◌, ◌^◌, ◌↔◌, ℕ, List, [], length, map, slice_index}
 use Rattle.std.specs.Global.{Vec}
 use Rattle.auction_rows.specs.declared.requests.Object.{Object}
 use Rattle.shard_boxes.specs.States.{ShardState}
-use Rattle.worker_journals.specs.Journals.{empty_journal}
 use Rattle.worker_slices.specs.declared.counters.Counters.{Counters}
-use Rattle.worker_slices.specs.Slicing.{hot_objects, slices_of}
-use Rattle.phase_transactions.specs.Workers.{HasStashRoom, WorkerState}
+use Rattle.worker_slices.specs.Slicing.{hot_objects}
+use Rattle.phase_transactions.specs.Workers.{WorkerState}
 use Rattle.worker_slices.specs.Stashes.{StashState}
 use Rattle.closing_laws.specs.Standing.{counters_at}
 use Rattle.phase_floor.specs.declared.floor.BeginFault.{BeginFault}
 use Rattle.phase_floor.specs.declared.floor.BeginFault.TheVariants.{UnknownHot, TooLong}
-use Rattle.phase_floor.specs.declared.start.Kit.{Kit}
-use Rattle.phase_floor.specs.Floors.{FloorState, Stocks, AreBegun, AreStocksOf, stash_at}
+use Rattle.phase_floor.specs.Floors.{FloorState, AreBegun, stash_at}
 use Rattle.phase_floor.specs.States.{JoinedState, DoAllExist, states_of}
 
 -- what a worker has committed, what waits, and its quota
@@ -29,11 +27,6 @@ IsTooLong limit counters stashes quotas =
 abbrev pub empty_stash : ℕ → StashState
 empty_stash quota = record { requests = []; done = []; room = quota }
 
--- each worker's stash has room for its quota, where something is hot
-abbrev pub HaveStashRoom : Stocks → List StashState → List ℕ → Type 0
-HaveStashRoom stocks stashes quotas = (w : ℕ) → w < length quotas →
-    HasStashRoom (slices_of stocks []) (slice_index quotas w) (stash_at stashes w).room
-
 -- ---- what is asked for
 
 -- A phase of these shards and so many workers can begin with this state and these quotas.
@@ -47,16 +40,6 @@ pub record CanBegin (initial : List ShardState) (count : ℕ) (state : JoinedSta
   pub quotas : length given ≡ count
   -- the phase's number is below 2^64 - 1
   pub phase : state.phase + 1 < 2 ^ 64
-
--- The workers of this state can be given these hot objects, stashes and quotas.
-pub record CanBeGiven (state : JoinedState) (hot : Stocks) (waiting : List StashState)
-    (given : List ℕ) : Type 0 where
-  -- what is fixed of the hot objects is what the shards show
-  pub stocks : AreStocksOf state.opening (states_of state) hot
-  -- no worker has more commits than the limit then
-  pub fits : ¬ IsTooLong state.limit state.counters waiting given
-  -- each stash has room for what is put off
-  pub rooms : HaveStashRoom hot waiting given
 
 -- ---- what is open then
 
@@ -120,17 +103,3 @@ pub record HasRefusedSplit (old : JoinedState) (given : List ℕ) (objects : Lis
   -- TooLong is told exactly where all exist and some worker would have more than the limit
   pub too_long : (fault ≡ TooLong)
       ↔ (DoAllExist old.opening (states_of old) objects × IsTooLong old.limit old.counters [] given)
-
--- ---- what a worker gets
-
--- what a worker gets in a phase: an empty journal with room for what waits and for its quota, and
--- a slice of each hot object to which nothing is applied
-pub record IsKit (phase : ℕ) (stocks : Stocks) (worker room : ℕ) (kit : Kit) : Type 0 where
-  pub journal : kit.journal ≡ empty_journal phase worker room
-  pub slices : kit.slices ≡ slices_of stocks []
-
--- the first so many workers' kits, in order
-abbrev pub AreKits : ℕ → Stocks → List StashState → List ℕ → ℕ → List Kit → Type 0
-AreKits phase stocks stashes quotas count kits = (w : ℕ) (d : Kit) → w < count →
-    IsKit phase stocks w (length (stash_at stashes w).requests + slice_index quotas w)
-    (slice_index_or kits w d)

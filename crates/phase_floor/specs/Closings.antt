@@ -1,24 +1,20 @@
 -- How a phase closes.
-use Rattle.std.specs.Prelude.{◌≡◌, ℕ, ◌+◌, ◌<◌, ◌≤◌, Bool, true, false, List, [], map, fold, length, reverse}
+use Rattle.std.specs.Prelude.{◌≡◌, ℕ, ◌+◌, ◌<◌, ◌≤◌, List, [], map, fold, length}
 use Rattle.std.specs.List.{AllByRecursion}
 use Rattle.std.specs.List.Sorted.{IsPermutation}
 use Rattle.auction_rows.specs.declared.{requests.Object.Object, requests.Request.Request, rows.Entry.Entry}
 use Rattle.auction_rows.specs.Book.{Book}
 use Rattle.auction_rows.specs.History.{ReplaysFrom, book_after}
 use Rattle.item_shards.specs.declared.shard.slices.Slice.{Slice}
-use Rattle.shard_boxes.specs.declared.limits.TheConstants.{MOST_COMMITS}
-use Rattle.shard_boxes.specs.Keys.{KeyState}
 use Rattle.shard_boxes.specs.States.{ShardState}
-use Rattle.worker_journals.specs.Journals.{JournalView, IsJournalOf}
-use Rattle.worker_slices.specs.declared.counters.Counters.{Counters}
-use Rattle.worker_slices.specs.declared.slices.Hot.{Hot}
-use Rattle.worker_slices.specs.Slicing.{stocks_of, slices_in, HaveAtMost}
+use Rattle.worker_journals.specs.Journals.{IsJournalOf}
+use Rattle.worker_slices.specs.Slicing.{stocks_of}
 use Rattle.worker_slices.specs.Stashes.{StashState}
-use Rattle.phase_transactions.specs.Workers.{WorkerState, IsExplained}
-use Rattle.closing_laws.specs.Phases.{Phase, HasClosed, receipt_at, key_of, journal_of, counters_of}
+use Rattle.phase_transactions.specs.Workers.{WorkerState}
+use Rattle.closing_laws.specs.Phases.{Phase, HasClosed, receipt_at, journal_of, counters_of}
 use Rattle.closing_laws.specs.Lawful.{ClosesLawfully}
 use Rattle.auction_shards.specs.Merging.{after_merge}
-use Rattle.auction_shards.specs.Shards.{IsKnown, at_start, opening_in}
+use Rattle.auction_shards.specs.Shards.{at_start}
 use Rattle.closing_laws.specs.Merging.{slices_left}
 use Rattle.closing_laws.specs.Standing.{StandFor, counters_at}
 use Rattle.phase_floor.specs.Floors.{FloorState}
@@ -46,22 +42,8 @@ AreReceiptsOf floor receipts =
     (length receipts ≡ length floor.counters)
     × ((w : ℕ) → w < length floor.counters → IsReceipt floor w (receipt_at receipts w))
 
--- The receipt is of a worker who has ended.
-pub record IsFinished (shards : ℕ) (receipt : WorkerState) : Type 0 where
-  -- its transactions explain it
-  pub explained : IsExplained shards receipt
-  -- its entries had room in its journal
-  pub room : length receipt.journal.entries ≤ receipt.journal.room
-  -- it has no more commits than a worker may ever have
-  pub most : (counters_of receipt).commits ≤ MOST_COMMITS
-  -- no slice has more operations than that
-  pub few : HaveAtMost MOST_COMMITS receipt.slices
-
 abbrev pub stash_of : WorkerState → StashState
 stash_of receipt = receipt.stash
-
-abbrev pub sliced_of : WorkerState → List (Object × Hot)
-sliced_of receipt = receipt.slices
 
 -- the phase that began with these shards, ended with these receipts, and left these shards and
 -- entries
@@ -130,27 +112,6 @@ pub record Leaves (initial : List ShardState) (floor : FloorState) (receipts : L
   pub stands : (book : Book) → StandFor initial floor.counters book [] →
       StandsFor state (book_after floor.opening book entries)
 
--- each slice is of an item, or of a user or category of the shards' opening
-abbrev pub AreKnown : List ShardState → List (Object × Slice) → Type 0
-AreKnown states pairs = AllByRecursion (λ pair. IsKnown (opening_in states) pair.0) pairs
-
--- a worker's slices, the last first
-abbrev pub from_the_last : List (Object × Hot) → List (Object × Slice)
-from_the_last slices = reverse (slices_in slices)
-
 -- the requests of receipts' entries are those of scripts: each the one at its worker and index
 abbrev pub AreOfScripts : List (List Request) → List WorkerState → Type 0
 AreOfScripts scripts receipts = AllByRecursion (IsJournalOf scripts) (map journal_of receipts)
-
--- the parts of receipts, each kind by itself
-pub record ArePartsOf (receipts : List WorkerState) (journals : List JournalView)
-    (stashes : List StashState) (keys : List KeyState) (counters : List Counters) : Type 0 where
-  pub journals_are : journals ≡ map journal_of receipts
-  pub stashes_are : stashes ≡ map stash_of receipts
-  pub keys_are : keys ≡ map key_of receipts
-  pub counters_are : counters ≡ map counters_of receipts
-
--- the slices of receipts: none is kept of a joined phase
-abbrev pub slices_kept : Bool → List WorkerState → List (List (Object × Hot))
-slices_kept true receipts = []
-slices_kept false receipts = map sliced_of receipts

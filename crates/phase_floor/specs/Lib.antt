@@ -1,3 +1,4 @@
+pub mod inner
 pub mod States
 pub mod Floors
 pub mod Begins

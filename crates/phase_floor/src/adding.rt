@@ -11,7 +11,8 @@ ghost use Rattle.auction_rows.specs.StoreReplies.{reply_of};
 ghost use Rattle.item_shards.specs.OpeningRows.{IsRow, with_opened};
 ghost use Rattle.phase_permits.specs.Replying.{CountsOf};
 ghost use Rattle.closing_laws.specs.Standing.{counters_at};
-ghost use Rattle.phase_floor.specs.Adding.{CanTake, HasBook, IsFull, IsOwn, IsSameAuction, IsStartOf, KeepsBooks, with_counted};
+ghost use Rattle.phase_floor.specs.Adding.{HasBook, IsFull, IsOwn, IsSameAuction, IsStartOf, KeepsBooks, with_counted};
+ghost use Rattle.phase_floor.specs.inner.Rows.{CanTake};
 ghost use Rattle.phase_floor.specs.States.{IsBookOf, StandsFor};
 
 use crate::joined::Joined;

@@ -8,7 +8,8 @@ ghost use Rattle.worker_journals.specs.Merged.{added, merged};
 ghost use Rattle.shard_boxes.specs.States.{state_of};
 ghost use Rattle.auction_shards.specs.Merging.{CanMerge, after_merge};
 ghost use Rattle.auction_shards.specs.Shards.{AreOfOne, at_start};
-ghost use Rattle.phase_floor.specs.Closings.{AreOfScripts, ArePartsOf, IsFinished, AreKnown, from_the_last, slices_kept, AreReceiptsOf, HasSettled, HasReconciled, Leaves};
+ghost use Rattle.phase_floor.specs.Closings.{AreOfScripts, AreReceiptsOf, HasSettled, HasReconciled, Leaves};
+ghost use Rattle.phase_floor.specs.inner.Parts.{ArePartsOf, IsFinished, AreKnown, from_the_last, slices_kept};
 ghost use Rattle.phase_floor.specs.States.{states_of};
 
 use crate::floor::{Floor, FloorFault};

@@ -31,7 +31,8 @@ use Rattle.phase_transactions.specs.inner.Begun.{IsRefusedBy}
 use Rattle.phase_transactions.specs.inner.Deeds.{IsReplyBy, IsReplyUnless, stock_on, stock_taken}
 use Rattle.worker_slices.specs.Homes.{IsHomeOf, IsWrittenAt, shard_at}
 use Rattle.phase_transactions.specs.inner.Homes.{AreHomesOf, HasHomes}
-use Rattle.phase_transactions.specs.Performing.{HasStoredOrIsFull, HasStoredSome}
+use Rattle.phase_transactions.specs.Performing.{HasStoredSome}
+use Rattle.phase_transactions.specs.inner.Storing.{HasStoredOrIsFull}
 use Rattle.worker_slices.specs.Slicing.{hot_objects, stocks_of, stock_of, slices_after_acts}
 use Rattle.phase_transactions.specs.Txns.{refusal_by, refusal_seen, reason_seen, stock_seen, is_put_off, IsReplyTo, IsAnswered, ReadSet}
 use Rattle.worker_slices.specs.Counting.{IsOwn}

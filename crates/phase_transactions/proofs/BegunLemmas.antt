@@ -25,7 +25,8 @@ use Rattle.phase_transactions.specs.inner.Deeds.{IsReplyBy, IsNextIf, AreDeedsOf
 use Rattle.worker_slices.specs.Homes.{IsHomeOf, shard_at}
 use Rattle.phase_transactions.specs.Performing.{HasCommitted, HasFailed, HaveOpening, StoresItem}
 use Rattle.worker_slices.specs.Slicing.{hot_objects, stocks_of, stock_of}
-use Rattle.phase_transactions.specs.Putting.{written_acts, HasPutAll, IsAsTaken}
+use Rattle.phase_transactions.specs.Putting.{HasPutAll}
+use Rattle.phase_transactions.specs.inner.HeldShards.{written_acts, IsAsTaken}
 use Rattle.phase_transactions.specs.inner.Takens.{footprint_of, held_in, numbers_of, is_one_of, dealt, line_among, CanBeDoneOnAll, AreBack}
 use Rattle.phase_transactions.specs.Txns.{IsReplyTo, IsAnswered, refusal_by, ReadSet}
 use Rattle.phase_transactions.specs.Workers.{WorkerState, IsLawfulWorker, setting_of, next_item, txn_of, after_commit}

@@ -25,7 +25,7 @@ use Rattle.worker_slices.specs.declared.slices.Hot.{Hot}
 use Rattle.phase_transactions.specs.inner.Begun.{Step, HasBegun, IsAnsweredOn, IsSeen}
 use Rattle.phase_transactions.specs.inner.Deeds.{IsReplyBy, IsReplyUnless, AreDeedsOf, AreGoodOn, acts_for, deeds_on, event_with, is_at}
 use Rattle.phase_transactions.specs.Performing.{HasCommitted, HaveOpening}
-use Rattle.phase_transactions.specs.Putting.{IsAsTaken, IsHeldFor, IsPutWith}
+use Rattle.phase_transactions.specs.inner.HeldShards.{IsAsTaken, IsHeldFor, IsPutWith}
 use Rattle.worker_slices.specs.Slicing.{hot_objects}
 use Rattle.phase_transactions.specs.inner.Takens.{each_once, footprint_of, held_in}
 use Rattle.worker_slices.specs.Homes.{shard_at}

@@ -21,7 +21,8 @@ use Rattle.worker_slices.specs.declared.homes.Homes.{Homes}
 use Rattle.phase_transactions.specs.declared.taken.Taken.{Taken}
 use Rattle.phase_transactions.specs.inner.Deeds.{first_dealt, second_dealt, clocks_of, found_on, acts_for, event_with, AreDeedsOf, AreGoodOn, footprint_on}
 use Rattle.phase_transactions.specs.Performing.{HasCommitted, HasFailed, IsCause, StoresItem, asks, shards_asked, greatest_seen}
-use Rattle.phase_transactions.specs.Putting.{clock_seen, HasPutAll, IsAsTaken}
+use Rattle.phase_transactions.specs.Putting.{clock_seen, HasPutAll}
+use Rattle.phase_transactions.specs.inner.HeldShards.{IsAsTaken}
 use Rattle.worker_slices.specs.Slicing.{hot_objects}
 use Rattle.worker_slices.specs.Homes.{shard_at}
 use Rattle.phase_transactions.specs.inner.Takens.{footprint_of, greatest_held, held_in, numbers_of, is_one_of, dealt, line_among, HasTakenAll, AreBack}

@@ -16,7 +16,8 @@ use Rattle.phase_transactions.specs.declared.done.PermitFault.{PermitFault}
 use Rattle.phase_transactions.specs.declared.done.PermitFault.TheVariants.{Memory, NumberFull}
 use Rattle.worker_slices.specs.declared.homes.Homes.{Homes}
 use Rattle.worker_slices.specs.Homes.{IsHotStore, shard_at}
-use Rattle.phase_transactions.specs.Performing.{HasCommitted, HasCommittedSome, HasFailed, HasPerformed, HasStored, HasStoredOrIsFull, HasStoredSome, asks}
+use Rattle.phase_transactions.specs.Performing.{HasCommitted, HasCommittedSome, HasFailed, HasPerformed, HasStored, HasStoredSome, asks}
+use Rattle.phase_transactions.specs.inner.Storing.{HasStoredOrIsFull}
 use Rattle.worker_slices.specs.Slicing.{hot_objects, stocks_of}
 use Rattle.phase_transactions.specs.Putting.{HasPutAll}
 use Rattle.phase_transactions.specs.inner.Takens.{each_once, footprint_of, is_one_of, no_line}

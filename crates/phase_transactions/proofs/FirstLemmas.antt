@@ -20,7 +20,7 @@ use Rattle.phase_transactions.specs.declared.taken.Taken.TheVariants as taken
 use Rattle.phase_transactions.specs.inner.Begun.{HasBegun, Step, FirstHas, FirstHasRoom, states_in}
 use Rattle.phase_transactions.specs.inner.Deeds.{stock_on}
 use Rattle.worker_slices.specs.Homes.{IsHomeOf, shard_at}
-use Rattle.phase_transactions.specs.Putting.{IsAsTaken}
+use Rattle.phase_transactions.specs.inner.HeldShards.{IsAsTaken}
 use Rattle.phase_transactions.specs.inner.Takens.{each_once, held_in, numbers_of, is_one_of, AreApart}
 use Rattle.phase_transactions.specs.Workers.{WorkerState}
 use Rattle.phase_transactions.proofs.WrittenLemmas.{LieInOne, in_one, in_two}

@@ -25,7 +25,7 @@ use Rattle.worker_slices.specs.declared.homes.Home.TheVariants as home
 use Rattle.worker_slices.specs.declared.slices.Hot.{Hot}
 use Rattle.phase_transactions.specs.inner.Deeds.{AreGoodOn, IsGood}
 use Rattle.worker_slices.specs.Homes.{IsHomeOf, shard_at}
-use Rattle.phase_transactions.specs.Putting.{IsAsTaken}
+use Rattle.phase_transactions.specs.inner.HeldShards.{IsAsTaken}
 use Rattle.phase_transactions.specs.Performing.{HaveOpening}
 use Rattle.phase_transactions.specs.Txns.{refusal_by}
 

@@ -9,7 +9,8 @@ use Rattle.shard_boxes.specs.Lines.{Line, StartsWith, IsShardHistory}
 use Rattle.shard_boxes.specs.States.{ShardState, state_of}
 use Rattle.shard_boxes.proofs.SeatLemmas.{seat-same, seat-other, taking-same, taking-other, putting-same, putting-other, length-with_seat}
 use Rattle.phase_transactions.specs.Workers.{IsIdle}
-use Rattle.phase_transactions.specs.Putting.{KeepsSeen, HasSameLines, IsAsTaken}
+use Rattle.phase_transactions.specs.Putting.{KeepsSeen, HasSameLines}
+use Rattle.phase_transactions.specs.inner.HeldShards.{IsAsTaken}
 use Rattle.phase_transactions.specs.inner.Takens.{is_one_of, numbers_of}
 use borrow.Author.Tests.{eqb-false}
 

@@ -6,7 +6,8 @@ use Rattle.shard_boxes.specs.Helds.{HeldState, MayPut, taken_at}
 use Rattle.shard_boxes.specs.Keys.{BoxId, KeyState, SeatState, seat_at, put_seat, putting, lines_at, seen_at, entries, holds_at}
 use Rattle.shard_boxes.specs.Lines.{Line, MayFollow, StartsWith, after_line}
 use Rattle.shard_boxes.specs.States.{ShardState, state_of}
-use Rattle.phase_transactions.specs.Putting.{HasPut, IsHeldFor, IsPutWith, HasPutAll, KeepsSeen}
+use Rattle.phase_transactions.specs.Putting.{HasPut, HasPutAll, KeepsSeen}
+use Rattle.phase_transactions.specs.inner.HeldShards.{IsHeldFor, IsPutWith}
 use Rattle.phase_transactions.specs.inner.Takens.{is_one_of, no_line, numbers_of, HasTakenAll, AreHeldAll, AreBack}
 use Rattle.phase_transactions.specs.Workers.{IsIdle}
 use Rattle.phase_transactions.proofs.KeyLemmas.{at_each, many, still_taken, seen_still, starts_on, seen_on, lines_still, lines_on}

@@ -37,7 +37,8 @@ use Rattle.worker_slices.specs.Homes.{IsHomeOf, shard_at}
 use Rattle.phase_transactions.specs.inner.Homes.{AreHomesOf}
 use Rattle.phase_transactions.specs.Performing.{HasCommittedSome, HaveOpening}
 use Rattle.worker_slices.specs.Slicing.{hot_objects}
-use Rattle.phase_transactions.specs.Putting.{HasPutAll, IsAsTaken}
+use Rattle.phase_transactions.specs.Putting.{HasPutAll}
+use Rattle.phase_transactions.specs.inner.HeldShards.{IsAsTaken}
 use Rattle.phase_transactions.specs.inner.Takens.{each_once, footprint_of, held_in, numbers_of, is_one_of, dealt, line_among}
 use Rattle.phase_transactions.specs.Txns.{IsReplyTo, IsAnswered, is_put_off, reason_seen, refusal_seen, ReadSet}
 use Rattle.phase_transactions.specs.inner.Viewing.{IsShownBy}

@@ -25,7 +25,7 @@ use Rattle.worker_slices.specs.declared.homes.Home.TheVariants as home
 use Rattle.phase_transactions.specs.declared.taken.Taken.{Taken}
 use Rattle.phase_transactions.specs.declared.taken.Taken.TheVariants as taken
 use Rattle.phase_transactions.specs.inner.Deeds.{is_at, deeds_on, first_dealt, second_dealt, clocks_of, event_with, IsGood, AreGoodOn}
-use Rattle.phase_transactions.specs.Putting.{alone_in}
+use Rattle.phase_transactions.specs.inner.HeldShards.{alone_in}
 use Rattle.worker_slices.specs.Homes.{shard_at}
 use Rattle.phase_transactions.specs.inner.Takens.{each_once, greatest_held, held_in, numbers_of, is_one_of, dealt, no_line, line_among, CanBeDoneOn, CanBeDoneOnAll}
 use Rattle.phase_transactions.specs.Txns.{clock_in}

@@ -76,15 +76,6 @@ pub record HasStored (old new : WorkerState) (request : Request) (index : ℕ)
 abbrev pub HasStoredSome : WorkerState → WorkerState → Request → ℕ → Type 0
 HasStoredSome old new request index = (answer : Reply) × HasStored old new request index answer
 
--- What became of a request that takes no shard: it was committed, or the clock is at the end of
--- numbers, and nothing has changed.
-abbrev pub HasStoredOrIsFull : WorkerState → WorkerState → Request → ℕ → Result Unit PermitFault →
-    Type 0
-HasStoredOrIsFull old new request index (Ok done) =
-    (old.clock < last_number) × HasStoredSome old new request index
-HasStoredOrIsFull old new request index (Err Memory) = ⊥
-HasStoredOrIsFull old new request index (Err NumberFull) = (last_number ≤ old.clock) × (new ≡ old)
-
 -- the entry of a request, of which the objects are looked at alone: an item to be stored has the
 -- worker's next id
 abbrev pub entry_asked : WorkerState → Request → Entry

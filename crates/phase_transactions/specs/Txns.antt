@@ -101,11 +101,6 @@ refusal_seen z txn =
     let request = (entry_of txn).request in
     refusal_by z.opening (option_and_then (stock_seen z txn) (item_of request)) request
 
--- whether a request is a bid
-abbrev pub IsBid : Request → Type 0
-IsBid (StoreBid bidder item amount time) = ⊤
-IsBid request = ⊥
-
 -- here the reply to a view of an item is only said to be no list of bids: the shard says the rest
 abbrev pub SuitsItem : Reply → Type 0
 SuitsItem (BidsSeen bids) = ⊥

@@ -4,3 +4,5 @@ pub mod Deeds
 pub mod Homes
 pub mod Takens
 pub mod Viewing
+pub mod HeldShards
+pub mod Storing

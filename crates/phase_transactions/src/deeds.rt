@@ -4,8 +4,7 @@ ghost use Rattle.auction_rows.specs.declared.requests.Facts.{Facts as FactsValue
 ghost use Rattle.auction_rows.specs.Requests.{is_view};
 ghost use Rattle.auction_rows.specs.StoreReplies.{reply_of};
 ghost use Rattle.phase_transactions.specs.inner.Begun.{AreGoodFor, AreOwedBy, HaveFootprint};
-ghost use Rattle.phase_transactions.specs.inner.Deeds.{written_of};
-ghost use Rattle.phase_transactions.specs.Txns.{IsBid};
+ghost use Rattle.phase_transactions.specs.inner.Deeds.{written_of, IsBid};
 
 use auction_rows::{BidEntry, ItemEntry, ItemId, Request, StoreReply};
 use item_shards::{Act, Look};

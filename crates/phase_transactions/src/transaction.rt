@@ -8,7 +8,7 @@ ghost use Rattle.item_shards.specs.Answering.{bid_request};
 ghost use Rattle.item_shards.specs.CommitNumbers.{last_number};
 ghost use Rattle.shard_boxes.specs.Keys.{KeyState};
 ghost use Rattle.phase_transactions.specs.declared.done.PermitFault.TheVariants.{NumberFull};
-ghost use Rattle.phase_transactions.specs.Txns.{IsBid};
+ghost use Rattle.phase_transactions.specs.inner.Deeds.{IsBid};
 
 use crate::answers::{item_on, look_of, view_on};
 use crate::deeds::{BidCall, Call, Deeds, Store, View, Written};
@@ -28,7 +28,8 @@ impl<N: PhaseName> Worker<N> {
     ghost use Rattle.phase_transactions.specs.inner.Begun.{step_of, HasBegun, HasFirst, HasRoomFor, IsAnsweredBy, IsOnOne, states_in};
     ghost use Rattle.phase_transactions.specs.inner.Homes.{AreHomesOf, HasHomes};
     ghost use Rattle.worker_slices.specs.Homes.{IsHotStore, shard_at};
-    ghost use Rattle.phase_transactions.specs.Performing.{asks, CanTransact, HasCommitted, HasCommittedSome, HasFailed, HasPerformed, HasStoredOrIsFull, HasStoredSome, HaveOpening, StoresItem};
+    ghost use Rattle.phase_transactions.specs.Performing.{asks, CanTransact, HasCommitted, HasCommittedSome, HasFailed, HasPerformed, HasStoredSome, HaveOpening, StoresItem};
+    ghost use Rattle.phase_transactions.specs.inner.Storing.{HasStoredOrIsFull};
     ghost use Rattle.worker_slices.specs.Slicing.{hot_objects};
     ghost use Rattle.phase_transactions.specs.inner.Takens.{footprint_of, is_one_of, IsReady};
     ghost use Rattle.phase_transactions.specs.Txns.{is_put_off};

@@ -13,7 +13,8 @@ use Rattle.job_threads.specs.declared.fault.JobFault.{JobFault}
 use Rattle.job_threads.specs.declared.fault.JobFault.TheVariants.{Spawn, Memory}
 use Rattle.job_threads.specs.Threads.{IsUnstarted}
 use Rattle.phase_workers.specs.declared.round.WorkerAnswer.{WorkerAnswer}
-use Rattle.phase_workers.specs.Tasks.{Task, task, tasks, HasDoneTask, HasMetFault, without_fault, fault_or, first_fault, IsFirstFault, IsFaultBy}
+use Rattle.phase_workers.specs.Tasks.{Task, task, tasks, HasDoneTask, HasMetFault, IsFirstFault, IsFaultBy}
+use Rattle.phase_workers.specs.inner.Answers.{without_fault, fault_or, first_fault}
 use Rattle.phase_workers.specs.Threads.{fault_of_jobs}
 
 -- the next of the scripts that are left

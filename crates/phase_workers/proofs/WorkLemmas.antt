@@ -24,7 +24,8 @@ use Rattle.run_laws.specs.Serving.{call_of}
 use Rattle.shard_boxes.specs.States.{ShardState}
 use Rattle.worker_journals.specs.Journals.{JournalView, commit_in}
 use Rattle.phase_workers.specs.Tasks.{task, HasDoneTask}
-use Rattle.phase_workers.specs.Working.{calls_from, committed, stashed, taken, still_waiting, hot_for, put_off, not_put_off, IsSamePermit, HasDealtWithNext, HasPerformedWaiting, HasStopped}
+use Rattle.phase_workers.specs.Working.{calls_from, committed, stashed, taken, still_waiting, hot_for, put_off, not_put_off, IsSamePermit, HasStopped}
+use Rattle.phase_workers.specs.inner.Steps.{HasDealtWithNext, HasPerformedWaiting}
 
 pub same : (permit : WorkerState) → IsSamePermit permit permit
 same permit = record { boxes = refl; worker = refl; opening = refl; begun = refl; phase = refl; writer = refl; room = refl; hot = refl; stocks = refl; own = λ are. are }

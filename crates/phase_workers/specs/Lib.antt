@@ -1,3 +1,4 @@
+pub mod inner
 pub mod Working
 pub mod Threads
 pub mod Tasks

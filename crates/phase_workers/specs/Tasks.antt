@@ -1,5 +1,5 @@
 -- What the workers of a phase have to do, and what they have done.
-use Rattle.std.specs.Prelude.{◌≡◌, ℕ, ◌+◌, ◌-◌, ◌<◌, ◌≤◌, ◌⊎◌, Bool, List, [], ◌∷◌, ◌++◌, length, Result, Ok, Err, Option, Some, None, ⊤}
+use Rattle.std.specs.Prelude.{◌≡◌, ℕ, ◌+◌, ◌-◌, ◌<◌, ◌≤◌, ◌⊎◌, Bool, List, [], ◌∷◌, ◌++◌, length, ⊤}
 use Rattle.auction_rows.specs.declared.limits.TheConstants.{MOST_TRIES, MOST_OF_A_WORKER}
 use Rattle.auction_rows.specs.declared.requests.Request.{Request}
 use Rattle.shard_boxes.specs.Keys.{BoxId}
@@ -9,7 +9,6 @@ use Rattle.phase_transactions.specs.Workers.{WorkerState}
 use Rattle.phase_transactions.specs.Performing.{HaveOpening}
 use Rattle.phase_workers.specs.declared.round.ServingFault.{ServingFault}
 use Rattle.phase_workers.specs.declared.round.ServingFault.TheVariants.{Worker, Spawn, Memory}
-use Rattle.phase_workers.specs.declared.round.WorkerAnswer.{WorkerAnswer}
 use Rattle.phase_workers.specs.Working.{calls_from, committed, stashed, taken, still_waiting, hot_for, put_off, not_put_off, IsSamePermit, HasStopped}
 
 -- a worker's permit as the phase begins, its script, and the index from which on it is given
@@ -62,19 +61,6 @@ pub record HasDoneTask (takes : Bool) (t : Task) (receipt : WorkerState) : Type 
 -- a task was not done: it stopped at a call of these, by this fault
 abbrev pub HasMetFault : Bool → List ShardState → Task → WorkerState → PermitFault → Type 0
 HasMetFault takes initial t = HasStopped takes initial (to_do takes t) t.permit
-
--- what a worker gives that met no fault
-abbrev pub without_fault : {T : Type 0} → T → WorkerAnswer T
-without_fault receipt = record { receipt = receipt; done = Ok tt }
-
--- the fault of the least worker that met one
-abbrev pub fault_or : {T : Type 0} → Result T PermitFault → Option PermitFault → Option PermitFault
-fault_or (Ok done) later = later
-fault_or (Err fault) later = Some fault
-
-abbrev pub first_fault : {T : Type 0} → List (WorkerAnswer T) → Option PermitFault
-first_fault [] = None
-first_fault (answer ∷ more) = fault_or answer.done (first_fault more)
 
 -- the first task that was not done met this fault
 abbrev pub IsFirstFault : Bool → List ShardState → List Task → PermitFault → Type 0

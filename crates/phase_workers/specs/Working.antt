@@ -1,5 +1,5 @@
 -- What a worker does in a phase: which calls its permit has committed, and which wait.
-use Rattle.std.specs.Prelude.{ℕ, suc, ◌≡◌, ◌≤◌, ◌+◌, ◌-◌, Bool, cond, not, List, [], ◌∷◌, ◌++◌, length, map, take, drop, ⊤}
+use Rattle.std.specs.Prelude.{ℕ, suc, ◌≡◌, ◌≤◌, ◌+◌, Bool, cond, not, List, [], ◌∷◌, ◌++◌, length, map, take, drop, ⊤}
 use Rattle.std.specs.List.{filter, AllByRecursion}
 use Rattle.auction_rows.specs.declared.requests.{Object.Object, Request.Request}
 use Rattle.auction_rows.specs.Phases.{is_put_off}
@@ -72,16 +72,6 @@ pub record IsSamePermit (old new : WorkerState) : Type 0 where
   pub stocks : stocks_of new.slices ≡ stocks_of old.slices
   pub own : AreOfPhase old → AreOfPhase new
 
--- Of what is taken of the stash the call that waited longest, if any, is committed: it is not to be
--- put off.
-pub record HasPerformedWaiting (takes : Bool) (old new : WorkerState) : Type 0 where
-  pub same : IsSamePermit old new
-  pub goes : put_off (hot_for old) (take 1 (taken takes old)) ≡ []
-  pub calls : committed new ≡ committed old ++ take 1 (taken takes old)
-  pub stash : stashed new ≡ still_waiting takes old ++ drop 1 (taken takes old)
-  pub left : new.left ≡ old.left
-  pub tries : new.tries ≤ old.tries + 1
-
 -- What a phase takes of the stash is committed, the call that waited longest first: it is not to be
 -- put off.
 pub record HasPerformedStash (takes : Bool) (old new : WorkerState) : Type 0 where
@@ -97,14 +87,6 @@ pub record HasPerformedStash (takes : Bool) (old new : WorkerState) : Type 0 whe
   pub left : new.left ≡ old.left
   -- each call took one try at most
   pub tries : new.tries ≤ old.tries + length (taken takes old)
-
--- The next call of the quota is committed, or waits behind the others where it is put off.
-pub record HasDealtWithNext (call : ℕ × Request) (old new : WorkerState) : Type 0 where
-  pub same : IsSamePermit old new
-  pub calls : committed new ≡ committed old ++ not_put_off (hot_for old) (call ∷ [])
-  pub stash : stashed new ≡ stashed old ++ put_off (hot_for old) (call ∷ [])
-  pub left : new.left ≡ old.left - 1
-  pub tries : new.tries ≡ old.tries + 1
 
 -- A permit has stopped at one of these calls, of which the first are those that are taken of its
 -- stash, by its fault: of those before it, the ones that are not put off are committed, and the

@@ -2,7 +2,8 @@
 //! and why they are not done.
 ghost use Rattle.std.specs.Prelude.{◌≡◌, ◌≤◌, Some, length, map, vec_len, vec_capacity, IfOk, IfErr, OnOk};
 ghost use Rattle.std.specs.List.{AllByRecursion, AllZip};
-ghost use Rattle.phase_workers.specs.Tasks.{task, tasks, CanBeDone, HasDoneTask, HasMetFault, without_fault, first_fault, IsFirstFault, IsFaultBy};
+ghost use Rattle.phase_workers.specs.Tasks.{task, tasks, CanBeDone, HasDoneTask, HasMetFault, IsFirstFault, IsFaultBy};
+ghost use Rattle.phase_workers.specs.inner.Answers.{without_fault, first_fault};
 ghost use Rattle.phase_workers.specs.Working.{IsPermitOf, ArePermitsOf};
 
 use crate::meeting::is_for_one_thread;

@@ -4,7 +4,8 @@ ghost use Rattle.auction_rows.specs.declared.requests.Request.{Request as Asked}
 ghost use Rattle.phase_transactions.specs.Performing.{HasFailed, HaveOpening, HasFailedFirst};
 ghost use Rattle.phase_transactions.specs.Workers.{with_try};
 ghost use Rattle.phase_workers.specs.Tasks.{task, CanBeDone, HasDoneTask, HasMetFault};
-ghost use Rattle.phase_workers.specs.Working.{calls_from, committed, stashed, taken, hot_for, put_off, not_put_off, IsPermitOf, IsSamePermit, HasDealtWithNext, HasPerformedStash, HasPerformedWaiting, HasStopped};
+ghost use Rattle.phase_workers.specs.Working.{calls_from, committed, stashed, taken, hot_for, put_off, not_put_off, IsPermitOf, IsSamePermit, HasPerformedStash, HasStopped};
+ghost use Rattle.phase_workers.specs.inner.Steps.{HasDealtWithNext, HasPerformedWaiting};
 
 use auction_rows::{MOST_OF_A_WORKER, MOST_TRIES};
 use phase_permits::{Kind, Permit, PermitFault};

@@ -5,7 +5,8 @@ use Rattle.auction_rows.specs.declared.requests.Facts.{Facts}
 use Rattle.auction_rows.specs.declared.requests.Request.TheVariants.{StoreItem}
 use Rattle.request_scripts.specs.declared.short_request.ShortRequest.{ShortRequest}
 use Rattle.request_scripts.specs.declared.short_request.ShortRequest.TheVariants as ask
-use Rattle.request_scripts.specs.ShortRequests.{HasRequest, HaveRequests, SaysRequest, request_from, requests_from, shifted}
+use Rattle.request_scripts.specs.ShortRequests.{HasRequest, HaveRequests, SaysRequest, request_from, requests_from}
+use Rattle.request_scripts.specs.inner.Shifting.{shifted}
 use Rattle.request_scripts.proofs.RequestLemmas.{request_stays}
 use Rattle.request_scripts.proofs.ScriptLemmas.{one_more}
 

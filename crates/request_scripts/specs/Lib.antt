@@ -1,3 +1,4 @@
+pub mod inner
 pub mod ShortRequests
 pub mod Scripts
 pub mod KeptLists

@@ -1,5 +1,5 @@
 -- A request in few bytes, and what is said with the facts that are kept beside it.
-use Rattle.std.specs.Prelude.{◌≡◌, ℕ, ◌+◌, ◌<◌, ◌≤◌, ◌^◌, List, [], ◌∷◌, ⊤, map, length, slice_index_or}
+use Rattle.std.specs.Prelude.{◌≡◌, ℕ, ◌+◌, ◌<◌, ◌≤◌, List, [], ◌∷◌, ⊤, map, length, slice_index_or}
 use Rattle.std.specs.List.{AllByRecursion}
 use Rattle.auction_rows.specs.declared.requests.{Facts.Facts, Request.Request}
 use Rattle.auction_rows.specs.declared.requests.Request.TheVariants.{StoreItem, StoreBid, StoreComment, BuyNow, ViewItem, ViewBids, ViewCategory, ViewUser}
@@ -47,11 +47,6 @@ HasRequest all (ask.ViewBids item) = ⊤
 HasRequest all (ask.ViewCategory category) = ⊤
 HasRequest all (ask.ViewUser user) = ⊤
 
--- a short request, of which the facts lie after so many others
-abbrev pub shifted : ℕ → ShortRequest → ShortRequest
-shifted before (ask.StoreItem facts time) = ask.StoreItem (before + facts) time
-shifted before short = short
-
 -- the requests that short ones say, with the facts that are kept
 abbrev pub requests_from : List Facts → List ShortRequest → List Request
 requests_from all shorts = map (request_from all) shorts
@@ -59,10 +54,6 @@ requests_from all shorts = map (request_from all) shorts
 -- the place of each short request lies within the facts
 abbrev pub HaveRequests : List Facts → List ShortRequest → Type 0
 HaveRequests all shorts = AllByRecursion (HasRequest all) shorts
-
--- so many facts more before these can be counted
-abbrev pub CanShift : List Facts → ℕ → Type 0
-CanShift all before = before + length all < 2 ^ 64
 
 -- a short request says a request, with the facts that are kept
 pub record SaysRequest (all : List Facts) (short : ShortRequest) (request : Request) : Type 0 where

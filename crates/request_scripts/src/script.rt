@@ -1,7 +1,8 @@
 //! A worker's script, compact: in few bytes a request.
 ghost use Rattle.std.specs.Prelude.{◌≡◌, ◌<◌, ◌++◌, ◌∷◌, ◌==◌, [], List, Some, length, map, option_map, slice_get, vec_len, vec_capacity, IfOk, IfSome, OnOk, OnErr};
 ghost use Rattle.auction_rows.specs.declared.requests.Facts.{Facts as FactsKept};
-ghost use Rattle.request_scripts.specs.ShortRequests.{CanShift, HasListRoom, HaveRequests, shifted};
+ghost use Rattle.request_scripts.specs.ShortRequests.{HasListRoom, HaveRequests};
+ghost use Rattle.request_scripts.specs.inner.Shifting.{CanShift, shifted};
 
 use crate::short_request::{ShortRequest, facts_stored, keep_request};
 use auction_rows::{Facts, ItemId, Request};

@@ -31,7 +31,8 @@ pub enum ShortRequest {
 }
 
 impl ShortRequest {
-    ghost use Rattle.request_scripts.specs.ShortRequests.{CanShift, HasRequest, request_from, shifted};
+    ghost use Rattle.request_scripts.specs.ShortRequests.{HasRequest, request_from};
+    ghost use Rattle.request_scripts.specs.inner.Shifting.{CanShift, shifted};
 
     /// The same request, of which the facts lie after so many others.
     #[inline(always)]

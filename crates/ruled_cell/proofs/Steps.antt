@@ -12,7 +12,8 @@ use Rattle.crossbeam_queue.specs.Fifo.{Pushes, Pops, Learns, Forks, Merges}
 use Rattle.ruled_cell.specs.declared.Stage.{Stage}
 use Rattle.ruled_cell.specs.declared.Stage.TheVariants.{Making, Idle, Holding}
 use Rattle.ruled_cell.specs.declared.Turn.{Turn}
-use Rattle.ruled_cell.specs.Cell.{Place, home, out, face, held, Lies, Knows, client, CellRule, staged, making, idle, holding, began, took, gave}
+use Rattle.ruled_cell.specs.Cell.{Place, home, out, face, held, Lies, Knows, client, CellRule, staged, making}
+use Rattle.ruled_cell.specs.inner.Steps.{idle, holding, began, took, gave}
 
 -- a word of 1 shows a value at home, any other shows the slot out
 is_full : {T : Type 0} (p : Place T) → face p ≡ 1 → (x : T) × (p ≡ home x)

@@ -1,2 +1,3 @@
+pub mod inner
 pub mod Cell
 pub mod Passes

@@ -17,7 +17,7 @@ use Rattle.phase_transactions.specs.Workers.{WorkerState}
 use Rattle.closing_laws.specs.Phases.{journal_of, receipt_at}
 use Rattle.phase_workers.specs.Tasks.{HasDoneTask, task, to_do}
 use Rattle.phase_workers.specs.Working.{calls_from, committed, hot_for, stashed, taken}
-use Rattle.run_phases.specs.Phases.{IsCallOf}
+use Rattle.run_phases.specs.inner.Plans.{IsCallOf}
 
 -- what holds of the one value holds of the other
 pub of_some : {X : Type 0} (x y : X) → Some x ≡ Some y → (P : X → Type 0) → P x → P y

@@ -36,7 +36,8 @@ use Rattle.run_phases.specs.declared.phase.Running.{Running}
 use Rattle.run_phases.specs.Beginning.{AreShort, AreShortFor}
 use Rattle.run_phases.specs.Boards.{CanShow, HasShownAfter, IsUpToDate, phase_rows}
 use Rattle.run_phases.specs.Outcomes.{HasShownFirstAfter}
-use Rattle.run_phases.specs.Phases.{hot_sets, waiting_in}
+use Rattle.run_phases.specs.Phases.{hot_sets}
+use Rattle.run_phases.specs.inner.Plans.{waiting_in}
 use Rattle.run_phases.specs.inner.Running.{IsRunning}
 
 -- ---- numbers, counted one by one

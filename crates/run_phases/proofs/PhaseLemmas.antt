@@ -33,7 +33,8 @@ use Rattle.phase_floor.specs.Closings.{AreOfScripts, AreReceiptsOf, Leaves, stas
 use Rattle.phase_floor.specs.Floors.{FloorState, IsNewPermit, stash_at}
 use Rattle.phase_floor.specs.States.{JoinedState, states_of, StandsFor}
 use Rattle.run_phases.specs.inner.Closed.{HasClosedPhase}
-use Rattle.run_phases.specs.Phases.{told, IsCallOf, IsMet, MayPerform, waiting_in, quota_of}
+use Rattle.run_phases.specs.Phases.{told, IsMet}
+use Rattle.run_phases.specs.inner.Plans.{IsCallOf, MayPerform, waiting_in, quota_of}
 use Rattle.run_phases.specs.inner.Serving.{CanPerform, HasBegunPhase, HasEnded}
 use Rattle.phase_workers.specs.declared.round.ServingFault.{ServingFault}
 use Rattle.phase_workers.specs.declared.round.ServingFault.TheVariants as serving

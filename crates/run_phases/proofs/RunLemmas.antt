@@ -31,7 +31,8 @@ use Rattle.run_phases.specs.declared.phase.Running.{Running}
 use Rattle.run_phases.specs.Beginning.{HasQuotas, AreShortFor}
 use Rattle.run_phases.specs.inner.Closed.{HasClosedPhase}
 use Rattle.run_phases.specs.Outcomes.{IsOutcome}
-use Rattle.run_phases.specs.Phases.{AreAsked, hot_sets, waiting_in, quota_of, MayPerform}
+use Rattle.run_phases.specs.Phases.{hot_sets}
+use Rattle.run_phases.specs.inner.Plans.{AreAsked, waiting_in, quota_of, MayPerform}
 use Rattle.run_phases.specs.inner.Running.{IsRunning, CanGoOn}
 use Rattle.run_phases.proofs.HotThere.{chosen_exist}
 

@@ -7,7 +7,7 @@ use Rattle.worker_slices.specs.Stashes.{StashState}
 use Rattle.phase_floor.specs.Floors.{no_stash}
 use Rattle.run_laws.specs.Serving.{script_of}
 use Rattle.run_laws.proofs.ScriptLemmas.{past_end}
-use Rattle.run_phases.specs.Phases.{waiting_in}
+use Rattle.run_phases.specs.inner.Plans.{waiting_in}
 
 pub past_stashes : (stashes : List StashState) (i : ℕ) → length stashes ≤ i → waiting_in stashes i ≡ []
 past_stashes stashes i over = ap (λ (s : StashState). s.requests) (get_or_past stashes i no_stash over)

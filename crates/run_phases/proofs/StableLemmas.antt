@@ -12,7 +12,7 @@ use Rattle.phase_floor.specs.States.{JoinedState, states_of, DoesExist, DoAllExi
 use Rattle.run_laws.specs.Phases.{is_split}
 use Rattle.run_laws.specs.Serving.{script_of}
 use Rattle.shard_boxes.specs.States.{ShardState}
-use Rattle.run_phases.specs.Phases.{waiting_in, quota_of, AreAsked, MayPerform}
+use Rattle.run_phases.specs.inner.Plans.{waiting_in, quota_of, AreAsked, MayPerform}
 
 pub at_most : (a b : ℕ) → ¬ ¬ (a ≤ b) → a ≤ b
 at_most a b never = at (cases_lt b a) where

@@ -2,3 +2,4 @@
 pub mod Closed
 pub mod Running
 pub mod Serving
+pub mod Plans

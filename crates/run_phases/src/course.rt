@@ -14,7 +14,8 @@ ghost use Rattle.auction_window.specs.Published.{book_of};
 ghost use Rattle.run_phases.specs.Beginning.{BeginsWith, CannotBegin, CanShowRun, HasShards, HasQuotas};
 ghost use Rattle.run_phases.specs.Boards.{CanShow, HasShownAfter};
 ghost use Rattle.run_phases.specs.Outcomes.{HasShownFirstAfter, IsOutcome};
-ghost use Rattle.run_phases.specs.Phases.{waiting_in, AreAsked, IsPlanOf, IsMet};
+ghost use Rattle.run_phases.specs.Phases.{IsMet};
+ghost use Rattle.run_phases.specs.inner.Plans.{waiting_in, AreAsked, IsPlanOf};
 ghost use Rattle.run_phases.specs.inner.Running.{IsRunning, CanGoOn};
 
 use crate::board::Board;

@@ -8,7 +8,8 @@ ghost use Rattle.worker_journals.specs.Merged.{added, merged};
 ghost use Rattle.phase_floor.specs.declared.floor.BeginFault.TheVariants.{Memory};
 ghost use Rattle.phase_floor.specs.States.{states_of};
 ghost use Rattle.phase_workers.specs.Tasks.{tasks};
-ghost use Rattle.run_phases.specs.Phases.{IsMet, IsPlanOf, MayPerform};
+ghost use Rattle.run_phases.specs.Phases.{IsMet};
+ghost use Rattle.run_phases.specs.inner.Plans.{IsPlanOf, MayPerform};
 ghost use Rattle.run_phases.specs.declared.faults.RunFault.{RunFault};
 ghost use Rattle.run_phases.specs.inner.Closed.{HasPerformedPhase};
 ghost use Rattle.run_phases.specs.inner.Serving.{CanPerform, HasBegunPhase, HasEnded};
@@ -48,7 +49,7 @@ pub(crate) struct Running {
 }
 
 impl<'a, G> PhasePlan<'a, G> {
-    ghost use Rattle.run_phases.specs.Phases.{IsPlanOf};
+    ghost use Rattle.run_phases.specs.inner.Plans.{IsPlanOf};
 
     /// The plan of a phase.
     pub(crate) fn new(work: &Workload<'a, G>, phase: u64) -> PhasePlan<'a, G>
@@ -147,7 +148,7 @@ pub(crate) trait BeginKind: Kind {
     ghost use Rattle.run_laws.specs.Phases.{is_split};
     ghost use Rattle.run_laws.specs.Run.{first_index};
     ghost use Rattle.phase_floor.specs.States.{states_of};
-    ghost use Rattle.run_phases.specs.Phases.{MayPerform};
+    ghost use Rattle.run_phases.specs.inner.Plans.{MayPerform};
     ghost use Rattle.run_phases.specs.declared.faults.RunFault.TheVariants.{Memory};
     ghost use Rattle.run_phases.specs.inner.Serving.{HasBegunPhase};
 

@@ -13,7 +13,9 @@ use Rattle.shard_boxes.specs.States.{ShardState, state_of, no_shard, IsWithin}
 use Rattle.shard_boxes.specs.Lines.{Line, after_lines, lines_of}
 use Rattle.shard_boxes.specs.Keys.{added, entries}
 use Rattle.shard_boxes.specs.Helds.{MayPut}
-use Rattle.shard_boxes.specs.Rule.{IsLawfulList, Speaks, SpeaksForAll, IsSpare, HasParts, BoxState, FitsBox, IsIn, IsOut, BoxRule, start_of, maker, opened, TakenBy, with_first, put, head_of, tail_of}
+use Rattle.shard_boxes.specs.inner.Rule.{IsLawfulList, HasParts, BoxState, FitsBox, IsIn, IsOut, BoxRule}
+use Rattle.shard_boxes.specs.Passes.{Speaks, SpeaksForAll, IsSpare, start_of}
+use Rattle.shard_boxes.specs.inner.Steps.{maker, opened, TakenBy, with_first, put, head_of, tail_of}
 use Rattle.shard_boxes.proofs.LineLemmas.{kept_put, lines_of-append, entries-own, entries-other}
 
 -- lists read by index

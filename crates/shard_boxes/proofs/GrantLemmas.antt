@@ -2,9 +2,10 @@
 use Rattle.std.proofs.Common.{◌≡◌, ℕ, zero, suc, ◌+◌, ◌<◌, ◌≤◌, false, List, [], ◌∷◌, ◌++◌, length, map, get_or, take, refl, sym, ap, ◌∙◌, subst, arith, append_assoc, length-append, zero-lt-suc, true}
 use Rattle.std.proofs.lemmas.List.{get_or-map, length-map, take_more}
 use Rattle.shard_boxes.specs.declared.shard_box.Knowledge.{Knowledge}
-use Rattle.shard_boxes.specs.Rule.{IsLawfulList, HasParts, SpeaksForAll, IsSpare, start_of, maker, ready, opened, first_of, rest_of, joined, spent}
+use Rattle.shard_boxes.specs.inner.Rule.{IsLawfulList, HasParts}
+use Rattle.shard_boxes.specs.Passes.{SpeaksForAll, IsSpare, start_of, GrantState}
+use Rattle.shard_boxes.specs.inner.Steps.{maker, ready, opened, first_of, rest_of, joined, spent}
 use Rattle.item_shards.specs.declared.shard.Shard.{Shard}
-use Rattle.shard_boxes.specs.Passes.{GrantState}
 use Rattle.shard_boxes.specs.Keys.{BoxId, KeyState, key_at, no_seat, holds_at, lines_at, IsNewKey}
 use Rattle.shard_boxes.specs.Seats.{own_of, seat_of, boxes_of, key_of, IsFor, AreFor}
 use Rattle.shard_boxes.specs.States.{ShardState, state_of, state_at, no_shard, IsInitial}

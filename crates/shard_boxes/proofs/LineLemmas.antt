@@ -10,7 +10,7 @@ use Rattle.shard_boxes.specs.States.{ShardState, state_at, IsWithin, IsInitial}
 use Rattle.shard_boxes.specs.Lines.{Line, acts_in, after_line, after_lines, lines_of, AreTrueOf, MayFollow, IsShardHistory}
 use Rattle.shard_boxes.specs.Keys.{added, entries}
 use Rattle.shard_boxes.specs.Helds.{MayPut}
-use Rattle.shard_boxes.specs.Rule.{AreLawful, IsLawfulList}
+use Rattle.shard_boxes.specs.inner.Rule.{AreLawful, IsLawfulList}
 use Rattle.shard_boxes.proofs.LimitLemmas.{line_within}
 
 after-push : (o : ShardState) (lines : List (ℕ × Line)) (e : ℕ × Line) → after_lines o (lines ++ e ∷ []) ≡ after_line (after_lines o lines) e.1

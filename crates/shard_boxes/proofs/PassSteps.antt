@@ -10,7 +10,9 @@ use Rattle.crossbeam_queue.proofs.Lists.{at_longer, set_else}
 use Rattle.item_shards.specs.declared.shard.Shard.{Shard}
 use Rattle.shard_boxes.specs.declared.shard_box.Knowledge.{Knowledge}
 use Rattle.shard_boxes.specs.Lines.{Line, lines_of, StartsWith}
-use Rattle.shard_boxes.specs.Rule.{Speaks, BoxState, FitsBox, IsIn, IsOut, BoxRule, head_of, tail_of, first_of, rest_of, longer, joined, spent}
+use Rattle.shard_boxes.specs.Passes.{Speaks}
+use Rattle.shard_boxes.specs.inner.Rule.{BoxState, FitsBox, IsIn, IsOut, BoxRule}
+use Rattle.shard_boxes.specs.inner.Steps.{head_of, tail_of, first_of, rest_of, longer, joined, spent}
 use Rattle.shard_boxes.proofs.BoxSteps.{Each, at_snoc_index, both_ways, each_set, tail_at, length-tail, length-head, head_at, plus_zero}
 
 pub other_number : (n m : ℕ) → n ≢ m → (n == m) ≡ false

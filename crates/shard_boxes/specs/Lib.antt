@@ -2,7 +2,6 @@ pub mod inner
 pub mod States
 pub mod Lines
 pub mod Limits
-pub mod Rule
 pub mod Passes
 pub mod Keys
 pub mod Seats

@@ -3,9 +3,8 @@ use Rattle.std.specs.Prelude.{◌≡◌, ℕ, ◌<◌, List, [], map, length, sl
 use Rattle.shard_boxes.specs.Keys.{BoxId, SeatState, KeyState}
 use Rattle.shard_boxes.specs.Lines.{Line}
 use Rattle.shard_boxes.specs.States.{ShardState, state_at}
-use Rattle.shard_boxes.specs.Rule.{start_of}
+use Rattle.shard_boxes.specs.Passes.{start_of, GrantState}
 use Rattle.shard_boxes.specs.declared.shard_box.Knowledge.{Knowledge}
-use Rattle.shard_boxes.specs.Passes.{GrantState}
 
 -- the lines of the first worker for whom the pass speaks
 abbrev pub own_of : Knowledge → List Line
@@ -44,7 +43,3 @@ abbrev pub AreFor : List ShardState → ℕ → List GrantState → ℕ → Type
 AreFor initial workers grants worker =
     (s : ℕ) (d : GrantState) → s < length grants →
     IsFor initial workers s worker 1 (slice_index_or grants s d)
-
--- the box of this number is this one
-abbrev pub IsBoxAt : List BoxId → ℕ → BoxId → Type 0
-IsBoxAt boxes s place = place ≡ slice_index_or boxes s place

@@ -1,2 +1,5 @@
 -- What no contract of a public function names.
 pub mod Grants
+pub mod Steps
+pub mod GrantViews
+pub mod Rule

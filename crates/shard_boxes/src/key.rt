@@ -18,8 +18,7 @@ ghost use Rattle.shard_boxes.specs.Lines.{lines_of, StartsWith, IsShardHistory, 
 ghost use Rattle.shard_boxes.specs.Keys.{taking, putting, lines_at, seen_at, holds_at};
 ghost use Rattle.shard_boxes.specs.Helds.{taken_at, MayPut};
 ghost use Rattle.shard_boxes.specs.Passes.{GrantState};
-ghost use Rattle.shard_boxes.specs.Seats.{IsBoxAt};
-ghost use Rattle.shard_boxes.specs.inner.Grants.{AreFree, own_at};
+ghost use Rattle.shard_boxes.specs.inner.Grants.{IsBoxAt, AreFree, own_at};
 ghost use Rattle.shard_boxes.specs.contracts.key.Held.{the_row};
 ghost use Rattle.shard_boxes.specs.Limits.{SumsFit};
 

@@ -5,7 +5,8 @@ ghost use Rattle.shard_boxes.specs.States.{state_of, IsWithin};
 ghost use Rattle.shard_boxes.specs.Lines.{after_lines};
 ghost use Rattle.shard_boxes.specs.Helds.{MayPut};
 ghost use Rattle.shard_boxes.specs.inner.Grants.{CanUnite};
-ghost use Rattle.shard_boxes.specs.Rule.{Speaks, SpeaksForAll, IsSpare, TakenBy, start_of, maker, opened, put, first_of, rest_of, joined};
+ghost use Rattle.shard_boxes.specs.Passes.{Speaks, SpeaksForAll, IsSpare, start_of};
+ghost use Rattle.shard_boxes.specs.inner.Steps.{TakenBy, maker, opened, put, first_of, rest_of, joined};
 
 use crate::boxes::PhaseName;
 use crate::line::{LineName, Trace};
@@ -33,7 +34,8 @@ pub struct Knowledge {
 pub struct OneShard;
 
 impl Protocol<Shard, Knowledge> for OneShard {
-    ghost use Rattle.shard_boxes.specs.Rule.{BoxRule, maker};
+    ghost use Rattle.shard_boxes.specs.inner.Rule.{BoxRule};
+    ghost use Rattle.shard_boxes.specs.inner.Steps.{maker};
 
     ghost holds = { BoxRule };
 
@@ -44,7 +46,7 @@ impl Protocol<Shard, Knowledge> for OneShard {
 pub struct OpenStep<N>(PhantomData<N>);
 
 impl<N: PhaseName> Outcome<Shard, Knowledge> for OpenStep<N> {
-    ghost use Rattle.shard_boxes.specs.Rule.{opened};
+    ghost use Rattle.shard_boxes.specs.inner.Steps.{opened};
 
     ghost then = { λ v shard w. w ≡ opened N.workers shard };
 }
@@ -53,7 +55,7 @@ impl<N: PhaseName> Outcome<Shard, Knowledge> for OpenStep<N> {
 pub struct TakeStep;
 
 impl Outcome<Shard, Knowledge> for TakeStep {
-    ghost use Rattle.shard_boxes.specs.Rule.{TakenBy};
+    ghost use Rattle.shard_boxes.specs.inner.Steps.{TakenBy};
 
     ghost then = { TakenBy };
 }
@@ -66,7 +68,7 @@ impl Lesson<Shard, Knowledge> for TakeStep {
 pub struct TakeLastStep;
 
 impl Outcome<Shard, Knowledge> for TakeLastStep {
-    ghost use Rattle.shard_boxes.specs.Rule.{TakenBy};
+    ghost use Rattle.shard_boxes.specs.inner.Steps.{TakenBy};
 
     ghost then = { TakenBy };
 }
@@ -79,7 +81,7 @@ impl Lesson<Shard, Knowledge> for TakeLastStep {
 pub struct PutStep<L>(PhantomData<L>);
 
 impl<L: LineName> Outcome<Shard, Knowledge> for PutStep<L> {
-    ghost use Rattle.shard_boxes.specs.Rule.{put};
+    ghost use Rattle.shard_boxes.specs.inner.Steps.{put};
 
     ghost then = { λ v shard w. w ≡ put v L.line };
 }
@@ -88,7 +90,7 @@ impl<L: LineName> Outcome<Shard, Knowledge> for PutStep<L> {
 pub struct DealStep;
 
 impl Split<Knowledge> for DealStep {
-    ghost use Rattle.shard_boxes.specs.Rule.{rest_of, first_of};
+    ghost use Rattle.shard_boxes.specs.inner.Steps.{rest_of, first_of};
 
     ghost left = { rest_of };
 
@@ -99,7 +101,7 @@ impl Split<Knowledge> for DealStep {
 pub struct CollectStep;
 
 impl Join<Knowledge> for CollectStep {
-    ghost use Rattle.shard_boxes.specs.Rule.{joined, spent};
+    ghost use Rattle.shard_boxes.specs.inner.Steps.{joined, spent};
 
     ghost both = { joined };
 
@@ -137,7 +139,8 @@ impl Model for Grant {
     ghost use Rattle.std.specs.Coded.{codes};
     ghost use Rattle.item_shards.specs.contracts.shard.Shard as shard;
     ghost use Rattle.ruled_cell.specs.Passes.{Carries};
-    ghost use Rattle.shard_boxes.specs.Passes.{GrantState, grant_of};
+    ghost use Rattle.shard_boxes.specs.Passes.{GrantState};
+    ghost use Rattle.shard_boxes.specs.inner.GrantViews.{grant_of};
 
     ghost Value = { GrantState };
 

@@ -9,8 +9,8 @@ use Rattle.std.proofs.lemmas.Option.{none-some, same_Some}
 use Rattle.split_engine.specs.declared.referee.Line.{Line}
 use Rattle.split_engine.specs.Rules.{Rules}
 use Rattle.split_engine.specs.Serving.{request_at}
-use Rattle.split_engine.specs.inner.Marking.{no_marks}
-use Rattle.split_engine.specs.Checking.{has_line, AreMarks, IsRightLine, after_line, after_lines, lines_replay}
+use Rattle.split_engine.specs.inner.Marking.{no_marks, AreMarks}
+use Rattle.split_engine.specs.Checking.{has_line, IsRightLine, after_line, after_lines, lines_replay}
 
 -- ---- requests
 

@@ -17,7 +17,8 @@ use Rattle.split_engine.specs.declared.entry.Entry.{Entry}
 use Rattle.split_engine.specs.declared.state.Cursor.{Cursor}
 use Rattle.split_engine.specs.Rules.{Rules, SplitLaws}
 use Rattle.split_engine.specs.Serial.{IsWithin, after_entry, ReplaysFrom, table_after}
-use Rattle.split_engine.specs.Splitting.{Interleaves, Neither, First, Second, InterleavesAll, IsSplitEntry, slices_of, merged_all, all_merged, joined}
+use Rattle.split_engine.specs.Splitting.{Interleaves, Neither, First, Second, InterleavesAll, IsSplitEntry, slices_of, merged_all, all_merged}
+use Rattle.split_engine.specs.inner.Commits.{joined}
 use Rattle.split_engine.specs.Serving.{lists, calls_before, call_of, calls_of, count, IsScript}
 use Rattle.split_engine.specs.inner.Phases.{is_taken, split_calls, put_off, HasStashed, HasServed, HaveServed, HasTurned, IsRunState}
 use Rattle.split_engine.specs.inner.Assignments.{Assignment, assignment, assignments, left_of, HasDone, HaveDone, HasClosed}

@@ -11,7 +11,8 @@ use Rattle.std.proofs.lemmas.List.Sums.{fold-append}
 use Rattle.split_engine.specs.declared.entry.Entry.{Entry}
 use Rattle.split_engine.specs.Rules.{Rules}
 use Rattle.split_engine.specs.Serial.{next, reply, after_entry, ReplaysFrom, table_after}
-use Rattle.split_engine.specs.Serving.{calls_before, call_of, commit}
+use Rattle.split_engine.specs.Serving.{calls_before, call_of}
+use Rattle.split_engine.specs.inner.Commits.{commit}
 use Rattle.split_engine.specs.inner.Phases.{is_taken, split_calls, put_off, HasPerformedOnSlices, HasPerformed}
 
 pub all_more : {X : Type 0} (P : X → Type 0) (xs : List X) (x : X) → AllByRecursion P xs → P x → AllByRecursion P (xs ++ x ∷ [])

@@ -1,7 +1,6 @@
 -- What the referee finds of a history that is given as lines.
 use Rattle.std.specs.Prelude.{◌≡◌, ℕ, ◌==◌, ◌&&◌, Bool, true, false, List, [], ◌∷◌, ◌++◌, Option, Some, None, fold, take, slice_get, ⊤}
 use Rattle.std.specs.List.{list_any}
-use Rattle.std.specs.Option.{option_map}
 use Rattle.split_engine.specs.declared.referee.Line.{Line}
 use Rattle.split_engine.specs.declared.referee.HistoryFault.{HistoryFault}
 use Rattle.split_engine.specs.declared.referee.HistoryFault.TheVariants.{Wrong, Lacking, Memory}
@@ -13,11 +12,6 @@ use Rattle.split_engine.specs.Serving.{request_at}
 abbrev pub has_line : {R : Type 0} → List (Line R) → ℕ → ℕ → Bool
 has_line lines worker index =
     list_any (λ line. (line.worker == worker) && (line.index == index)) lines
-
--- marks say of each request of the scripts whether one of these lines has it
-abbrev pub AreMarks : {Q R : Type 0} → List (List Q) → List (Line R) → List (List Bool) → Type 0
-AreMarks scripts lines marks = (worker index : ℕ) → request_at marks worker index
-    ≡ option_map (λ q. has_line lines worker index) (request_at scripts worker index)
 
 module _ {Record Slice Look Request Reply Act : Type 0}
     (rules : Rules Record Slice Look Request Reply Act) (scripts : List (List Request)) where

@@ -36,11 +36,6 @@ calls script = calls_before script (length script)
 abbrev pub call_of : {Q R : Type 0} → Entry Q R → ℕ × Q
 call_of e = (e.index, e.request)
 
--- a worker's commit of a call, with a reply
-abbrev pub commit : {Q R : Type 0} → ℕ → ℕ × Q → R → Entry Q R
-commit worker call reply =
-    record { worker = worker; index = call.0; request = call.1; reply = reply }
-
 -- a worker's entries in a history
 abbrev pub entries_of : {Q R : Type 0} → ℕ → List (Entry Q R) → List (Entry Q R)
 entries_of worker history = part (λ e. e.worker) worker history

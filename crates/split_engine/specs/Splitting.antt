@@ -1,5 +1,5 @@
 -- A split phase: workers act on slices of their own, which are merged.
-use Rattle.std.specs.Prelude.{◌≡◌, ◌≤◌, ℕ, List, [], ◌∷◌, ◌++◌, true, length, replicate, slice_index_or, slice_set, fold}
+use Rattle.std.specs.Prelude.{◌≡◌, ◌≤◌, ℕ, List, [], ◌∷◌, true, length, replicate, slice_index_or, slice_set, fold}
 use Rattle.std.specs.List.{AllByRecursion}
 use Rattle.split_engine.specs.declared.entry.Entry.{Entry}
 use Rattle.split_engine.specs.Rules.{Rules}
@@ -58,8 +58,3 @@ abbrev pub InterleavesAll : {X : Type 0} → List (List X) → List X → Type 0
 InterleavesAll [] all = all ≡ []
 InterleavesAll {X} (journal ∷ journals) all =
     (rest : List X) × InterleavesAll journals rest × Interleaves journal rest all
-
--- several lists, one after the other
-abbrev pub joined : {X : Type 0} → List (List X) → List X
-joined [] = []
-joined (xs ∷ more) = xs ++ joined more

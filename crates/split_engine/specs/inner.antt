@@ -4,3 +4,4 @@ pub mod Kept
 pub mod Listed
 pub mod Marking
 pub mod Phases
+pub mod Commits

@@ -4,7 +4,8 @@ ghost use Rattle.std.specs.List.{zip, AllByRecursion};
 ghost use Rattle.split_engine.specs.declared.entry.Entry.{Entry as Commit};
 ghost use Rattle.split_engine.specs.Rules.{most_acts, most_before, index_end};
 ghost use Rattle.split_engine.specs.Serial.{IsWithin, after_act, after_acts, next, reply};
-ghost use Rattle.split_engine.specs.Serving.{lists, total, commit, IsScript};
+ghost use Rattle.split_engine.specs.Serving.{lists, total, IsScript};
+ghost use Rattle.split_engine.specs.inner.Commits.{commit};
 ghost use Rattle.split_engine.specs.inner.Phases.{HasPerformed, HasServed, HasStashed, HasTurned, IsRunState, AllFinished};
 
 use crate::application::Application;

@@ -4,7 +4,8 @@ ghost use Rattle.std.specs.List.{AllByRecursion};
 ghost use Rattle.split_engine.specs.declared.referee.Line.{Line as LineValue};
 ghost use Rattle.split_engine.specs.Rules.{most_acts};
 ghost use Rattle.split_engine.specs.Serving.{lists, request_at, IsScript};
-ghost use Rattle.split_engine.specs.Checking.{AreMarks, IsRightLine, after_line, after_lines, IsHistory, IsHistoryFault};
+ghost use Rattle.split_engine.specs.Checking.{IsRightLine, after_line, after_lines, IsHistory, IsHistoryFault};
+ghost use Rattle.split_engine.specs.inner.Marking.{AreMarks};
 
 use crate::application::Application;
 use crate::few::MOST_KEYS;

@@ -22,7 +22,7 @@ use Rattle.phase_transactions.specs.declared.taken.Taken.{Taken}
 use Rattle.phase_transactions.specs.declared.taken.Taken.TheVariants as taken
 use Rattle.phase_transactions.specs.inner.Deeds.{IsReplyBy, IsNextIf, AreDeedsOf, AreGoodOn, acts_for, event_with, footprint_on, stock_on}
 use Rattle.phase_transactions.specs.inner.Homes.{AreHomesOf}
-use Rattle.phase_transactions.specs.Putting.{IsAsTaken}
+use Rattle.phase_transactions.specs.inner.HeldShards.{IsAsTaken}
 use Rattle.phase_transactions.specs.Performing.{HaveOpening, StoresItem, asks}
 use Rattle.worker_slices.specs.Slicing.{hot_objects, stocks_of, stock_of}
 use Rattle.worker_slices.specs.Homes.{shard_at}

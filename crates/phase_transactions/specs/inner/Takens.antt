@@ -13,7 +13,8 @@ use Rattle.worker_slices.specs.Homes.{shard_at}
 use Rattle.phase_transactions.specs.declared.taken.Taken.{Taken}
 use Rattle.phase_transactions.specs.declared.taken.Taken.TheVariants as taken
 use Rattle.phase_transactions.specs.Workers.{IsIdle}
-use Rattle.phase_transactions.specs.Putting.{CanDo, alone_in, line_of, HasSameLines, IsAsTaken}
+use Rattle.phase_transactions.specs.Putting.{CanDo, line_of, HasSameLines}
+use Rattle.phase_transactions.specs.inner.HeldShards.{alone_in, IsAsTaken}
 
 -- two shards, each once
 abbrev pub each_once : Option ℕ → Option ℕ → List ℕ

@@ -9,7 +9,7 @@ use Rattle.worker_journals.specs.Merged.{added, merged}
 use Rattle.run_laws.specs.Books.{ReplaysOn}
 use Rattle.run_laws.specs.Run.{IsPhasePerformed, calls_of}
 use Rattle.run_phases.specs.declared.phase.Running.{Running}
-use Rattle.run_phases.specs.Phases.{waiting_in}
+use Rattle.run_phases.specs.inner.Plans.{waiting_in}
 
 -- The next phase of a state was performed, with these stashes and hot objects, and has closed with
 -- these entries: it leaves the next state, and these stashes.

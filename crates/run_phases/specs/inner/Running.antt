@@ -11,7 +11,8 @@ use Rattle.run_laws.specs.Books.{HasReplayed}
 use Rattle.run_laws.specs.Run.{HasRun, AreChosen, first_index}
 use Rattle.run_laws.specs.Serving.{script_of, segment_of, AreNumbered}
 use Rattle.run_phases.specs.Beginning.{AreShortFor}
-use Rattle.run_phases.specs.Phases.{hot_sets, waiting_in}
+use Rattle.run_phases.specs.Phases.{hot_sets}
+use Rattle.run_phases.specs.inner.Plans.{waiting_in}
 use Rattle.run_phases.specs.declared.phase.Running.{Running}
 
 -- What a run from an opening book knows before a phase.

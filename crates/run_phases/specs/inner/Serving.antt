@@ -13,7 +13,7 @@ use Rattle.phase_floor.specs.States.{JoinedState}
 use Rattle.phase_workers.specs.Tasks.{Task, tasks, CanBeDone, HasDoneTask}
 use Rattle.phase_workers.specs.Working.{ArePermitsOf}
 use Rattle.run_laws.specs.Serving.{script_of}
-use Rattle.run_phases.specs.Phases.{waiting_in, quota_of}
+use Rattle.run_phases.specs.inner.Plans.{waiting_in, quota_of}
 
 -- The next phase of a state has begun, with these hot objects: each worker's permit is a new one,
 -- for its quota, with what waits in its stash.

@@ -4,8 +4,8 @@ use Rattle.shard_boxes.specs.declared.shard_box.Knowledge.{Knowledge}
 use Rattle.shard_boxes.specs.States.{ShardState, state_at}
 use Rattle.shard_boxes.specs.Lines.{Line, IsShardHistory, lines_of}
 use Rattle.shard_boxes.specs.Keys.{BoxId}
-use Rattle.shard_boxes.specs.Rule.{Speaks, IsSpare, ready, start_of}
-use Rattle.shard_boxes.specs.Passes.{GrantState}
+use Rattle.shard_boxes.specs.Passes.{Speaks, IsSpare, start_of, GrantState}
+use Rattle.shard_boxes.specs.inner.Steps.{ready}
 use Rattle.shard_boxes.specs.Seats.{boxes_of}
 
 -- two grants can be united, the second for the workers that follow those of the first
@@ -72,3 +72,7 @@ abbrev pub IsTaken : List ShardState → ℕ → List (List Line) → ℕ → Sh
 IsTaken initial workers own s state =
     (lines : List (ℕ × Line)) × IsShardHistory initial workers s lines state
     × ((w : ℕ) → w < workers → lines_of w lines ≡ slice_index_or own w [])
+
+-- the box of this number is this one
+abbrev pub IsBoxAt : List BoxId → ℕ → BoxId → Type 0
+IsBoxAt boxes s place = place ≡ slice_index_or boxes s place

@@ -6,7 +6,8 @@ use Rattle.split_engine.specs.declared.few.TheConstants.{MOST_KEYS}
 use Rattle.split_engine.specs.declared.state.Cursor.{Cursor}
 use Rattle.split_engine.specs.Rules.{Rules, most_acts, index_end}
 use Rattle.split_engine.specs.Serial.{IsWithin}
-use Rattle.split_engine.specs.Splitting.{slices_of, all_merged, joined}
+use Rattle.split_engine.specs.Splitting.{slices_of, all_merged}
+use Rattle.split_engine.specs.inner.Commits.{joined}
 use Rattle.split_engine.specs.Serving.{calls_before}
 use Rattle.split_engine.specs.inner.Phases.{IsUnused, HasPerformedOnSlices}
 

@@ -12,8 +12,9 @@ use Rattle.item_shards.specs.OpeningBooks as opened
 use Rattle.phase_floor.specs.States.{StandsFor}
 use Rattle.program_opening.specs.Options.{opening_asked}
 use Rattle.program_opening.specs.declared.faults.Fault.TheVariants.{Run}
-use Rattle.auction_program.specs.Execution.{HasLastViews, IsNotPerformed, IsNotRun}
-use Rattle.auction_program.specs.Report.{AreViews, IsEnd}
+use Rattle.auction_program.specs.Execution.{IsNotRun}
+use Rattle.auction_program.specs.inner.Performing.{HasLastViews, IsNotPerformed}
+use Rattle.auction_program.specs.inner.Views.{AreViews, IsEnd}
 use Rattle.auction_program.specs.declared.execution.Performed.{Performed}
 use Rattle.program_opening.proofs.ErrorLemmas.{error_is}
 use Rattle.auction_program.proofs.Answering.{not_run}

@@ -6,7 +6,7 @@ use Rattle.auction_rows.specs.History.{commit_of}
 use Rattle.auction_rows.specs.Requests.{shard_of}
 use Rattle.item_shards.specs.ShardContents.{rooms}
 use Rattle.item_shards.proofs.WriteLemmas.{has_own_room, row_of_item}
-use Rattle.auction_shards.specs.Writing.{HasRoomIn}
+use Rattle.auction_shards.specs.inner.Acting.{HasRoomIn}
 use Rattle.auction_shards.proofs.Placed.{lies_there}
 use Rattle.auction_shards.proofs.Acts.{room_there, shown_still}
 use Rattle.auction_shards.proofs.writing.make_room.Goals as goal

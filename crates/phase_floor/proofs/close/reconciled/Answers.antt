@@ -5,7 +5,7 @@ use Rattle.item_shards.specs.declared.shard.Shard.{Shard}
 use Rattle.shard_boxes.specs.States.{state_of}
 use Rattle.auction_shards.specs.Merging.{CanMerge, after_merge}
 use Rattle.auction_shards.specs.Shards.{at_start}
-use Rattle.phase_floor.specs.Closings.{AreKnown, from_the_last}
+use Rattle.phase_floor.specs.inner.Parts.{AreKnown, from_the_last}
 use Rattle.phase_floor.proofs.close.reconciled.Goals as goal
 
 pub merge_all-requires-clause-known : goal.merge_all-requires-clause-known

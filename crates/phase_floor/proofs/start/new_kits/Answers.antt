@@ -5,7 +5,7 @@ use Rattle.worker_journals.specs.Journals.{empty_journal}
 use Rattle.worker_slices.specs.Slicing.{slices_of}
 use Rattle.worker_slices.specs.Stashes.{StashState}
 use Rattle.phase_floor.specs.declared.start.Kit.{Kit}
-use Rattle.phase_floor.specs.Begins.{IsKit}
+use Rattle.phase_floor.specs.inner.Kits.{IsKit}
 use Rattle.phase_floor.specs.Floors.{no_stash, stash_at}
 use Rattle.phase_floor.proofs.start.new_kits.Goals as goal
 

@@ -1,5 +1,5 @@
 use Rattle.std.proofs.Common.{◌≡◌, ◌≤◌, length, vec_capacity, vec_len}
-use Rattle.phase_floor.specs.Begins.{AreKits}
+use Rattle.phase_floor.specs.inner.Kits.{AreKits}
 use Rattle.phase_floor.proofs.start.new_kits.Given as goal
 
 abbrev pub invariant-loop-w : goal.invariant-loop-w

@@ -1,6 +1,6 @@
 use Rattle.std.proofs.Common.{◌≡◌, ◌+◌, ◌≤◌, ◌++◌, map, vec_len, vec_capacity}
 use Rattle.std.specs.Vec.Iter.{into_iter_items, into_iter_len}
-use Rattle.phase_workers.specs.Tasks.{without_fault}
+use Rattle.phase_workers.specs.inner.Answers.{without_fault}
 use Rattle.phase_workers.proofs.round.receipts_of.Given as goal
 
 -- the workers so far met no fault, and their receipts are taken

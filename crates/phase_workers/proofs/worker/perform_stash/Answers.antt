@@ -3,7 +3,8 @@ use Rattle.std.proofs.lemmas.List.{append-nil, take_all, drop_all}
 use Rattle.auction_rows.specs.declared.requests.Request.{Request}
 use Rattle.phase_transactions.specs.Workers.{WorkerState}
 use Rattle.phase_transactions.specs.Performing.{HaveOpening}
-use Rattle.phase_workers.specs.Working.{committed, stashed, taken, still_waiting, hot_for, put_off, HasPerformedWaiting, HasStopped}
+use Rattle.phase_workers.specs.Working.{committed, stashed, taken, still_waiting, hot_for, put_off, HasStopped}
+use Rattle.phase_workers.specs.inner.Steps.{HasPerformedWaiting}
 use Rattle.job_threads.proofs.ThreadLemmas.{err_as}
 use Rattle.phase_workers.proofs.WorkLemmas.{same, same_after, takes_some, stash_goes, stash_more, stash_less, stopped_first, try_left, tries_by}
 use Rattle.phase_workers.proofs.worker.perform_stash.Goals as goal

@@ -1,6 +1,6 @@
 use Rattle.std.proofs.Common.{◌≡◌, ◌≤◌, ◌+◌, ◌-◌, ◌++◌, length, map, take, vec_len}
 use Rattle.std.specs.Prelude.{vec_capacity}
-use Rattle.request_scripts.specs.ShortRequests.{shifted}
+use Rattle.request_scripts.specs.inner.Shifting.{shifted}
 use Rattle.request_scripts.proofs.script.push_after.Given as goal
 
 abbrev pub invariant-loop-short : goal.invariant-loop-short

@@ -4,7 +4,7 @@ use Rattle.run_laws.specs.Serving.{script_of}
 use Rattle.worker_journals.specs.Histories.{HistoryView}
 use Rattle.worker_journals.specs.Merged.{merged}
 use Rattle.worker_journals.proofs.HistoryLemmas.{merged_nothing}
-use Rattle.run_phases.specs.Phases.{IsCallOf}
+use Rattle.run_phases.specs.inner.Plans.{IsCallOf}
 use Rattle.run_phases.proofs.RunLemmas.{begun}
 use Rattle.run_phases.proofs.course.begin.Goals as goal
 

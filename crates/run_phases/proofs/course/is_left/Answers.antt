@@ -1,7 +1,7 @@
 use Rattle.std.proofs.Common.{◌≡◌, ◌<◌, ◌≤◌, ◌⊎◌, ◌∙◌, ℕ, List, ap, length, subst, sym}
 use Rattle.auction_rows.specs.declared.requests.Request.{Request}
 use Rattle.run_laws.specs.Serving.{script_of}
-use Rattle.run_phases.specs.Phases.{waiting_in}
+use Rattle.run_phases.specs.inner.Plans.{waiting_in}
 use Rattle.run_phases.proofs.course.is_left.Goals as goal
 
 pub is_left_of-requires : goal.is_left_of-requires

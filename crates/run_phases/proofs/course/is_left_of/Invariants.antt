@@ -1,6 +1,6 @@
 use Rattle.std.proofs.Common.{◌≡◌, ℕ, ◌<◌, ◌≤◌, length}
 use Rattle.run_laws.specs.Serving.{script_of}
-use Rattle.run_phases.specs.Phases.{waiting_in}
+use Rattle.run_phases.specs.inner.Plans.{waiting_in}
 use Rattle.run_phases.proofs.course.is_left_of.Given as goal
 
 abbrev pub invariant-loop-worker : goal.invariant-loop-worker

@@ -1,6 +1,6 @@
 use Rattle.std.proofs.Common.{◌+◌, length, ap, ◌∙◌}
 use Rattle.std.proofs.lemmas.List.{length-append}
-use Rattle.run_phases.specs.Phases.{waiting_in}
+use Rattle.run_phases.specs.inner.Plans.{waiting_in}
 use Rattle.run_phases.proofs.ScriptLemmas.{one_stash_more}
 use Rattle.run_phases.proofs.course.no_stashes.Goals as goal
 

@@ -1,5 +1,5 @@
 use Rattle.std.proofs.Common.{◌≡◌, ℕ, [], length}
-use Rattle.run_phases.specs.Phases.{waiting_in}
+use Rattle.run_phases.specs.inner.Plans.{waiting_in}
 use Rattle.run_phases.proofs.course.no_stashes.Given as goal
 
 abbrev pub invariant-loop-worker : goal.invariant-loop-worker

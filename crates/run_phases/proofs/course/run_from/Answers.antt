@@ -9,7 +9,8 @@ use Rattle.run_phases.specs.declared.faults.RunFault.TheVariants.{Memory}
 use Rattle.run_phases.specs.Beginning.{HasShards, HasQuotas, BeginsWith}
 use Rattle.run_phases.specs.Boards.{HasShownAfter}
 use Rattle.run_phases.specs.Outcomes.{HasShownFirstAfter}
-use Rattle.run_phases.specs.Phases.{waiting_in, AreAsked, IsMet}
+use Rattle.run_phases.specs.Phases.{IsMet}
+use Rattle.run_phases.specs.inner.Plans.{waiting_in, AreAsked}
 use Rattle.run_phases.specs.inner.Running.{IsRunning}
 use Rattle.run_phases.proofs.BoardLemmas.{begins_shown, can_show, first_shown, has_shown, next_runs, none_shown, not_shown}
 use Rattle.run_phases.proofs.CourseLemmas.{few_phases_now, phase_now, stashes_now, still_goes_on}

@@ -4,7 +4,7 @@ use Rattle.auction_rows.specs.Book.{Book}
 use Rattle.auction_window.specs.Published.{book_of}
 use Rattle.run_phases.specs.Boards.{HasShownAfter}
 use Rattle.run_phases.specs.Beginning.{BeginsWith}
-use Rattle.run_phases.specs.Phases.{AreAsked}
+use Rattle.run_phases.specs.inner.Plans.{AreAsked}
 use Rattle.run_phases.specs.inner.Running.{IsRunning}
 use Rattle.run_phases.proofs.course.run_from.Given as goal
 

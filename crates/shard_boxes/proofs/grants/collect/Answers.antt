@@ -2,8 +2,7 @@ use Rattle.std.proofs.Common.{◌≡◌, ℕ, ◌+◌, ◌<◌, [], ◌∷◌, �
 use Rattle.std.specs.Vec.Iter.{into_iter_items}
 use Rattle.shard_boxes.specs.declared.shard_box.Knowledge.{Knowledge}
 use Rattle.shard_boxes.specs.States.{state_at}
-use Rattle.shard_boxes.specs.Rule.{Speaks}
-use Rattle.shard_boxes.specs.Passes.{GrantState}
+use Rattle.shard_boxes.specs.Passes.{Speaks, GrantState}
 use Rattle.shard_boxes.specs.Keys.{lines_at}
 use Rattle.shard_boxes.specs.inner.Grants.{IsFree, own_at}
 use Rattle.shard_boxes.proofs.Each.{drop_next, at_head, is_next, one_on, all_gone}

@@ -1,8 +1,7 @@
 use Rattle.std.proofs.Common.{◌+◌, ◌<◌, length, le_refl, zero-add, refl, sym, ap, ◌∙◌, subst, arith}
 use Rattle.std.specs.Vec.Iter.{into_iter_items}
 use Rattle.shard_boxes.specs.States.{IsWithin, state_at}
-use Rattle.shard_boxes.specs.Passes.{GrantState}
-use Rattle.shard_boxes.specs.Rule.{IsSpare}
+use Rattle.shard_boxes.specs.Passes.{GrantState, IsSpare}
 use Rattle.shard_boxes.specs.inner.Grants.{IsNewView}
 use Rattle.shard_boxes.proofs.Each.{drop_next, at_head, is_next, one_on, all_gone}
 use Rattle.shard_boxes.proofs.Sweeps.{swept_more}

@@ -1,9 +1,8 @@
 use Rattle.std.proofs.Common.{◌≡◌, ◌+◌, drop, length}
 use Rattle.std.specs.Vec.Iter.{into_iter_items, into_iter_len}
 use Rattle.shard_boxes.specs.States.{state_at}
-use Rattle.shard_boxes.specs.Passes.{GrantState}
+use Rattle.shard_boxes.specs.Passes.{GrantState, IsSpare}
 use Rattle.shard_boxes.specs.Seats.{boxes_of}
-use Rattle.shard_boxes.specs.Rule.{IsSpare}
 use Rattle.shard_boxes.specs.inner.Grants.{IsNewView}
 use Rattle.shard_boxes.proofs.Sweeps.{Swept}
 use Rattle.shard_boxes.proofs.grants.open_all.Given as goal

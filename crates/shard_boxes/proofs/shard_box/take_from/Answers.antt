@@ -2,7 +2,8 @@ use Rattle.std.proofs.Common.{◌∙◌, refl, sym, subst}
 use Rattle.ruled_cell.specs.Passes.{view}
 use Rattle.ruled_cell.proofs.Rests.{still}
 use Rattle.shard_boxes.specs.declared.shard_box.Knowledge.{Knowledge}
-use Rattle.shard_boxes.specs.Rule.{Speaks, TakenBy}
+use Rattle.shard_boxes.specs.Passes.{Speaks}
+use Rattle.shard_boxes.specs.inner.Steps.{TakenBy}
 use Rattle.shard_boxes.proofs.shard_box.take_from.Goals as goal
 
 pub take_if_full-requires-clause-rest : goal.take_if_full-requires-clause-rest

@@ -5,7 +5,7 @@ use Rattle.std.proofs.lemmas.List.{append-nil}
 use Rattle.std.specs.List.{AllByRecursion}
 use Rattle.split_engine.specs.declared.few.TheConstants.{MOST_KEYS}
 use Rattle.split_engine.specs.Serial.{acts_at, reply, IsWithin}
-use Rattle.split_engine.specs.Serving.{commit}
+use Rattle.split_engine.specs.inner.Commits.{commit}
 use Rattle.split_engine.specs.inner.Phases.{HasPerformed}
 use Rattle.split_engine.proofs.Splits.{length-acts}
 use Rattle.split_engine.proofs.Works.{all_at, performed_both, performed_none, performed_one}

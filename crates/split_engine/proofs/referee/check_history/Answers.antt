@@ -5,7 +5,8 @@ use Rattle.std.proofs.lemmas.List.{take_all}
 use Rattle.std.specs.List.{AllByRecursion}
 use Rattle.split_engine.specs.declared.few.TheConstants.{MOST_KEYS}
 use Rattle.split_engine.specs.Serving.{lists, request_at}
-use Rattle.split_engine.specs.Checking.{AreMarks, IsRightLine, after_line, lines_replay, after_lines}
+use Rattle.split_engine.specs.Checking.{IsRightLine, after_line, lines_replay, after_lines}
+use Rattle.split_engine.specs.inner.Marking.{AreMarks}
 use Rattle.split_engine.proofs.Lines.{marks_at_first, all_had, lines_push, after_push}
 use Rattle.split_engine.proofs.Works.{get_is}
 use Rattle.split_engine.proofs.referee.check_history.Goals as goal

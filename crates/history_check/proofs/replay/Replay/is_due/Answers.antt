@@ -4,7 +4,7 @@ use Rattle.auction_rows.specs.Replies.{next, reply}
 use Rattle.item_shards.specs.declared.serial.SerialAuction.{SerialAuction}
 use Rattle.item_shards.specs.Serial.{HoldsBook, serial_opening}
 use Rattle.history_check.specs.declared.replay.Replay.{Replay}
-use Rattle.history_check.specs.Taking.{HasCompared}
+use Rattle.history_check.specs.inner.Replaying.{HasCompared}
 use Rattle.history_check.proofs.replay.Replay.is_due.Goals as goal
 
 -- what changes with the reply that was due is not the auction

@@ -2,7 +2,7 @@ use Rattle.std.proofs.Common.{◌∙◌, sym, ap, subst, refl}
 use Rattle.std.proofs.lemmas.Bool.{false≢true}
 use Rattle.auction_rows.specs.declared.replies.Reply.{Reply}
 use Rattle.auction_text.specs.Replies.{reply_text}
-use Rattle.history_check.specs.Taking.{HasCompared}
+use Rattle.history_check.specs.inner.Replaying.{HasCompared}
 use Rattle.history_check.proofs.replay.Replay.is_seen.Goals as goal
 
 pub returns-then-is_of-clause-compared : goal.returns-then-is_of-clause-compared

@@ -4,7 +4,7 @@ use Rattle.std.proofs.lemmas.Bool.{false≢true}
 use Rattle.auction_rows.specs.StoreReplies.{reply_of}
 use Rattle.auction_rows.specs.declared.replies.Reply.{Reply}
 use Rattle.history_check.specs.declared.lines.Wrong.TheVariants.{Due}
-use Rattle.history_check.specs.Taking.{HasCompared}
+use Rattle.history_check.specs.inner.Replaying.{HasCompared}
 use Rattle.history_check.proofs.replay.Replay.is_stored.Goals as goal
 
 pub returns-then-is_of_store-clause-compared : goal.returns-then-is_of_store-clause-compared

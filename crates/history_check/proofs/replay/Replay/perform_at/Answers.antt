@@ -9,10 +9,11 @@ use Rattle.auction_rows.specs.Replies.{reply, next}
 use Rattle.item_shards.specs.Serial.{HoldsBook, serial_opening}
 use Rattle.history_check.specs.declared.lines.Wrong.{Wrong}
 use Rattle.history_check.specs.Checking.{IsWrong}
-use Rattle.history_check.specs.Taking.{HasCompared, HasTaken}
+use Rattle.history_check.specs.Taking.{HasTaken}
+use Rattle.history_check.specs.inner.Replaying.{HasCompared, is_late}
 use Rattle.history_check.specs.Scripts.{is_of, request_at}
 use Rattle.history_check.specs.CommitIds.{entry_with_id}
-use Rattle.history_check.specs.Orders.{is_late, MayPrecede}
+use Rattle.history_check.specs.Orders.{MayPrecede}
 use Rattle.history_check.specs.Marks.{is_marked}
 use Rattle.history_check.proofs.ScriptLemmas.{worker_below, index_below}
 use Rattle.history_check.proofs.EntryLemmas.{book_more, not_many_more, well_more, marks_more}

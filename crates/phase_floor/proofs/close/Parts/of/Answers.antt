@@ -5,7 +5,7 @@ use Rattle.std.specs.Vec.Iter.{into_iter_items}
 use Rattle.phase_laws.proofs.OrderLemmas.{all_push}
 use Rattle.shard_boxes.proofs.Each.{drop_next, at_head}
 use Rattle.closing_laws.specs.Phases.{no_receipt}
-use Rattle.phase_floor.specs.Closings.{ArePartsOf, IsFinished, slices_kept}
+use Rattle.phase_floor.specs.inner.Parts.{ArePartsOf, IsFinished, slices_kept}
 use Rattle.phase_floor.proofs.PartLemmas.{kept_next, parts_next}
 use Rattle.phase_floor.proofs.close.Parts.of.Goals as goal
 

@@ -5,7 +5,8 @@ use Rattle.auction_rows.specs.Requests.{same_object}
 use Rattle.worker_slices.specs.Slicing.{hot_objects}
 use Rattle.worker_slices.specs.Stashes.{StashState}
 use Rattle.worker_slices.proofs.Places.{distinct_objects}
-use Rattle.phase_floor.specs.Begins.{HaveStashRoom, IsTooLong}
+use Rattle.phase_floor.specs.Begins.{IsTooLong}
+use Rattle.phase_floor.specs.inner.Kits.{HaveStashRoom}
 use Rattle.phase_floor.specs.Floors.{AreBegun}
 use Rattle.phase_floor.specs.States.{JoinedState, DoAllExist, states_of}
 use Rattle.phase_floor.proofs.BeginLemmas.{fits, not_too_long, own_stashes, split_memory, split_too_long, split_unknown, too_long}

@@ -5,7 +5,8 @@ use Rattle.phase_transactions.specs.declared.deeds.Written.{Written}
 use Rattle.phase_transactions.specs.inner.Begun.{step_of}
 use Rattle.phase_transactions.specs.inner.Deeds.{written_of}
 use Rattle.worker_slices.specs.Homes.{IsWrittenAt}
-use Rattle.phase_transactions.specs.Putting.{HasPutAll, written_acts}
+use Rattle.phase_transactions.specs.Putting.{HasPutAll}
+use Rattle.phase_transactions.specs.inner.HeldShards.{written_acts}
 use Rattle.phase_transactions.specs.inner.Takens.{held_in, numbers_of, is_one_of, dealt, line_among, CanBeDoneOnAll}
 use Rattle.worker_slices.specs.Counting.{IsOwn}
 use Rattle.phase_transactions.specs.Workers.{WorkerState, after_commit}

@@ -3,8 +3,7 @@ use Rattle.shard_boxes.specs.States.{ShardState, state_of}
 use Rattle.shard_boxes.specs.Lines.{Line, after_lines}
 use Rattle.shard_boxes.specs.Keys.{SeatState, KeyState, seat_at, with_seat, put_seat}
 use Rattle.shard_boxes.specs.Helds.{MayPut}
-use Rattle.shard_boxes.specs.Passes.{GrantState}
-use Rattle.shard_boxes.specs.Rule.{start_of}
+use Rattle.shard_boxes.specs.Passes.{GrantState, start_of}
 use Rattle.shard_boxes.specs.Seats.{IsFor}
 use Rattle.shard_boxes.proofs.KeySteps.{read, key_after, put_seat_is}
 use Rattle.shard_boxes.proofs.GrantLemmas.{place_is}

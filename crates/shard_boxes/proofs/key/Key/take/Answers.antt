@@ -2,9 +2,8 @@ use Rattle.std.proofs.Common.{◌<◌, ◌++◌, true, ap, sym, ◌∙◌, subst
 use Rattle.shard_boxes.specs.declared.shard_box.Knowledge.{Knowledge}
 use Rattle.shard_boxes.specs.States.{state_of}
 use Rattle.shard_boxes.specs.Lines.{IsShardHistory, lines_of}
-use Rattle.shard_boxes.specs.Passes.{GrantState}
+use Rattle.shard_boxes.specs.Passes.{GrantState, start_of}
 use Rattle.shard_boxes.specs.Keys.{KeyState, SeatState, taking}
-use Rattle.shard_boxes.specs.Rule.{start_of}
 use Rattle.shard_boxes.specs.Seats.{own_of}
 use Rattle.shard_boxes.proofs.BoxSteps.{plus_zero}
 use Rattle.shard_boxes.proofs.KeySteps.{key_after, seen_after, holds_after, read}

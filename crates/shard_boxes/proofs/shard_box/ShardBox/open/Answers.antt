@@ -1,6 +1,5 @@
 use Rattle.std.proofs.Common.{sym, ap, subst}
-use Rattle.shard_boxes.specs.Passes.{GrantState}
-use Rattle.shard_boxes.specs.Rule.{IsSpare}
+use Rattle.shard_boxes.specs.Passes.{GrantState, IsSpare}
 use Rattle.shard_boxes.proofs.BoxSteps.{opens}
 use Rattle.shard_boxes.proofs.Carried.{carried}
 use Rattle.shard_boxes.proofs.shard_box.ShardBox.open.Goals as goal

@@ -3,8 +3,7 @@ use Rattle.shard_boxes.specs.declared.shard_box.Knowledge.{Knowledge}
 use Rattle.shard_boxes.specs.States.{state_of}
 use Rattle.shard_boxes.specs.Lines.{after_lines}
 use Rattle.shard_boxes.specs.Helds.{MayPut}
-use Rattle.shard_boxes.specs.Passes.{GrantState}
-use Rattle.shard_boxes.specs.Rule.{start_of}
+use Rattle.shard_boxes.specs.Passes.{GrantState, start_of}
 use Rattle.shard_boxes.proofs.BoxSteps.{puts}
 use Rattle.shard_boxes.proofs.Carried.{carried}
 use Rattle.shard_boxes.proofs.shard_box.ShardBox.put.Goals as goal

@@ -1,12 +1,12 @@
 -- The rule of one box, over what it has and the views of its passes.
-use Rattle.std.specs.Prelude.{◌≡◌, ℕ, ◌+◌, ◌<◌, ◌≤◌, ltb, cond, true, false, ◌⊎◌, List, [], ◌∷◌, ◌++◌, length, replicate, slice_index_or, Option, Some, None}
+use Rattle.std.specs.Prelude.{◌≡◌, ℕ, ◌+◌, ◌<◌, ◌≤◌, true, false, ◌⊎◌, List, [], ◌∷◌, length, slice_index_or}
 use mathlib.Core.Option.{some}
 use lib.ListN.{get_elem?}
 use Rattle.item_shards.specs.declared.shard.Shard.{Shard}
 use Rattle.shard_boxes.specs.declared.shard_box.Knowledge.{Knowledge}
-use Rattle.shard_boxes.specs.States.{ShardState, state_of, no_shard, IsWithin}
+use Rattle.shard_boxes.specs.States.{ShardState, state_of, IsWithin}
 use Rattle.shard_boxes.specs.Lines.{Line, after_lines, after_put, put_by, line_put, lines_of, MayFollow, StartsWith}
-use Rattle.shard_boxes.specs.Keys.{added, entries}
+use Rattle.shard_boxes.specs.Passes.{start_of, Speaks}
 
 -- each line may follow those before it, and its worker has a key
 abbrev pub AreLawful : ℕ → ShardState → List (ℕ × Line) → Type 0
@@ -22,36 +22,10 @@ pub record IsLawfulList (start : ShardState) (workers : ℕ) (lines : List (ℕ 
   -- counts and ratings fit after the lines
   pub within : IsWithin (after_lines start lines)
 
--- what a shard shows, if there is one
-abbrev pub shown : Option Shard → ShardState
-shown None = no_shard
-shown (Some shard) = state_of shard
-
--- the shard as the phase opened, as the pass knows it
-abbrev pub start_of : Knowledge → ShardState
-start_of v = shown v.start
-
--- the pass speaks for some worker
-abbrev pub Speaks : Knowledge → Type 0
-Speaks v = 0 < length v.own
-
 -- each worker's lines in the view are the list's
 abbrev pub HasParts : Knowledge → List (ℕ × Line) → Type 0
 HasParts v list =
     (i : ℕ) → i < length v.own → slice_index_or v.own i [] ≡ lines_of (v.first + i) list
-
--- the pass speaks for all workers of its phase
-pub record SpeaksForAll (v : Knowledge) : Type 0 where
-  -- its first worker is the first of all
-  pub from : v.first ≡ 0
-  -- its workers are all of them
-  pub all : length v.own ≡ v.workers
-  -- it speaks for some worker
-  pub some : Speaks v
-
--- the pass has the shard, and speaks for all workers: with another shard it can open a phase
-abbrev pub IsSpare : Knowledge → Type 0
-IsSpare v = SpeaksForAll v × (v.holds ≡ true)
 
 -- one box, as its rule sees it
 pub record BoxState : Type 0 where
@@ -129,78 +103,3 @@ pub record BoxRule (items : List Shard) (views : List Knowledge) : Type 0 where
   pub place : IsIn box items views ⊎ IsOut box items views
   -- what each pass knows fits the box
   pub fits : (pass : ℕ) (v : Knowledge) → get_elem? views pass ≡ some v → FitsBox box pass v
-
--- the maker of a box is as after a phase of one worker, who did nothing
-abbrev pub maker : Knowledge
-maker = record { start = None; workers = 1; first = 0; own = [] ∷ []; seen = []; holds = true }
-
--- for so many workers of a phase, from this one on, who have done nothing
-abbrev pub ready : Option Shard → ℕ → ℕ → ℕ → Knowledge
-ready start workers first count = record {
-  start = start;
-  workers = workers;
-  first = first;
-  own = replicate count [];
-  seen = [];
-  holds = false;
-}
-
--- a phase of so many workers has opened with this shard
-abbrev pub opened : ℕ → Shard → Knowledge
-opened workers shard = ready (Some shard) workers 0 workers
-
--- a pass with view v takes the shard, and then has view w
-pub record TakenBy (v : Knowledge) (shard : Shard) (w : Knowledge) : Type 0 where
-  -- the pass has the shard, and may have seen more lines
-  pub view : w ≡ record v { seen = w.seen; holds = true }
-  -- the lines that the pass has seen are lawful
-  pub kept : IsLawfulList (start_of v) v.workers w.seen
-  -- the shard is the one with which the phase opened, after these lines
-  pub state : state_of shard ≡ after_lines (start_of v) w.seen
-  -- these lines begin with those that the pass had seen before
-  pub later : StartsWith w.seen v.seen
-  -- the pass knew its own workers' lines
-  pub own : HasParts v w.seen
-
--- each worker's lines, those of the first with more
-abbrev pub with_first : List (List Line) → List Line → List (List Line)
-with_first [] more = []
-with_first (l ∷ rest) more = (l ++ more) ∷ rest
-
--- the first worker for whom the pass speaks has put the shard back
-abbrev pub put : Knowledge → Option Line → Knowledge
-put v line = record v {
-  own = with_first v.own (added line);
-  seen = v.seen ++ entries v.first line;
-  holds = false;
-}
-
--- the lines of the first worker only
-abbrev pub head_of : List (List Line) → List (List Line)
-head_of [] = []
-head_of (l ∷ rest) = l ∷ []
-
--- the lines of all workers but the first
-abbrev pub tail_of : List (List Line) → List (List Line)
-tail_of [] = []
-tail_of (l ∷ rest) = rest
-
--- the pass speaks for the first worker only
-abbrev pub first_of : Knowledge → Knowledge
-first_of v = record v { own = head_of v.own }
-
--- the pass speaks for all its workers but the first
-abbrev pub rest_of : Knowledge → Knowledge
-rest_of v = record v { first = v.first + 1; own = tail_of v.own }
-
--- the longer one of two lists
-abbrev pub longer : List (ℕ × Line) → List (ℕ × Line) → List (ℕ × Line)
-longer a b = cond (ltb (length a) (length b)) b a
-
--- the pass speaks for the workers of both, and has seen what either has
-abbrev pub joined : Knowledge → Knowledge → Knowledge
-joined v w = record v { own = v.own ++ w.own; seen = longer v.seen w.seen }
-
--- a pass that speaks for nobody
-abbrev pub spent : Knowledge
-spent = ready None 0 0 0

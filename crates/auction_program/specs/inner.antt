@@ -1,0 +1,3 @@
+-- What no contract of a public function names.
+pub mod Views
+pub mod Performing

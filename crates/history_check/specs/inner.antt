@@ -1,0 +1,4 @@
+-- What no contract of a public function names.
+pub mod Reading
+pub mod MarkRows
+pub mod Replaying
