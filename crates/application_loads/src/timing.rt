@@ -1,6 +1,5 @@
 //! How long a run takes.
-ghost use Rattle.std.specs.Prelude.{IfOk};
-ghost use Rattle.std.specs.List.{AllByRecursion};
+ghost use Rattle.std.specs.{List.{AllByRecursion}, Prelude.{IfOk}};
 
 use anyhow::Result;
 use split_engine::{Application, Outcome, Policy, check_scripts, run};

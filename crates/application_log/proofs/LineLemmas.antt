@@ -1,11 +1,8 @@
 -- Where a line ends.
 use Rattle.std.proofs.Common.{◌≡◌, ◌≢◌, ◌⊎◌, inl, inr, ◌==◌, ℕ, ◌-◌, Bool, true, false, true≢false, cond, List, [], ◌∷◌, ◌++◌, length, length-append, take, drop, Option, None, Some, IfSome, Result, Ok, Err, IsErr, IsErrAnd, IfErr, All, refl, sym, ap, ◌∙◌, subst, arith}
-use Rattle.std.proofs.Math.Seq.{take-append_seam}
-use Rattle.std.proofs.lemmas.Bool.{eqb-true, eqb-false}
-use Rattle.std.proofs.lemmas.List.{append_cancel_right}
-use Rattle.std.proofs.lemmas.List.Elements.{recursion_from_All}
-use Rattle.std.specs.Io.{appended_bytes, StopsAt}
-use Rattle.std.specs.Io.BufRead.{take_through, drop_through}
+use Rattle.std.proofs.{Math.Seq.{take-append_seam}, lemmas.Bool.{eqb-true, eqb-false}}
+use Rattle.std.proofs.lemmas.List.{Elements.{recursion_from_All}, append_cancel_right}
+use Rattle.std.specs.Io.{BufRead.{take_through, drop_through}, appended_bytes, StopsAt}
 use Rattle.application_log.specs.Lines.{HasNoEnd, IsWritten}
 
 -- what is read of some bytes through the first line's end: all of them, if there is none; or a line

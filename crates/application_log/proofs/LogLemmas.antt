@@ -1,25 +1,21 @@
 -- Texts of requests, and the tables that they leave.
 use Rattle.std.proofs.Common.{◌≡◌, inl, inr, ◌+◌, ◌-◌, ◌≤◌, ◌<◌, ℕ, zero, suc, List, [], ◌∷◌, ◌++◌, length, length-append, length-set, take, drop, ◌^◌, append_assoc, get_or, true, false, Option, None, Some, IfSome, refl, sym, ap, ◌∙◌, subst, arith}
-use Rattle.std.proofs.Math.Numerals.{add-one}
-use Rattle.std.proofs.Math.Seq.{take-append-add, take-suc}
-use Rattle.std.proofs.KnownBytes.{Appends-nil}
-use Rattle.std.proofs.lemmas.Bool.{cases_lt}
+use Rattle.std.proofs.{KnownBytes.{Appends-nil}, Math.Numerals.{add-one}}
+use Rattle.std.proofs.{Math.Seq.{take-append-add, take-suc}, lemmas.Bool.{cases_lt}}
 use Rattle.std.proofs.lemmas.Grind.{flat_map-append}
 use Rattle.std.proofs.lemmas.List.{append-nil, take-append-drop, take-append-le}
-use Rattle.std.proofs.lemmas.List.Elements.{filter_map-append}
-use Rattle.std.proofs.lemmas.List.Sums.{fold-append}
-use Rattle.std.specs.Io.KnownBytes.{Appends}
-use Rattle.std.specs.List.{zip, cons_option, flat_map, AllByRecursion}
+use Rattle.std.proofs.lemmas.List.{Elements.{filter_map-append}, Sums.{fold-append}}
+use Rattle.std.specs.{Io.KnownBytes.{Appends}, List.{zip, cons_option, flat_map, AllByRecursion}}
 use Rattle.split_engine.specs.Rules.{Rules, looks_in}
-use Rattle.split_engine.specs.declared.entry.Entry.{Entry}
 use Rattle.split_engine.specs.Serial.{next, looks_at, after_act, after_acts, table_after, IsWithin}
-use Rattle.application_log.specs.declared.loggable.TheConstants.{MOST_LINES}
-use Rattle.application_log.specs.declared.opening.OpenFault.{OpenFault}
-use Rattle.application_log.specs.declared.opening.OpenFault.TheVariants.{NoRequest, NoSuchKey, TooLong, Read, Memory}
+use Rattle.split_engine.specs.declared.entry.Entry.{Entry}
+use Rattle.application_log.proofs.LineLemmas.{no_line, same_line, unwritten, written}
 use Rattle.application_log.specs.Faults.{HasLine, IsForMemory, IsOpenFault}
 use Rattle.application_log.specs.Lines.{HasNoEnd, IsWritten, text_of}
 use Rattle.application_log.specs.Logs.{after_requests, lines_of, log_text, requests_of, HasOpened, IsReadBack}
-use Rattle.application_log.proofs.LineLemmas.{no_line, same_line, unwritten, written}
+use Rattle.application_log.specs.declared.loggable.TheConstants.{MOST_LINES}
+use Rattle.application_log.specs.declared.opening.OpenFault.{OpenFault}
+use Rattle.application_log.specs.declared.opening.OpenFault.TheVariants.{NoRequest, NoSuchKey, TooLong, Read, Memory}
 
 pub text_of-append : (xs ys : List (List ℕ)) → text_of (xs ++ ys) ≡ text_of xs ++ text_of ys
 text_of-append [] ys = refl

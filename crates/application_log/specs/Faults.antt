@@ -1,16 +1,14 @@
 -- Why commits were not logged, and why a log opens no table.
-use Rattle.std.specs.Prelude.{◌≡◌, ◌⊎◌, ◌≤◌, ◌+◌, ◌^◌, ℕ, Bool, List, ◌∷◌, ◌++◌, Option, Some, length, ⊤}
 use Rattle.std.specs.List.{AllByRecursion}
+use Rattle.std.specs.Prelude.{◌≡◌, ◌⊎◌, ◌≤◌, ◌+◌, ◌^◌, ℕ, Bool, List, ◌∷◌, ◌++◌, Option, Some, length, ⊤}
 use Rattle.part_log.specs.Files.{IsEndedAfter, IsFoundAfter}
-use Rattle.split_engine.specs.Rules.{Rules}
-use Rattle.split_engine.specs.Serial.{IsWithin}
+use Rattle.split_engine.specs.{Rules.{Rules}, Serial.{IsWithin}}
+use Rattle.application_log.specs.{Lines.{HasNoEnd}, Logs.{log_text, IsReadBack}}
 use Rattle.application_log.specs.declared.commit_log.CommitFault.{CommitFault}
-use Rattle.application_log.specs.declared.commit_log.CommitFault.TheVariants as commit
+use Rattle.application_log.specs.declared.loggable.TheConstants.{MOST_LINES}
 use Rattle.application_log.specs.declared.opening.OpenFault.{OpenFault}
 use Rattle.application_log.specs.declared.opening.OpenFault.TheVariants.{NoRequest, NoSuchKey, TooLong, Read, Memory}
-use Rattle.application_log.specs.declared.loggable.TheConstants.{MOST_LINES}
-use Rattle.application_log.specs.Lines.{HasNoEnd}
-use Rattle.application_log.specs.Logs.{log_text, IsReadBack}
+use Rattle.application_log.specs.declared.commit_log.CommitFault.TheVariants as commit
 
 -- whether a fault is one of the log
 abbrev pub IsOfLog : CommitFault → Type 0

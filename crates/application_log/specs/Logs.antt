@@ -1,9 +1,7 @@
 -- What a log of requests says, and which table it opens.
-use Rattle.std.specs.Prelude.{◌≡◌, ℕ, List, ◌++◌, Option, Some, fold, length, map}
 use Rattle.std.specs.List.{filter_map, AllByRecursion}
-use Rattle.split_engine.specs.declared.entry.Entry.{Entry}
-use Rattle.split_engine.specs.Rules.{Rules}
-use Rattle.split_engine.specs.Serial.{next}
+use Rattle.std.specs.Prelude.{◌≡◌, ℕ, List, ◌++◌, Option, Some, fold, length, map}
+use Rattle.split_engine.specs.{Rules.{Rules}, Serial.{next}, declared.entry.Entry.{Entry}}
 use Rattle.application_log.specs.Lines.{HasNoEnd, text_of}
 
 -- the requests of a history

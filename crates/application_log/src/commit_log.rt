@@ -1,9 +1,8 @@
 //! A log of commits: the lines of a part are put by with one call.
+ghost use Rattle.std.specs.{Io.KnownBytes.{Appends, Keeps}, List.{AllByRecursion}};
 ghost use Rattle.std.specs.Prelude.{◌≡◌, ◌+◌, ◌<◌, ◌++◌, false, IsErr, OnOk, IfOk, IfErr, length};
-ghost use Rattle.std.specs.List.{AllByRecursion};
-ghost use Rattle.std.specs.Io.KnownBytes.{Appends, Keeps};
-ghost use Rattle.application_log.specs.Logs.{lines_of, log_text, requests_of};
 ghost use Rattle.application_log.specs.Faults.{HasNoRoom, IsEndedBy, IsFoundBy, IsOfLog};
+ghost use Rattle.application_log.specs.Logs.{lines_of, log_text, requests_of};
 
 use crate::loggable::{Loggable, MOST_LINES};
 use part_log::{Log, LogFault};

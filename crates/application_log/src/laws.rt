@@ -1,13 +1,12 @@
 //! Why what is acknowledged is there after a restart.
+ghost use Rattle.std.specs.{Io.KnownBytes.{Appends}, List.{AllByRecursion}};
 ghost use Rattle.std.specs.Prelude.{◌≡◌, ◌++◌, ◌<◌, ◌^◌, ℕ, List, Option, take, length};
-ghost use Rattle.std.specs.List.{AllByRecursion};
-ghost use Rattle.std.specs.Io.KnownBytes.{Appends};
-ghost use Rattle.split_engine.specs.declared.entry.Entry.{Entry as Commit};
 ghost use Rattle.split_engine.specs.Serial.{IsWithin, table_after};
-ghost use Rattle.application_log.specs.declared.loggable.TheConstants.{MOST_LINES};
-ghost use Rattle.application_log.specs.declared.opening.OpenFault.{OpenFault};
+ghost use Rattle.split_engine.specs.declared.entry.Entry.{Entry as Commit};
 ghost use Rattle.application_log.specs.Faults.{IsForMemory, IsOpenFault};
 ghost use Rattle.application_log.specs.Logs.{lines_of, log_text, requests_of, Opens};
+ghost use Rattle.application_log.specs.declared.loggable.TheConstants.{MOST_LINES};
+ghost use Rattle.application_log.specs.declared.opening.OpenFault.{OpenFault};
 
 use crate::loggable::Loggable;
 

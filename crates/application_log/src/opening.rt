@@ -1,11 +1,10 @@
 //! What a log opens.
-ghost use Rattle.std.specs.Prelude.{◌≡◌, ◌+◌, ◌*◌, ◌<◌, ◌≤◌, ◌++◌, ◌∷◌, [], ℕ, List, Some, IfErr, IfOk, IfSome, OnOk, length};
 ghost use Rattle.std.specs.List.{AllByRecursion};
+ghost use Rattle.std.specs.Prelude.{◌≡◌, ◌+◌, ◌*◌, ◌<◌, ◌≤◌, ◌++◌, ◌∷◌, [], ℕ, List, Some, IfErr, IfOk, IfSome, OnOk, length};
 ghost use Rattle.part_log.specs.Files.{HoldsSoMany};
 ghost use Rattle.split_engine.specs.Rules.{most_acts, most_before};
-ghost use Rattle.application_log.specs.Lines.{HasNoEnd};
+ghost use Rattle.application_log.specs.{Faults.{IsOpenFault}, Lines.{HasNoEnd}};
 ghost use Rattle.application_log.specs.Logs.{HasOpened, Opens, log_text};
-ghost use Rattle.application_log.specs.Faults.{IsOpenFault};
 
 use crate::loggable::{Loggable, MOST_LINES};
 use crate::reading::{is_within, read_whole_line, request_of};

@@ -1,6 +1,6 @@
 //! How a log is read: line by line, each as the request whose line it is.
-ghost use Rattle.std.specs.Prelude.{◌≡◌, ◌<◌, ◌++◌, ◌∷◌, List, ℕ, true, false, Some, IfErr, IfOk, IfSome};
 ghost use Rattle.std.specs.List.{AllByRecursion};
+ghost use Rattle.std.specs.Prelude.{◌≡◌, ◌<◌, ◌++◌, ◌∷◌, List, ℕ, true, false, Some, IfErr, IfOk, IfSome};
 ghost use Rattle.std.specs.declared.io.Error.{Error as IoError};
 ghost use Rattle.split_engine.specs.Serial.{IsWithin};
 ghost use Rattle.application_log.specs.Lines.{HasNoEnd};

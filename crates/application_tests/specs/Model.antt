@@ -1,14 +1,12 @@
 -- Counters as their model has them, and why additions may be done on slices.
-use Rattle.std.specs.Prelude.{◌≡◌, ℕ, ◌+◌, ◌*◌, ◌≤◌, min, Bool, true, false, List, [], ◌∷◌}
-use Rattle.std.specs.List.{AllByRecursion}
 use Rattle.std.proofs.Common.{true≢false, refl, sym, arith}
-use Rattle.std.proofs.Math.Nat.{add_assoc, add_right_comm, add-zero}
-use Rattle.split_engine.specs.declared.entry.Decision.{Decision}
-use Rattle.split_engine.specs.Rules.{Rules, SplitLaws}
-use Rattle.application_tests.specs.declared.counters.CounterRequest.{CounterRequest}
-use Rattle.application_tests.specs.declared.counters.CounterRequest.TheVariants.{Add, Read, Least, Unknown}
+use Rattle.std.{proofs.Math.Nat.{add_assoc, add_right_comm, add-zero}, specs.List.{AllByRecursion}}
+use Rattle.std.specs.Prelude.{◌≡◌, ℕ, ◌+◌, ◌*◌, ◌≤◌, min, Bool, true, false, List, [], ◌∷◌}
+use Rattle.split_engine.specs.{Rules.{Rules, SplitLaws}, declared.entry.Decision.{Decision}}
 use Rattle.application_tests.specs.declared.counters.CounterReply.{CounterReply}
 use Rattle.application_tests.specs.declared.counters.CounterReply.TheVariants.{Added, Shows, Refused}
+use Rattle.application_tests.specs.declared.counters.CounterRequest.{CounterRequest}
+use Rattle.application_tests.specs.declared.counters.CounterRequest.TheVariants.{Add, Read, Least, Unknown}
 
 abbrev pub decided : CounterReply → List ℕ → Decision CounterReply ℕ
 decided reply acts = record { reply = reply; acts = acts }

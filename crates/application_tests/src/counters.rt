@@ -1,7 +1,7 @@
 //! Counters, each a number with no operation but addition.
 ghost use Rattle.std.specs.Prelude.{◌≡◌, [], ◌*◌, ◌≤◌};
-ghost use Rattle.application_tests.specs.declared.counters.CounterReply.TheVariants.{Shows};
 ghost use Rattle.application_tests.specs.Model.{decided};
+ghost use Rattle.application_tests.specs.declared.counters.CounterReply.TheVariants.{Shows};
 
 use split_engine::{Application, Checkable, Decision, Few};
 

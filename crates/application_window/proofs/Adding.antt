@@ -1,12 +1,10 @@
 -- The exchange that adds a part keeps the rule.
 use Rattle.std.proofs.Common.{◌≡◌, ℕ, ◌+◌, ◌<◌, ◌==◌, Bool, true, false, List, [], ◌∷◌, ◌++◌, length, refl, ap, sym, subst, arith, inl, length-append, None}
-use Rattle.std.proofs.lemmas.List.{append-nil}
-use Rattle.std.proofs.lemmas.Bool.Decides.{nat_tests}
+use Rattle.std.proofs.lemmas.{Bool.Decides.{nat_tests}, List.{append-nil}}
 use mathlib.Core.List.{IsPrefix}
 use prog.Atomic.{either}
 use Rattle.logbook.specs.Pages.{Cell, cell, keeps, no_nib, step, Moves, Goes}
-use Rattle.application_window.specs.inner.PartRule.{IsKept, Adds}
-use Rattle.application_window.proofs.Prefixes.{prefix_whole}
+use Rattle.application_window.{proofs.Prefixes.{prefix_whole}, specs.inner.PartRule.{IsKept, Adds}}
 
 abbrev pub shown : {E : Type 0} → List E → List E
 shown log = []

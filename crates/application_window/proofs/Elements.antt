@@ -1,9 +1,7 @@
 -- Lists, element by element.
 use Rattle.std.proofs.Common.{◌≡◌, ℕ, zero, suc, ◌+◌, ◌<◌, List, [], ◌∷◌, ◌++◌, length, take, get_or, refl, sym, ap, ◌∙◌, subst, arith}
-use Rattle.std.specs.List.{AllByRecursion}
-use Rattle.std.proofs.lemmas.List.{take_more, length-set}
-use Rattle.split_engine.specs.Rules.{Rules}
-use Rattle.split_engine.specs.Serial.{after_act, after_acts}
+use Rattle.std.{proofs.lemmas.List.{take_more, length-set}, specs.List.{AllByRecursion}}
+use Rattle.split_engine.specs.{Rules.{Rules}, Serial.{after_act, after_acts}}
 
 -- what holds of all elements and of one more
 all_more : {X : Type 0} (P : X → Type 0) (xs : List X) (x : X) → AllByRecursion P xs → P x → AllByRecursion P (xs ++ x ∷ [])

@@ -1,18 +1,14 @@
 -- One part more.
 use Rattle.std.proofs.Common.{◌≡◌, ℕ, suc, ◌+◌, ◌-◌, ◌*◌, ◌/◌, ◌<◌, ◌≤◌, List, [], ◌∷◌, ◌++◌, length, take, get_or, refl, ap, sym, ◌∙◌, subst, arith, length-append}
 use mathlib.Core.List.{IsPrefix}
+use Rattle.std.{proofs.lemmas.List.{Elements.{All-push}, take_more}, specs.List.{AllByRecursion}}
 use Rattle.std.specs.Prelude.{fold, All, Result, Ok, Err, OnOk, OnErr, MatchResult}
-use Rattle.std.specs.List.{AllByRecursion}
-use Rattle.std.proofs.lemmas.List.{take_more}
-use Rattle.std.proofs.lemmas.List.Elements.{All-push}
-use Rattle.split_engine.specs.declared.entry.Entry.{Entry}
-use Rattle.split_engine.specs.Rules.{Rules, most_acts}
-use Rattle.split_engine.specs.Serial.{acts_at, next, table_after}
-use Rattle.split_engine.specs.Serving.{total}
+use Rattle.split_engine.specs.{Rules.{Rules, most_acts}, Serial.{acts_at, next, table_after}}
+use Rattle.split_engine.specs.{Serving.{total}, declared.entry.Entry.{Entry}}
+use Rattle.application_window.proofs.Elements.{length-acts}
+use Rattle.application_window.proofs.Prefixes.{prefix_shorter, prefix_whole}
 use Rattle.application_window.specs.Published.{table_of, AreWithin}
 use Rattle.application_window.specs.inner.Copies.{HasParts, IsLastPart}
-use Rattle.application_window.proofs.Prefixes.{prefix_shorter, prefix_whole}
-use Rattle.application_window.proofs.Elements.{length-acts}
 
 -- a prefix with one part less is the parts before the last
 pub before_last : {E : Type 0} (old new before : List (List E)) (last : List E) → new ≡ before ++ last ∷ [] → IsPrefix old new → length new ≡ suc (length old) → before ≡ old

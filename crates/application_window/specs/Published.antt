@@ -1,11 +1,9 @@
 -- Published parts of a history, and what windows show of them.
-use Rattle.std.specs.Prelude.{◌≡◌, ◌⊎◌, ℕ, ◌-◌, ◌/◌, ◌<◌, Bool, true, List, length, fold}
 use Rattle.std.specs.List.{AllByRecursion}
+use Rattle.std.specs.Prelude.{◌≡◌, ◌⊎◌, ℕ, ◌-◌, ◌/◌, ◌<◌, Bool, true, List, length, fold}
 use mathlib.Core.List.{IsPrefix}
-use Rattle.split_engine.specs.declared.entry.Entry.{Entry}
-use Rattle.split_engine.specs.Rules.{Rules, most_acts}
-use Rattle.split_engine.specs.declared.few.TheConstants.{MOST_KEYS}
-use Rattle.split_engine.specs.Serial.{IsWithin, table_after}
+use Rattle.split_engine.specs.{Rules.{Rules, most_acts}, Serial.{IsWithin, table_after}}
+use Rattle.split_engine.specs.declared.{entry.Entry.{Entry}, few.TheConstants.{MOST_KEYS}}
 use Rattle.application_window.specs.declared.publisher.PublishFault.{PublishFault}
 use Rattle.application_window.specs.declared.publisher.PublishFault.TheVariants.{NoSuchKey, Full, Memory}
 

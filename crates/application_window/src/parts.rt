@@ -3,8 +3,7 @@
 //! word, its length, and each part is added by an exchange of that word.
 ghost use mathlib.Core.List.{IsPrefix};
 ghost use Rattle.std.specs.Prelude.{◌≡◌, [], ◌+◌, ◌==◌, ◌<◌, ◌++◌, ◌∷◌, ◌⊎◌, length, MatchBool};
-ghost use Rattle.application_window.specs.inner.PartRule.{head_of};
-ghost use Rattle.application_window.specs.Published.{AreComparable};
+ghost use Rattle.application_window.specs.{Published.{AreComparable}, inner.PartRule.{head_of}};
 
 use logbook::{Gain, Offer, Plain, Play, Rule, Seen as Reached, Start, Word};
 use split_engine::{Application, Entry};

@@ -1,7 +1,7 @@
 //! The table that windows read, of which there are two copies, and how a copy takes in one part
 //! more.
-ghost use Rattle.std.specs.Prelude.{◌≡◌, ℕ, ◌++◌, ◌∷◌, ◌+◌, ◌*◌, ◌<◌, ◌≤◌, [], List, true, false, length, IfSome};
 ghost use Rattle.std.specs.List.{AllByRecursion};
+ghost use Rattle.std.specs.Prelude.{◌≡◌, ℕ, ◌++◌, ◌∷◌, ◌+◌, ◌*◌, ◌<◌, ◌≤◌, [], List, true, false, length, IfSome};
 ghost use mathlib.Core.List.{IsPrefix};
 ghost use Rattle.split_engine.specs.Rules.{most_acts};
 ghost use Rattle.split_engine.specs.Serial.{IsWithin, table_after, record_at, looks_at, reply};

@@ -1,8 +1,7 @@
 //! What readers beside a publisher hold.
 ghost use Rattle.std.specs.Prelude.{◌≡◌, ◌⊎◌, ◌↔◌, ◌<◌, ◌≤◌, List, length, Ok, None, IfOk, OnErr, IfSome, IfNone};
 ghost use mathlib.Core.List.{IsPrefix};
-ghost use Rattle.split_engine.specs.Serial.{IsWithin, record_at, reply};
-ghost use Rattle.split_engine.specs.Serving.{total};
+ghost use Rattle.split_engine.specs.{Serial.{IsWithin, record_at, reply}, Serving.{total}};
 ghost use Rattle.application_window.specs.Published.{table_of};
 
 use crate::parts::{Prefix, WindowName};

@@ -1,10 +1,8 @@
 -- What is said of an input, from what its parts answered.
 use Rattle.std.proofs.Common.{◌≡◌, ℕ, ◌<◌, List, length, Option, IfSome, Result, Ok, Err, sym, ap, subst, ◌∙◌}
-use Rattle.std.specs.Prelude.{◌↔◌}
-use Rattle.std.specs.Result.{IsErr, IsErrAnd}
-use Rattle.std.proofs.lemmas.Option.{IfSome_then}
-use Rattle.auction_rows.specs.declared.{limits.Policy.Policy, values.Opening.Opening, requests.Request.Request, requests.Opened.Opened}
+use Rattle.std.{proofs.lemmas.Option.{IfSome_then}, specs.{Prelude.{◌↔◌}, Result.{IsErr, IsErrAnd}}}
 use Rattle.auction_rows.specs.Book.{Book}
+use Rattle.auction_rows.specs.declared.{limits.Policy.Policy, values.Opening.Opening, requests.Request.Request, requests.Opened.Opened}
 use Rattle.auction_text.specs.Scripts.{input_of}
 use Rattle.item_shards.specs.OpeningRows.{AreRows, IsFirstBad, IsTooLong, opening_rows}
 use Rattle.item_shards.specs.declared.openings.ResumeFault.{ResumeFault}
@@ -12,16 +10,15 @@ use Rattle.item_shards.specs.declared.openings.ResumeFault.TheVariants as resume
 use Rattle.run_laws.specs.Answers.{IsAnswer}
 use Rattle.byte_texts.specs.declared.writing.WriteFault.{WriteFault}
 use Rattle.program_opening.specs.Options.{commits_text, opening_asked, policy_of}
-use Rattle.auction_program.specs.Execution.{added_text, Answers, IsAllowed, IsCausedBy, IsNotRun, IsRefused, OfInput}
-use Rattle.auction_program.specs.inner.Performing.{IsNotPerformed, Performs}
-use Rattle.auction_run.specs.Beginning.{HaveWorkers, HasShards, HasQuotas, AreShort}
-use Rattle.auction_run.specs.Phases.{HaveMetLastNumber, hot_sets}
-use Rattle.auction_run.specs.RunFault.{RunFault}
-use Rattle.auction_run.specs.RunFault.TheVariants as run
 use Rattle.program_opening.specs.declared.faults.Fault.{Fault}
 use Rattle.program_opening.specs.declared.faults.Fault.TheVariants.{Usage, Read, Resume, Row, Make, Run, Limit, Write, Report, OpenLog, Log}
 use Rattle.program_opening.specs.declared.options.Options.{Options}
+use Rattle.auction_program.specs.Execution.{added_text, Answers, IsAllowed, IsCausedBy, IsNotRun, IsRefused, OfInput}
 use Rattle.auction_program.specs.declared.execution.Performed.{Performed}
+use Rattle.auction_program.specs.inner.Performing.{IsNotPerformed, Performs}
+use Rattle.auction_run.specs.Beginning.{HaveWorkers, HasShards, HasQuotas, AreShort}
+use Rattle.auction_run.specs.{Phases.{HaveMetLastNumber, hot_sets}, RunFault.{RunFault}}
+use Rattle.auction_run.specs.RunFault.TheVariants as run
 
 pub is_error : {T E : Type 0} (r : Result T E) (e x : E) → IsErr r × IsErrAnd r (λ y. y ≡ e) → r ≡ Err x → x ≡ e
 is_error (Ok t) e x is same = absurd (let no = same in cc)

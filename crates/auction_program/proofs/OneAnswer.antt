@@ -1,16 +1,12 @@
 -- With one worker an input has one answer.
 use Rattle.std.proofs.Common.{◌≡◌, ℕ, List, [], ◌∷◌, length, map, false, Result, Ok, Err, sym, ap, subst, ◌∙◌, arith}
-use Rattle.std.specs.List.{range_with_len}
-use Rattle.std.proofs.lemmas.List.FromFn.{length-map-range_with_len}
-use Rattle.auction_rows.specs.declared.{limits.Policy.Policy, values.Opening.Opening, requests.Object.Object, requests.Request.Request, requests.Opened.Opened, rows.Entry.Entry}
+use Rattle.std.{proofs.lemmas.List.FromFn.{length-map-range_with_len}, specs.List.{range_with_len}}
 use Rattle.auction_rows.specs.Book.{Book}
-use Rattle.auction_text.specs.Records.{and_then}
+use Rattle.auction_rows.specs.declared.{limits.Policy.Policy, values.Opening.Opening, requests.Object.Object, requests.Request.Request, requests.Opened.Opened, rows.Entry.Entry}
+use Rattle.auction_text.specs.{ReadFault.{ReadFault}, Record.{Record}, Records.{and_then}}
 use Rattle.auction_text.specs.Scripts.{Asked, asked_in, read_records, records_of, script}
-use Rattle.auction_text.specs.ReadFault.{ReadFault}
-use Rattle.auction_text.specs.Record.{Record}
 use Rattle.item_shards.specs.OpeningRows.{opening_rows}
-use Rattle.run_laws.specs.Answers.{IsAnswer}
-use Rattle.run_laws.proofs.OneWorkerLemmas.{same_history, same_hots}
+use Rattle.run_laws.{proofs.OneWorkerLemmas.{same_history, same_hots}, specs.Answers.{IsAnswer}}
 use Rattle.program_opening.specs.Options.{commits_text, opening_asked, policy_of}
 use Rattle.program_opening.specs.declared.options.Options.{Options}
 use Rattle.auction_program.specs.Execution.{added_text, IsAnsweredBy}

@@ -2,15 +2,11 @@
 use Rattle.std.proofs.Common.{◌≡◌, ℕ, zero, suc, ◌+◌, List, [], ◌∷◌, ◌++◌, Option, Result, Ok, Err, IfOk, IfSome, map, ap, sym, subst, ◌∙◌, arith}
 use base.Growing.{prefix_trans}
 use mathlib.Core.List.{IsPrefix}
-use Rattle.std.specs.List.{range_with_len}
-use Rattle.std.specs.Result.{result_ok}
-use Rattle.std.proofs.lemmas.List.{map-append}
+use Rattle.std.{proofs.lemmas.List.{map-append}, specs.{List.{range_with_len}, Result.{result_ok}}}
+use Rattle.auction_rows.specs.{Book.{Book}, Replies.{reply}}
 use Rattle.auction_rows.specs.declared.{values.Opening.Opening, requests.Request.Request, replies.Reply.Reply, rows.Row.Row}
-use Rattle.auction_rows.specs.Book.{Book}
-use Rattle.auction_rows.specs.Replies.{reply}
 use Rattle.phase_floor.specs.States.{JoinedState}
-use Rattle.auction_program.specs.Report.{views}
-use Rattle.auction_program.specs.inner.Views.{IsEnd}
+use Rattle.auction_program.specs.{Report.{views}, inner.Views.{IsEnd}}
 
 range_more : (a n : ℕ) → range_with_len a (suc n) ≡ range_with_len a n ++ (a + n) ∷ []
 range_more a zero = ap (λ k. k ∷ []) (omega arith)

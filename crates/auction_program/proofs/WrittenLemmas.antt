@@ -1,14 +1,12 @@
 -- Two texts, written one after the other.
 use Rattle.std.proofs.Common.{◌≡◌, Bool, true, if◌then◌else◌, Some, IfSome, ℕ, ◌≤◌, min, List, [], ◌++◌, Option, length, append-nil, sym, subst, ◌∙◌, ap, arith}
-use Rattle.std.proofs.lemmas.List.{take-append-le, take_min}
-use Rattle.std.specs.Io.KnownBytes.{Appends}
-use Rattle.auction_rows.specs.declared.{values.Opening.Opening, requests.Object.Object, rows.Entry.Entry}
+use Rattle.std.{proofs.lemmas.List.{take-append-le, take_min}, specs.Io.KnownBytes.{Appends}}
 use Rattle.auction_rows.specs.Book.{Book}
+use Rattle.auction_rows.specs.declared.{values.Opening.Opening, requests.Object.Object, rows.Entry.Entry}
 use Rattle.auction_text.specs.Report.{report_text}
 use Rattle.auction_text.specs.declared.writing.report.ReportLines.{ReportLines}
 use Rattle.byte_texts.specs.Writing.{IsPartWritten}
-use Rattle.auction_program.specs.Report.{report_of}
-use Rattle.auction_program.specs.inner.Views.{AreViews}
+use Rattle.auction_program.specs.{Report.{report_of}, inner.Views.{AreViews}}
 
 module _ (old new : Option (List ℕ)) (text added : List ℕ) where
   pub nothing_added : added ≡ [] → Appends old new text → Appends old new (text ++ added)

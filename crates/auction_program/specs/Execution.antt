@@ -1,25 +1,22 @@
 -- What the program answers.
-use Rattle.std.specs.Prelude.{ℕ, ◌≡◌, ◌<◌, ◌⊎◌, List, [], ◌++◌, length, Option, Ok, Err, IsTrue, if◌then◌else◌}
 use Rattle.std.specs.Io.KnownBytes.{Appends, Keeps}
+use Rattle.std.specs.Prelude.{ℕ, ◌≡◌, ◌<◌, ◌⊎◌, List, [], ◌++◌, length, Option, Ok, Err, IsTrue, if◌then◌else◌}
+use Rattle.auction_rows.specs.{Book.{Book}, History.{book_after}}
 use Rattle.auction_rows.specs.declared.{limits.Policy.Policy, values.Opening.Opening, requests.Object.Object, requests.Request.Request, requests.Opened.Opened, rows.Entry.Entry}
-use Rattle.auction_rows.specs.Book.{Book}
-use Rattle.auction_rows.specs.History.{book_after}
-use Rattle.auction_text.specs.Reading.{IsInputFault}
-use Rattle.auction_text.specs.Scripts.{input_of}
+use Rattle.auction_text.specs.{Reading.{IsInputFault}, Scripts.{input_of}}
 use Rattle.byte_texts.specs.Writing.{IsPartWritten}
 use Rattle.item_shards.specs.OpeningRows.{AreRows, IsFirstBad, IsTooLong, opening_rows}
 use Rattle.item_shards.specs.declared.openings.ResumeFault.{ResumeFault}
 use Rattle.item_shards.specs.declared.openings.ResumeFault.TheVariants as resume
 use Rattle.run_laws.specs.Answers.{IsAnswer}
 use Rattle.program_opening.specs.Options.{commits_text, opening_asked, policy_of}
-use Rattle.auction_program.specs.Report.{report_of}
-use Rattle.auction_run.specs.Beginning.{HaveWorkers, HasShards, HasQuotas, AreShort}
-use Rattle.auction_run.specs.Phases.{HaveMetLastNumber}
-use Rattle.auction_run.specs.RunFault.{RunFault}
-use Rattle.auction_run.specs.RunFault.TheVariants as run
 use Rattle.program_opening.specs.declared.faults.Fault.{Fault}
 use Rattle.program_opening.specs.declared.faults.Fault.TheVariants.{Usage, Read, Resume, Row, Make, Run, Limit, Write, Report, OpenLog, Log}
 use Rattle.program_opening.specs.declared.options.Options.{Options}
+use Rattle.auction_program.specs.Report.{report_of}
+use Rattle.auction_run.specs.Beginning.{HaveWorkers, HasShards, HasQuotas, AreShort}
+use Rattle.auction_run.specs.{Phases.{HaveMetLastNumber}, RunFault.{RunFault}}
+use Rattle.auction_run.specs.RunFault.TheVariants as run
 
 -- what is added to what the options ask for: the report, if they ask for it
 abbrev pub added_text : Options → Book → List Entry → List (List Object) → List ℕ

@@ -1,10 +1,8 @@
 -- The report of a run, by the book at its end.
-use Rattle.std.specs.Prelude.{ℕ, List, map}
-use Rattle.std.specs.List.{range_with_len}
-use Rattle.auction_rows.specs.declared.{values.Opening.Opening, requests.Object.Object, requests.Request.Request, replies.Reply.Reply, rows.Entry.Entry}
+use Rattle.std.specs.{List.{range_with_len}, Prelude.{ℕ, List, map}}
+use Rattle.auction_rows.specs.{Book.{Book}, Replies.{reply}}
 use Rattle.auction_rows.specs.declared.requests.Request.TheVariants.{ViewCategory, ViewUser}
-use Rattle.auction_rows.specs.Book.{Book}
-use Rattle.auction_rows.specs.Replies.{reply}
+use Rattle.auction_rows.specs.declared.{values.Opening.Opening, requests.Object.Object, requests.Request.Request, replies.Reply.Reply, rows.Entry.Entry}
 use Rattle.auction_text.specs.Report.{report_text}
 
 -- the replies that a book gives to the views of so many numbers from 0

@@ -2,8 +2,8 @@
 //! report shows at its end, and what is fixed of the program with one worker.
 ghost use mathlib.Core.List.{IsPrefix};
 ghost use Rattle.std.specs.Prelude.{◌≡◌, OnOk, IfErr, IfSome, List, [], false, None, IfOk, IsTrue, MatchOption, ℕ};
-ghost use Rattle.auction_rows.specs.declared.rows.Row.{Row as Stored};
 ghost use Rattle.auction_rows.specs.Book.{Book};
+ghost use Rattle.auction_rows.specs.declared.rows.Row.{Row as Stored};
 ghost use Rattle.item_shards.specs.OpeningBooks as opened;
 ghost use Rattle.byte_texts.specs.declared.writing.WriteFault.{WriteFault};
 ghost use Rattle.program_opening.specs.Options.{opening_asked};

@@ -1,15 +1,13 @@
 //! The texts that the program writes of a run, and what the report shows of the auction at its end.
 ghost use mathlib.Core.List.{IsPrefix};
 ghost use Rattle.std.specs.Prelude.{◌≡◌, IfErr, OnOk, ◌≤◌, ◌<◌, List, length, true, IfOk};
+ghost use Rattle.auction_rows.specs.{Book.{Book}, Replies.{reply}, Requests.{is_view}};
 ghost use Rattle.auction_rows.specs.declared.rows.Row.{Row as Stored};
-ghost use Rattle.auction_rows.specs.Book.{Book};
-ghost use Rattle.auction_rows.specs.Replies.{reply};
-ghost use Rattle.auction_rows.specs.Requests.{is_view};
 ghost use Rattle.byte_texts.specs.Writing.{WritesText};
 ghost use Rattle.program_opening.specs.Options.{commits_text};
 ghost use Rattle.auction_program.specs.Execution.{AreWritten, ArePartWritten, IsOneWritten};
-ghost use Rattle.auction_program.specs.inner.Performing.{HasLastViews, OfTexts};
 ghost use Rattle.auction_program.specs.Report.{category_views, user_views, views};
+ghost use Rattle.auction_program.specs.inner.Performing.{HasLastViews, OfTexts};
 ghost use Rattle.auction_program.specs.inner.Views.{view_of, IsEnd};
 
 use crate::execution::Performed;

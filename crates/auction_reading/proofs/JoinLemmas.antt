@@ -1,16 +1,15 @@
 -- A parcel of an input, read as if nothing were before it, and then added to what was read.
 use Rattle.std.proofs.Common.{arith, ◌≡◌, ◌||◌, ◌<◌, ◌≤◌, ◌+◌, ◌∷◌, ◌++◌, ◌∙◌, [], ℕ, zero, suc, List, Bool, true, false, not, length, refl, sym, ap, subst, append_assoc, inl, inr}
+use Rattle.std.proofs.lemmas.{Bool.{cases_Bool}, List.{append-nil, nil_from_length}}
 use Rattle.std.specs.Prelude.{replicate, slice_index_or, slice_set, vec_len}
-use Rattle.std.proofs.lemmas.Bool.{cases_Bool}
-use Rattle.std.proofs.lemmas.List.{append-nil, nil_from_length}
 use Rattle.auction_rows.specs.declared.requests.{Request.Request, Opened.Opened}
-use Rattle.record_reading.specs.declared.record.Record.{Record}
-use Rattle.record_reading.specs.declared.inputs.TheConstants.{MOST_RECORDS}
-use Rattle.record_reading.specs.Asking.{Asked, as_row, nothing_asked, with_record}
 use Rattle.record_reading.proofs.AskingLemmas.{count_more}
+use Rattle.record_reading.specs.Asking.{Asked, as_row, nothing_asked, with_record}
+use Rattle.record_reading.specs.declared.inputs.TheConstants.{MOST_RECORDS}
+use Rattle.record_reading.specs.declared.record.Record.{Record}
 use Rattle.auction_reading.specs.declared.plain_text.Progress.{Progress}
-use Rattle.auction_reading.specs.inner.Said.{CanFollow, HasRead, WasRead, begun_after, read_by, with_records}
 use Rattle.auction_reading.specs.inner.Parcels.{CanJoin, joined, nothing_read, read_with, scripts_joined}
+use Rattle.auction_reading.specs.inner.Said.{CanFollow, HasRead, WasRead, begun_after, read_by, with_records}
 
 -- one request more at the end of a second part
 set_joined : (xs ys : List (List Request)) (w : ℕ) (r : Request) → w < length ys → length xs ≡ length ys

@@ -1,14 +1,12 @@
 -- Parcels of a text, one after the other, and what they ask of each worker.
 use Rattle.std.proofs.Common.{arith, ◌≡◌, ◌<◌, ◌+◌, ◌∷◌, ◌++◌, ◌∙◌, [], ℕ, zero, suc, List, drop, get_or, length, set, take, refl, sym, ap, ap₂, subst, append_assoc}
-use Rattle.std.specs.Prelude.{slice_index_or}
 use Rattle.std.proofs.lemmas.List.{append-nil, drop-drop, drop-set-lt, get_or-drop, length-drop, length-take-le, take_more, take_more_set}
-use Rattle.std.proofs.lemmas.List.Elements.{All-append}
+use Rattle.std.{proofs.lemmas.List.Elements.{All-append}, specs.Prelude.{slice_index_or}}
 use Rattle.auction_rows.specs.declared.requests.Request.{Request}
+use Rattle.auction_reading.proofs.{JoinLemmas.{parcel_read_on}, SaidLemmas.{has_read_then}}
 use Rattle.auction_reading.specs.declared.parcels.Parcel.{Parcel}
-use Rattle.auction_reading.specs.inner.Said.{HasRead, WasRead, read_by}
 use Rattle.auction_reading.specs.inner.Parcels.{AreParcels, CanJoin, Follows, IsParcel, all_requests_of, but_requests, read_with, read_with_all, requests_of, scripts_joined, scripts_with}
-use Rattle.auction_reading.proofs.JoinLemmas.{parcel_read_on}
-use Rattle.auction_reading.proofs.SaidLemmas.{has_read_then}
+use Rattle.auction_reading.specs.inner.Said.{HasRead, WasRead, read_by}
 
 -- the parcels of two lists
 pub both_are : (text : List ℕ) (xs ys : List Parcel) → AreParcels text xs → AreParcels text ys → AreParcels text (xs ++ ys)

@@ -1,13 +1,11 @@
 -- A piece of a text, and what was read of it.
 use Rattle.std.proofs.Common.{arith, ◌≡◌, ◌<◌, ◌≤◌, ◌+◌, ◌-◌, ◌++◌, ◌∙◌, ℕ, List, IfSome, drop, get_or, length, take, take-append-drop, sym, ap, subst}
 use Rattle.std.proofs.lemmas.List.{drop-append-le, drop-drop, get_or-drop, get_or-take, length-drop, length-take-le, take-take}
-use Rattle.record_reading.specs.Lines.{EndsLine}
-use Rattle.record_reading.proofs.DigitLemmas.{span}
-use Rattle.auction_reading.specs.declared.plain_text.Progress.{Progress}
-use Rattle.auction_reading.specs.inner.Said.{HasRead, WasRead, read_by}
-use Rattle.auction_reading.specs.declared.parcels.Parcel.{Parcel}
-use Rattle.auction_reading.specs.inner.Parcels.{IsParcel, nothing_read}
+use Rattle.record_reading.{proofs.DigitLemmas.{span}, specs.Lines.{EndsLine}}
 use Rattle.auction_reading.proofs.SaidLemmas.{has_read_before}
+use Rattle.auction_reading.specs.declared.{parcels.Parcel.{Parcel}, plain_text.Progress.{Progress}}
+use Rattle.auction_reading.specs.inner.Parcels.{IsParcel, nothing_read}
+use Rattle.auction_reading.specs.inner.Said.{HasRead, WasRead, read_by}
 
 -- a piece of a text from a place on, and what is behind it
 module _ (text : List ℕ) (from end : ℕ) (before : from ≤ end) (fits : end ≤ length text) where

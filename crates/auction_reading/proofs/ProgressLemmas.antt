@@ -1,19 +1,15 @@
 -- How far an input is read, line by line.
 use Rattle.std.proofs.Common.{◌≡◌, ◌==◌, ◌∷◌, ◌++◌, ◌∙◌, [], ℕ, List, Bool, Option, Result, Ok, Err, true, false, refl, sym, ap, if◌then◌else◌}
-use Rattle.csv.specs.Reading.{default_config, records, strip_bom}
-use Rattle.csv.specs.declared.reader.Reader.{Reader}
-use Rattle.auction_reading.specs.declared.plain_text.Progress.{Progress}
-use Rattle.record_reading.specs.declared.record.Record.{Record}
-use Rattle.record_reading.specs.declared.inputs.CompactInput.{CompactInput}
-use Rattle.record_reading.specs.declared.inputs.ReadFault.{ReadFault}
-use Rattle.auction_reading.specs.inner.Progress.{IsAtStart, IsReadUpTo, unmarked}
-use Rattle.record_reading.specs.Asking.{asked_of, nothing_asked}
-use Rattle.record_reading.specs.Records.{and_then}
+use Rattle.csv.specs.{Reading.{default_config, records, strip_bom}, declared.reader.Reader.{Reader}}
+use Rattle.auction_reading.proofs.SoFar.{IsReading, so_far_all}
 use Rattle.auction_reading.specs.Scripts.{input_of, read_records, records_of}
+use Rattle.auction_reading.specs.declared.plain_text.Progress.{Progress}
+use Rattle.auction_reading.specs.inner.Progress.{IsAtStart, IsReadUpTo, unmarked}
 use Rattle.record_reading.proofs.AskingLemmas.{ask_none}
 use Rattle.record_reading.proofs.LineLemmas.{feed_no_bom, none_in_none, records_after_feed}
-use Rattle.record_reading.proofs.RecordsLeft.{left_all}
-use Rattle.auction_reading.proofs.SoFar.{IsReading, so_far_all}
+use Rattle.record_reading.{proofs.RecordsLeft.{left_all}, specs.Asking.{asked_of, nothing_asked}}
+use Rattle.record_reading.specs.{Records.{and_then}, declared.inputs.CompactInput.{CompactInput}}
+use Rattle.record_reading.specs.declared.{inputs.ReadFault.{ReadFault}, record.Record.{Record}}
 
 -- before the first record
 then_all : (r : Result (List Record) ReadFault) → r ≡ and_then r (λ others. Ok ([] ++ others))

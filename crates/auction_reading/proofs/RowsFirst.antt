@@ -1,13 +1,10 @@
 -- Among records without a fault no row stands after a request.
 use Rattle.std.proofs.Common.{◌≡◌, ◌+◌, ◌∷◌, not, ℕ, Bool, true, false, List, [], Result, Ok, Err, refl, ap, if◌then◌else◌, nat_lt, inl, inr}
-use Rattle.std.proofs.lemmas.Bool.{cases_Bool}
-use Rattle.std.specs.List.{filter}
-use Rattle.record_reading.specs.declared.inputs.TheConstants.{MOST_RECORDS}
-use Rattle.record_reading.specs.declared.inputs.ReadFault.{ReadFault}
-use Rattle.record_reading.specs.declared.inputs.ReadFault.TheVariants as fault
+use Rattle.std.{proofs.lemmas.Bool.{cases_Bool}, specs.List.{filter}}
+use Rattle.record_reading.{proofs.LateRows.{request_after}, specs.Records.{and_then, read_record}}
+use Rattle.record_reading.specs.declared.inputs.{ReadFault.{ReadFault}, TheConstants.{MOST_RECORDS}}
 use Rattle.record_reading.specs.declared.record.Record.{Record}
-use Rattle.record_reading.specs.Records.{and_then, read_record}
-use Rattle.record_reading.proofs.LateRows.{request_after}
+use Rattle.record_reading.specs.declared.inputs.ReadFault.TheVariants as fault
 use Rattle.auction_reading.specs.Scripts.{RowsComeFirst, read_records}
 
 -- what the records say is what the first says, and then the others

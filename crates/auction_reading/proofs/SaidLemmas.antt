@@ -2,17 +2,14 @@
 use Rattle.std.proofs.Common.{arith, ◌≡◌, ◌==◌, ◌&&◌, ◌||◌, ◌<◌, ◌≤◌, ◌+◌, ◌∷◌, ◌++◌, ◌∙◌, [], ℕ, List, Bool, Option, Some, false, not, drop, length, refl, sym, ap, subst, append_assoc, length-append, vec_len}
 use Rattle.std.proofs.lemmas.List.{append-nil}
 use Rattle.csv.specs.Reading.{default_config, records, strip_bom}
-use Rattle.auction_reading.specs.declared.plain_text.Progress.{Progress}
-use Rattle.record_reading.specs.declared.record.Record.{Record}
-use Rattle.record_reading.specs.declared.inputs.CompactInput.{CompactInput}
-use Rattle.record_reading.specs.declared.inputs.TheConstants.{MOST_RECORDS}
-use Rattle.record_reading.specs.Lines.{IsLine}
-use Rattle.auction_reading.specs.inner.Said.{CanFollow, HasRead, IsUpTo, ReadsLine, SaysRecords, WasRead, begun_after, read_by, with_records}
+use Rattle.auction_reading.proofs.{ProgressLemmas.{nothing_read, same_if}, SoFar.{so_far_more}}
+use Rattle.auction_reading.specs.{Scripts.{records_of}, declared.plain_text.Progress.{Progress}}
 use Rattle.auction_reading.specs.inner.Progress.{HasAdded, IsReadUpTo, unmarked}
+use Rattle.auction_reading.specs.inner.Said.{CanFollow, HasRead, IsUpTo, ReadsLine, SaysRecords, WasRead, begun_after, read_by, with_records}
 use Rattle.record_reading.specs.Asking.{Asked, asked_of, nothing_asked, with_record}
-use Rattle.auction_reading.specs.Scripts.{records_of}
-use Rattle.auction_reading.proofs.ProgressLemmas.{nothing_read, same_if}
-use Rattle.auction_reading.proofs.SoFar.{so_far_more}
+use Rattle.record_reading.specs.{Lines.{IsLine}, declared.inputs.CompactInput.{CompactInput}}
+use Rattle.record_reading.specs.declared.inputs.TheConstants.{MOST_RECORDS}
+use Rattle.record_reading.specs.declared.record.Record.{Record}
 
 -- records one after the other
 with_both : (xs ys : List Record) (asked : Asked) → with_records (xs ++ ys) asked ≡ with_records ys (with_records xs asked)

@@ -1,20 +1,17 @@
 -- What the records that were read ask for, and the records that are left.
 use Rattle.std.proofs.Common.{◌≡◌, ◌<◌, ◌+◌, ◌∷◌, ◌∙◌, ◌++◌, ◌||◌, not, ℕ, Bool, true, false, List, [], Option, Some, Result, Ok, Err, refl, sym, ap, arith, nat_lt, append_assoc}
-use Rattle.std.proofs.lemmas.Bool.{le-ltb}
-use Rattle.std.proofs.lemmas.List.{append-nil}
+use Rattle.std.proofs.lemmas.{Bool.{le-ltb}, List.{append-nil}}
 use Rattle.csv.specs.Reading.{ReadRecord, default_config, source_of}
 use Rattle.csv.specs.declared.reader.Reader.{Reader}
-use Rattle.record_reading.specs.declared.inputs.TheConstants.{MOST_RECORDS}
-use Rattle.record_reading.specs.declared.inputs.ReadFault.{ReadFault}
-use Rattle.record_reading.specs.declared.inputs.ReadFault.TheVariants as fault
-use Rattle.record_reading.specs.declared.record.Record.{Record}
-use Rattle.record_reading.specs.Asking.{Asked, asked_in, with_record}
-use Rattle.record_reading.specs.Records.{and_then, read_record}
-use Rattle.auction_reading.specs.Scripts.{input_of, read_records, records_of}
-use Rattle.auction_reading.specs.inner.Progress.{SoFar}
-use Rattle.record_reading.specs.RecordsLeft.{Left}
 use Rattle.record_reading.proofs.AskingLemmas.{ask_is, ask_more}
 use Rattle.record_reading.proofs.RecordsLeft.{read_end, read_more}
+use Rattle.record_reading.specs.Asking.{Asked, asked_in, with_record}
+use Rattle.record_reading.specs.{Records.{and_then, read_record}, RecordsLeft.{Left}}
+use Rattle.record_reading.specs.declared.inputs.{ReadFault.{ReadFault}, TheConstants.{MOST_RECORDS}}
+use Rattle.record_reading.specs.declared.record.Record.{Record}
+use Rattle.record_reading.specs.declared.inputs.ReadFault.TheVariants as fault
+use Rattle.auction_reading.specs.Scripts.{input_of, read_records, records_of}
+use Rattle.auction_reading.specs.inner.Progress.{SoFar}
 
 one_before : (r : Result (List Record) ReadFault) (said : List Record) (first : Record)
     → and_then (and_then r (λ others. Ok (first ∷ others))) (λ others. Ok (said ++ others)) ≡ and_then r (λ others. Ok ((said ++ (first ∷ [])) ++ others))

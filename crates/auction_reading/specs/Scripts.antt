@@ -1,13 +1,12 @@
 -- What the text of an input asks for.
-use Rattle.std.specs.Prelude.{ℕ, ◌≡◌, ◌++◌, Bool, false, not, ◌||◌, ◌+◌, List, [], ◌∷◌, map, nat_lt, Result, Ok, Err, if◌then◌else◌}
 use Rattle.std.specs.List.{filter}
+use Rattle.std.specs.Prelude.{ℕ, ◌≡◌, ◌++◌, Bool, false, not, ◌||◌, ◌+◌, List, [], ◌∷◌, map, nat_lt, Result, Ok, Err, if◌then◌else◌}
 use Rattle.csv.specs.Reading.{default_config, records, strip_bom}
 use Rattle.auction_reading.specs.declared.scripts.Input.{Input}
-use Rattle.record_reading.specs.declared.inputs.TheConstants.{MOST_RECORDS}
-use Rattle.record_reading.specs.declared.inputs.ReadFault.{ReadFault}
-use Rattle.record_reading.specs.declared.inputs.ReadFault.TheVariants as fault
-use Rattle.record_reading.specs.declared.record.Record.{Record}
 use Rattle.record_reading.specs.Records.{and_then, read_record}
+use Rattle.record_reading.specs.declared.inputs.{ReadFault.{ReadFault}, TheConstants.{MOST_RECORDS}}
+use Rattle.record_reading.specs.declared.record.Record.{Record}
+use Rattle.record_reading.specs.declared.inputs.ReadFault.TheVariants as fault
 pub use Rattle.record_reading.specs.Asking.{Asked, asked_in, asked_of, requests_in, row_in, rows, script}
 
 -- what an input asks for

@@ -1,8 +1,7 @@
 //! Plain lines, read as they come into a buffer.
-ghost use Rattle.std.specs.Prelude.{ℕ, ◌≡◌, ◌<◌, ◌≤◌, ◌++◌, drop, false, length, take, Some, vec_len, IfOk, List, OnOk};
 ghost use Rattle.std.specs.Io.KnownBytes.{IsAtEnd};
-ghost use Rattle.record_reading.specs.Lines.{EndsLine};
-ghost use Rattle.record_reading.specs.Reading.{HasNoInputFault};
+ghost use Rattle.std.specs.Prelude.{ℕ, ◌≡◌, ◌<◌, ◌≤◌, ◌++◌, drop, false, length, take, Some, vec_len, IfOk, List, OnOk};
+ghost use Rattle.record_reading.specs.{Lines.{EndsLine}, Reading.{HasNoInputFault}};
 ghost use Rattle.record_reading.specs.declared.inputs.TheConstants.{MOST_RECORDS};
 ghost use Rattle.auction_reading.specs.inner.Said.{HasRead, read_by};
 

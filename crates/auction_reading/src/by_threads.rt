@@ -1,7 +1,6 @@
 //! The rows and scripts of a whole input, read by threads.
 ghost use Rattle.std.specs.Prelude.{◌≡◌, ◌<◌, vec_len, IfErr, IfOk, IfSome};
-ghost use Rattle.record_reading.specs.Asking.{asked_of};
-ghost use Rattle.record_reading.specs.Reading.{HasNoInputFault, IsInputFault};
+ghost use Rattle.record_reading.specs.{Asking.{asked_of}, Reading.{HasNoInputFault, IsInputFault}};
 ghost use Rattle.auction_reading.specs.Scripts.{input_of};
 
 use crate::buffered_lines::LineReading;

@@ -3,8 +3,8 @@ ghost use Rattle.std.specs.Prelude.{ℕ, ◌≡◌, ◌<◌, ◌≤◌, ◌+◌,
 ghost use Rattle.std.specs.Thread.{IsSync};
 ghost use Rattle.record_reading.specs.Reading.{HasNoInputFault};
 ghost use Rattle.record_reading.specs.declared.inputs.TheConstants.{MOST_RECORDS};
-ghost use Rattle.auction_reading.specs.inner.Said.{HasRead, read_by};
 ghost use Rattle.auction_reading.specs.inner.Parcels.{AreParcels, all_requests_of, but_requests, read_with_all, requests_of, scripts_with};
+ghost use Rattle.auction_reading.specs.inner.Said.{HasRead, read_by};
 
 use crate::joins::join_rows;
 use crate::parcels::{LEAST_OF_A_THREAD, Parcel};

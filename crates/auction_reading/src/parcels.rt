@@ -1,11 +1,10 @@
 //! Parcels of a text, each read as if nothing stood before it.
 ghost use Rattle.std.specs.Prelude.{◌≡◌, ◌<◌, ◌≤◌, drop, length, take, vec_len, IfOk, IfSome};
 ghost use Rattle.std.specs.Thread.{IsSync};
-ghost use Rattle.record_reading.specs.Lines.{EndsLine};
-ghost use Rattle.record_reading.specs.Reading.{HasNoInputFault};
+ghost use Rattle.record_reading.specs.{Lines.{EndsLine}, Reading.{HasNoInputFault}};
 ghost use Rattle.record_reading.specs.declared.inputs.TheConstants.{MOST_RECORDS};
-ghost use Rattle.auction_reading.specs.inner.Said.{HasRead, read_by};
 ghost use Rattle.auction_reading.specs.inner.Parcels.{AreParcels, Follows, IsParcel};
+ghost use Rattle.auction_reading.specs.inner.Said.{HasRead, read_by};
 
 use crate::joins::{can_join, clear};
 use crate::plain_text::{Progress, read_plain};

@@ -1,10 +1,9 @@
 //! The plain lines at the front of a text, read where they lie.
 ghost use Rattle.std.specs.Prelude.{ℕ, ◌<◌, ◌≤◌, drop, length, vec_len, IfOk, List, OnOk};
-ghost use Rattle.record_reading.specs.Lines.{EndsLine, IsLine};
+ghost use Rattle.record_reading.specs.{Lines.{EndsLine, IsLine}, Reading.{HasNoInputFault}};
+ghost use Rattle.record_reading.specs.declared.inputs.TheConstants.{MOST_RECORDS};
 ghost use Rattle.auction_reading.specs.inner.Progress.{HasAdded};
 ghost use Rattle.auction_reading.specs.inner.Said.{HasRead, MayReadLine, ReadsLine, read_by};
-ghost use Rattle.record_reading.specs.Reading.{HasNoInputFault};
-ghost use Rattle.record_reading.specs.declared.inputs.TheConstants.{MOST_RECORDS};
 
 use record_reading::{CompactInput, MOST_RECORDS, ReadFault, Record, bid_at, line_at};
 

@@ -1,11 +1,10 @@
 //! The rows and scripts of a whole input.
 ghost use Rattle.std.specs.Prelude.{◌<◌, vec_len, IfErr, OnOk, ℕ, ◌≡◌, ◌≤◌, ◌++◌, true, length, map, IfOk, List, IfSome};
 ghost use Rattle.csv.specs.Reading.{strip_bom};
-ghost use Rattle.auction_reading.specs.inner.Progress.{IsAtStart, IsReadUpTo, unmarked};
-ghost use Rattle.record_reading.specs.Reading.{IsInputFault, IsPlain};
-ghost use Rattle.record_reading.specs.declared.inputs.TheConstants.{MOST_RECORDS};
 ghost use Rattle.auction_reading.specs.Scripts.{asked_by, input_of};
-ghost use Rattle.record_reading.specs.Asking.{asked_of};
+ghost use Rattle.auction_reading.specs.inner.Progress.{IsAtStart, IsReadUpTo, unmarked};
+ghost use Rattle.record_reading.specs.{Asking.{asked_of}, Reading.{IsInputFault, IsPlain}};
+ghost use Rattle.record_reading.specs.declared.inputs.TheConstants.{MOST_RECORDS};
 
 use crate::buffered_lines::{Alone, LineReading, read_lines};
 use crate::plain_text::{Progress, add};

@@ -1,10 +1,9 @@
 -- That a history replays, or that rows are a book, has one proof at most: so a ghost field of a crate above may hold it.
-use Rattle.std.specs.Prelude.{List, [], map}
-use Rattle.std.proofs.Props.{props}
+use Rattle.std.{proofs.Props.{props}, specs.Prelude.{List, [], map}}
 use Rattle.phase_laws.specs.OneProof.{Replays-prop}
-use Rattle.auction_rows.specs.declared.{values.Opening.Opening, replies.Reply.Reply, rows.Row.Row, rows.Entry.Entry}
 use Rattle.auction_rows.specs.Book.{Book}
 use Rattle.auction_rows.specs.History.{IsRight, after_entry, ReplaysFrom, commit_of, GoOn, IsBook}
+use Rattle.auction_rows.specs.declared.{values.Opening.Opening, replies.Reply.Reply, rows.Row.Row, rows.Entry.Entry}
 
 pub Reply-set : IsSet Reply
 Reply-set = hlevel props

@@ -1,11 +1,8 @@
 -- Stars with one number are the same, and are the stars of that number.
-use Rattle.std.proofs.Common.{◌≡◌, ℤ, pos, negsuc, ◌≤ℤ◌, Some, refl, ap, subst}
-use Rattle.std.specs.Prelude.{T}
-use Rattle.std.specs.Int.Signed.{le_z}
-use Rattle.std.proofs.Props.{props}
+use Rattle.std.proofs.{Common.{◌≡◌, ℤ, pos, negsuc, ◌≤ℤ◌, Some, refl, ap, subst}, Props.{props}}
+use Rattle.std.specs.{Int.Signed.{le_z}, Prelude.{T}}
 use mathlib.Core.HLevel.{is_prop→PathP}
-use Rattle.auction_rows.specs.Stars.{stars_of, stars_if, is_true}
-use Rattle.auction_rows.specs.declared.values.Stars.{Stars}
+use Rattle.auction_rows.specs.{Stars.{stars_of, stars_if, is_true}, declared.values.Stars.{Stars}}
 
 low_prop : (v : ℤ) → IsProp (negsuc 4 ≤ℤ v)
 low_prop v = hlevel props

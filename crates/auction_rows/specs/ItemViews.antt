@@ -1,8 +1,7 @@
 -- What the view of an item shows.
 use Rattle.std.specs.Prelude.{Option, Some, None}
 use Rattle.auction_rows.specs.declared.replies.ItemView.{ItemView}
-use Rattle.auction_rows.specs.declared.replies.Refusal.TheVariants.{NoSuchItem}
-use Rattle.auction_rows.specs.declared.replies.Reply.{Reply}
+use Rattle.auction_rows.specs.declared.replies.{Refusal.TheVariants.{NoSuchItem}, Reply.{Reply}}
 use Rattle.auction_rows.specs.declared.replies.Reply.TheVariants.{ItemSeen, Refused}
 
 -- the reply that shows an item

@@ -1,12 +1,10 @@
 -- What a row says of an item, a category or a user: its bid, its listing, its stars.
 use Rattle.std.specs.Prelude.{ℕ, if◌then◌else◌, ◌==◌, Option, Some, None}
-use Rattle.auction_rows.specs.declared.values.Stars.{Stars}
-use Rattle.auction_rows.specs.declared.requests.ItemId.{ItemId}
-use Rattle.auction_rows.specs.declared.requests.BidEntry.{BidEntry}
-use Rattle.auction_rows.specs.declared.requests.ItemEntry.{ItemEntry}
-use Rattle.auction_rows.specs.declared.rows.Row.{Row}
-use Rattle.auction_rows.specs.declared.rows.Row.TheVariants.{Item, Bid, Comment, Buy}
 use Rattle.auction_rows.specs.Book.{same_item, bid_entry, item_entry}
+use Rattle.auction_rows.specs.declared.requests.{BidEntry.{BidEntry}, ItemEntry.{ItemEntry}}
+use Rattle.auction_rows.specs.declared.{requests.ItemId.{ItemId}, rows.Row.{Row}}
+use Rattle.auction_rows.specs.declared.rows.Row.TheVariants.{Item, Bid, Comment, Buy}
+use Rattle.auction_rows.specs.declared.values.Stars.{Stars}
 
 -- the bid that a row is on an item
 abbrev pub row_bid : ItemId → Row → Option BidEntry

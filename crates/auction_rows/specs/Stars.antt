@@ -1,6 +1,6 @@
 -- The stars of a number.
-use Rattle.std.specs.Prelude.{ℤ, pos, negsuc, Bool, true, false, Option, Some, None, T}
 use Rattle.std.specs.Int.Signed.{le_z, le_z_yes}
+use Rattle.std.specs.Prelude.{ℤ, pos, negsuc, Bool, true, false, Option, Some, None, T}
 use Rattle.auction_rows.specs.declared.values.Stars.{Stars}
 
 abbrev pub is_true : (b : Bool) → Dec (T b)

@@ -1,26 +1,22 @@
 //! What the definitions of orders, requests and refusals say, what a history that replays leaves,
 //! and what holds of every book. Laws are for readers: each is what a function with an
 //! empty body ensures.
+ghost use Rattle.std.specs.{Cmp.{IsTotalOrder}, FinMap.{IsAntisymmetric}, Option.{option_or}};
 ghost use Rattle.std.specs.Prelude.{◌≡◌, ◌↔◌, ◌&&◌, not, ℕ, Some, Contains, IsTrue, is_some, is_none, ◌+◌, ◌≤◌, ◌++◌, List, map, filter, nat_le};
-ghost use Rattle.std.specs.Option.{option_or};
-ghost use Rattle.std.specs.Cmp.{IsTotalOrder};
-ghost use Rattle.std.specs.FinMap.{IsAntisymmetric};
 ghost use Rattle.phase_laws.specs.Ranking.{IsTop};
+ghost use Rattle.auction_rows.specs.Book.{Book, same_item, put_up, bought, left};
+ghost use Rattle.auction_rows.specs.Choosing.{heat_cmp, heat, objects_written, choose};
+ghost use Rattle.auction_rows.specs.History.{ReplaysFrom, book_after, rows_of, commit_of, GoOn, IsBook, AllFresh, AllDistinct};
+ghost use Rattle.auction_rows.specs.Orders.{bid_cmp, item_cmp, object_cmp};
+ghost use Rattle.auction_rows.specs.Refusals.{refusal, number_refusal, item_refusal, facts_for, left_for};
+ghost use Rattle.auction_rows.specs.Replies.{reply, row_of};
+ghost use Rattle.auction_rows.specs.Requests.{touches, writes, is_view, same_object};
+ghost use Rattle.auction_rows.specs.declared.{requests.Request.{Request}, rows.Entry.{Entry}};
+ghost use Rattle.auction_rows.specs.declared.{rows.Row.{Row}, values.Opening.{Opening}};
 ghost use Rattle.auction_rows.specs.declared.requests.ItemId.{ItemId as Id};
 ghost use Rattle.auction_rows.specs.declared.requests.BidEntry.{BidEntry as Bid};
 ghost use Rattle.auction_rows.specs.declared.requests.ItemEntry.{ItemEntry as Listed};
 ghost use Rattle.auction_rows.specs.declared.requests.Object.{Object as Thing};
-ghost use Rattle.auction_rows.specs.declared.requests.Request.{Request};
-ghost use Rattle.auction_rows.specs.declared.values.Opening.{Opening};
-ghost use Rattle.auction_rows.specs.Book.{Book, same_item, put_up, bought, left};
-ghost use Rattle.auction_rows.specs.Orders.{bid_cmp, item_cmp, object_cmp};
-ghost use Rattle.auction_rows.specs.Requests.{touches, writes, is_view, same_object};
-ghost use Rattle.auction_rows.specs.Replies.{reply, row_of};
-ghost use Rattle.auction_rows.specs.Refusals.{refusal, number_refusal, item_refusal, facts_for, left_for};
-ghost use Rattle.auction_rows.specs.declared.rows.Row.{Row};
-ghost use Rattle.auction_rows.specs.declared.rows.Entry.{Entry};
-ghost use Rattle.auction_rows.specs.History.{ReplaysFrom, book_after, rows_of, commit_of, GoOn, IsBook, AllFresh, AllDistinct};
-ghost use Rattle.auction_rows.specs.Choosing.{heat_cmp, heat, objects_written, choose};
 
 use crate::requests::{BidEntry, ItemEntry, ItemId, Object};
 

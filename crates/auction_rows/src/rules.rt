@@ -1,8 +1,8 @@
 //! The objects that a request touches and writes, where an object lies, and when a request is
 //! refused.
 ghost use Rattle.std.specs.Prelude.{◌≡◌, ◌<◌};
-ghost use Rattle.auction_rows.specs.Requests.{touches, writes, is_view, is_splittable, shard_of, item_of};
 ghost use Rattle.auction_rows.specs.Refusals.{number_refusal, item_refusal};
+ghost use Rattle.auction_rows.specs.Requests.{touches, writes, is_view, is_splittable, shard_of, item_of};
 
 use crate::replies::Refusal;
 use crate::requests::{Facts, ItemId, Object, Request};

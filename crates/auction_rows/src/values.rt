@@ -171,8 +171,8 @@ pub struct Ten<E> {
 
 impl<E> Model for Ten<E> {
     ghost use Rattle.std.specs.Prelude.{List, [], ◌∷◌, ◌≡◌, ◌≤◌, length};
-    ghost use Rattle.auction_rows.specs.declared.limits.TheConstants.{MOST_SHOWN};
     ghost use Rattle.auction_rows.specs.Ten.{filled, ten_places};
+    ghost use Rattle.auction_rows.specs.declared.limits.TheConstants.{MOST_SHOWN};
 
     ghost Value = { List E };
 

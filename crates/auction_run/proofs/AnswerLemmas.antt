@@ -1,24 +1,19 @@
 -- What a run answers, by what it met.
-use Rattle.std.proofs.Common.{◌≡◌, List, refl, subst, sym}
+use Rattle.std.proofs.{Common.{◌≡◌, List, refl, subst, sym}, lemmas.Result.{IfOk-weaker}}
 use Rattle.std.specs.Prelude.{◌↔◌, Result, Ok, Err, IsErrAnd, IsErrOf, IfErr, IfOk, OnOk}
-use Rattle.std.proofs.lemmas.Result.{IfOk-weaker}
-use Rattle.auction_rows.specs.declared.{limits.Policy.Policy, values.Opening.Opening, requests.Request.Request}
-use Rattle.auction_rows.specs.Book.{Book}
+use Rattle.auction_rows.specs.{Book.{Book}, History.{IsBook, book_after}}
 use Rattle.auction_rows.specs.declared.limits.TheConstants.{MOST_OF_A_WORKER}
-use Rattle.auction_rows.specs.History.{IsBook, book_after}
+use Rattle.auction_rows.specs.declared.{limits.Policy.Policy, values.Opening.Opening, requests.Request.Request}
 use Rattle.phase_floor.specs.States.{JoinedState, IsBookOf}
-use Rattle.run_phases.specs.declared.faults.RunFault.{RunFault}
-use Rattle.run_phases.specs.declared.faults.RunFault.TheVariants.{Workers, Shards, Quota, TooLong, Spawn, Memory, NumberFull}
-use Rattle.auction_run.specs.declared.checks.Stopped.{Stopped}
-use Rattle.auction_run.specs.declared.checks.Stopped.TheVariants.{Failed, Refused}
-use Rattle.run_phases.specs.declared.course.Outcome.{Outcome}
 use Rattle.run_phases.specs.Beginning.{AreShort, HasQuotas, HasShards, HaveWorkers}
+use Rattle.run_phases.specs.{Outcomes.{IsOutcome}, Phases.{IsMet}}
+use Rattle.run_phases.specs.declared.{course.Outcome.{Outcome}, faults.RunFault.{RunFault}}
+use Rattle.run_phases.specs.declared.faults.RunFault.TheVariants.{Workers, Shards, Quota, TooLong, Spawn, Memory, NumberFull}
+use Rattle.auction_run.proofs.GoingOnLemmas.{left_book}
 use Rattle.auction_run.specs.Checks.{IsFirstToFail, IsFoundFirst, IsRefusedInOrder}
 use Rattle.auction_run.specs.GoingOn.{AnswersNextRun, GivesBack, IsCheckedOn, IsReadyFor, IsStopped}
-use Rattle.auction_run.specs.Runs.{AnswersRun}
-use Rattle.run_phases.specs.Outcomes.{IsOutcome}
-use Rattle.run_phases.specs.Phases.{IsMet}
-use Rattle.auction_run.proofs.GoingOnLemmas.{left_book}
+use Rattle.auction_run.specs.{Runs.{AnswersRun}, declared.checks.Stopped.{Stopped}}
+use Rattle.auction_run.specs.declared.checks.Stopped.TheVariants.{Failed, Refused}
 
 -- two facts that are both so, or neither
 both : {P Q : Type 0} → P → Q → P ↔ Q

@@ -1,30 +1,24 @@
 -- A run that goes on from a state begins with it, and leaves one from which a run can go on.
-use Rattle.std.specs.Prelude.{Result, Ok, Err, IfOk}
 use Rattle.std.proofs.Common.{◌≡◌, ℕ, ◌+◌, ◌<◌, ◌≤◌, ◌==◌, ◌⊎◌, cond, List, [], ◌∷◌, ◌++◌, Some, None, length, slice_get, All, refl, subst, sym, ap, ◌∙◌, inl, inr, arith}
-use Rattle.std.specs.List.{AllByRecursion}
 use Rattle.std.proofs.lemmas.Bool.{cases_lt}
 use Rattle.std.proofs.lemmas.List.Elements.{All-from_recursion, recursion_from_All}
-use Rattle.std.proofs.lemmas.List.Sums.{sum_by-append}
-use Rattle.phase_laws.proofs.ListLemmas.{all-append}
-use Rattle.phase_laws.proofs.OrderLemmas.{all-weaker}
-use Rattle.auction_rows.specs.declared.{limits.Policy.Policy, values.Opening.Opening, requests.Request.Request, rows.Entry.Entry}
+use Rattle.std.{proofs.lemmas.List.Sums.{sum_by-append}, specs.List.{AllByRecursion}}
+use Rattle.std.specs.Prelude.{Result, Ok, Err, IfOk}
+use Rattle.phase_laws.proofs.{ListLemmas.{all-append}, OrderLemmas.{all-weaker}}
+use Rattle.auction_rows.proofs.HistoryLemmas.{book_after-replays, longer_book, rows_go_on}
 use Rattle.auction_rows.specs.Book.{Book, items_stored, bids_stored, comments_stored, buys_stored, worker_of}
 use Rattle.auction_rows.specs.History.{IsBook, book_after, rows_of}
-use Rattle.auction_rows.proofs.HistoryLemmas.{book_after-replays, longer_book, rows_go_on}
+use Rattle.auction_rows.specs.declared.{limits.Policy.Policy, values.Opening.Opening, requests.Request.Request, rows.Entry.Entry}
 use Rattle.item_shards.specs.OpeningRows.{rows_by}
 use Rattle.closing_laws.specs.Standing.{counters_at, stores}
-use Rattle.phase_floor.specs.NextRun.{for_next_run}
-use Rattle.phase_floor.specs.Resuming.{counters_in}
+use Rattle.phase_floor.proofs.{BookSize.{one_more}, NextRunLemmas.{at_next, many}}
+use Rattle.phase_floor.specs.{NextRun.{for_next_run}, Resuming.{counters_in}}
 use Rattle.phase_floor.specs.States.{JoinedState, StandsFor, IsBookOf}
-use Rattle.phase_floor.proofs.NextRunLemmas.{at_next, many}
-use Rattle.phase_floor.proofs.BookSize.{one_more}
-use Rattle.run_laws.specs.Serving.{script_of}
-use Rattle.run_laws.proofs.ScriptLemmas.{past_end}
-use Rattle.run_phases.specs.declared.course.Outcome.{Outcome}
-use Rattle.run_phases.specs.Beginning.{AreShort, HaveWorkers, BeginsWith}
-use Rattle.auction_run.specs.GoingOn.{IsReadyFor}
-use Rattle.run_phases.specs.Outcomes.{IsOutcome}
+use Rattle.run_laws.{proofs.ScriptLemmas.{past_end}, specs.Serving.{script_of}}
 use Rattle.run_phases.proofs.BoardLemmas.{rows_workers}
+use Rattle.run_phases.specs.{Beginning.{AreShort, HaveWorkers, BeginsWith}, Outcomes.{IsOutcome}}
+use Rattle.run_phases.specs.declared.course.Outcome.{Outcome}
+use Rattle.auction_run.specs.GoingOn.{IsReadyFor}
 
 -- what follows of a value from two facts
 pub of_both : {X E : Type 0} (r : Result X E) (P Q S : X → Type 0) → ((x : X) → P x → Q x → S x) → IfOk r P → IfOk r Q → IfOk r S

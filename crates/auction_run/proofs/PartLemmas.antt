@@ -2,9 +2,8 @@
 use Rattle.std.proofs.Common.{◌≡◌, List, [], ◌∷◌, ◌++◌, refl, subst, sym, ap, ◌∙◌, append_assoc}
 use Rattle.std.proofs.lemmas.List.Sums.{fold-append}
 use Rattle.phase_laws.proofs.ReplayLemmas.{replays_append}
+use Rattle.auction_rows.specs.{Book.{Book}, History.{IsRight, ReplaysFrom, after_entry, book_after}}
 use Rattle.auction_rows.specs.declared.{values.Opening.Opening, rows.Entry.Entry}
-use Rattle.auction_rows.specs.Book.{Book}
-use Rattle.auction_rows.specs.History.{IsRight, ReplaysFrom, after_entry, book_after}
 use Rattle.phase_floor.specs.States.{JoinedState, IsBookOf}
 use Rattle.auction_run.specs.Parts.{ArePartsFrom, HaveLeft, book_after_parts, history_of}
 

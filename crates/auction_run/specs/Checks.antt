@@ -1,10 +1,10 @@
 -- Why a run is refused before it begins.
 use Rattle.std.specs.Prelude.{◌↔◌, List, Result, Ok, Err, OnOk, IsErrOf}
-use Rattle.auction_rows.specs.declared.{limits.Policy.Policy, requests.Request.Request}
 use Rattle.auction_rows.specs.Book.{Book}
+use Rattle.auction_rows.specs.declared.{limits.Policy.Policy, requests.Request.Request}
+use Rattle.run_phases.specs.Beginning.{HaveWorkers, HasShards, HasQuotas, AreShort}
 use Rattle.run_phases.specs.declared.faults.RunFault.{RunFault}
 use Rattle.run_phases.specs.declared.faults.RunFault.TheVariants.{Workers, Shards, Quota, TooLong, Spawn, Memory, NumberFull}
-use Rattle.run_phases.specs.Beginning.{HaveWorkers, HasShards, HasQuotas, AreShort}
 
 -- what each answer of the check says: all four hold, or the fault is that of the first that doesn't
 abbrev pub IsFirstToFail : {T : Type 0} → Result T RunFault →

@@ -1,22 +1,17 @@
 -- What is checked before a run goes on from a state, what it answers, and why it stops.
 use Rattle.std.specs.Prelude.{ℕ, ◌+◌, ◌<◌, ◌≤◌, ◌≡◌, List, Result, Err, length, IfOk, IfErr, OnOk}
+use Rattle.auction_rows.specs.{Book.{Book}, History.{book_after}}
 use Rattle.auction_rows.specs.declared.limits.TheConstants.{MOST_OF_A_WORKER}
 use Rattle.auction_rows.specs.declared.{limits.Policy.Policy, values.Opening.Opening, requests.Request.Request, rows.Row.Row}
-use Rattle.auction_rows.specs.Book.{Book}
-use Rattle.auction_rows.specs.History.{book_after}
 use Rattle.auction_window.specs.Published.{book_of}
 use Rattle.closing_laws.specs.Standing.{counters_at, stores}
 use Rattle.phase_floor.specs.States.{JoinedState, IsBookOf}
 use Rattle.run_laws.specs.Serving.{script_of}
-use Rattle.run_phases.specs.Beginning.{HasQuotas}
-use Rattle.run_phases.specs.Boards.{HasShownAfter}
-use Rattle.auction_run.specs.Checks.{IsFirstToFail}
-use Rattle.run_phases.specs.Outcomes.{HasShownFirstAfter, IsOutcome}
-use Rattle.run_phases.specs.Phases.{IsMet}
-use Rattle.run_phases.specs.declared.faults.RunFault.{RunFault}
-use Rattle.auction_run.specs.declared.checks.Stopped.{Stopped}
+use Rattle.run_phases.specs.{Beginning.{HasQuotas}, Boards.{HasShownAfter}}
+use Rattle.run_phases.specs.{Outcomes.{HasShownFirstAfter, IsOutcome}, Phases.{IsMet}}
+use Rattle.run_phases.specs.declared.{course.Outcome.{Outcome}, faults.RunFault.{RunFault}}
+use Rattle.auction_run.specs.{Checks.{IsFirstToFail}, declared.checks.Stopped.{Stopped}}
 use Rattle.auction_run.specs.declared.checks.Stopped.TheVariants.{Refused, Failed}
-use Rattle.run_phases.specs.declared.course.Outcome.{Outcome}
 
 -- there is a script for each worker of the state
 abbrev pub HasScripts : JoinedState → List (List Request) → Type 0

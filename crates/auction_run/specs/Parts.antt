@@ -1,8 +1,7 @@
 -- The parts of an auction's history, which one run after the other performs.
 use Rattle.std.specs.Prelude.{◌≡◌, List, flat_map, fold}
+use Rattle.auction_rows.specs.{Book.{Book}, History.{ReplaysFrom, book_after}}
 use Rattle.auction_rows.specs.declared.{values.Opening.Opening, rows.Entry.Entry}
-use Rattle.auction_rows.specs.Book.{Book}
-use Rattle.auction_rows.specs.History.{ReplaysFrom, book_after}
 use Rattle.phase_floor.specs.States.{JoinedState, IsBookOf}
 use Rattle.phase_laws.specs.Replay.{Replays}
 

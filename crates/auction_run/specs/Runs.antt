@@ -1,17 +1,13 @@
 -- What a run from an opening book on answers, and what its board has then.
 use Rattle.std.specs.Prelude.{◌≡◌, ◌<◌, List, [], Result, length, IfOk, IsErrOf}
+use Rattle.auction_rows.specs.{Book.{Book}, History.{book_after}}
 use Rattle.auction_rows.specs.declared.limits.TheConstants.{MOST_OF_A_WORKER}
 use Rattle.auction_rows.specs.declared.{limits.Policy.Policy, values.Opening.Opening, requests.Request.Request, rows.Row.Row}
-use Rattle.auction_rows.specs.Book.{Book}
-use Rattle.auction_rows.specs.History.{book_after}
 use Rattle.phase_floor.specs.States.{IsBookOf}
 use Rattle.auction_run.specs.Checks.{IsRefusedInOrder}
-use Rattle.run_phases.specs.Boards.{HasShown}
-use Rattle.run_phases.specs.Phases.{HaveMetLastNumber}
-use Rattle.run_phases.specs.declared.faults.RunFault.{RunFault}
-use Rattle.run_phases.specs.declared.faults.RunFault.TheVariants.{NumberFull, Spawn}
-use Rattle.run_phases.specs.declared.course.Outcome.{Outcome}
-use Rattle.run_phases.specs.Outcomes.{IsOutcome, HasShownFirstAfter}
+use Rattle.run_phases.specs.{Boards.{HasShown}, Outcomes.{IsOutcome, HasShownFirstAfter}}
+use Rattle.run_phases.specs.{Phases.{HaveMetLastNumber}, declared.course.Outcome.{Outcome}}
+use Rattle.run_phases.specs.declared.faults.RunFault.{TheVariants.{NumberFull, Spawn}, RunFault}
 
 -- What a run of these scripts answers, from an opening book on.
 pub record AnswersRun (opening : Opening) (rows : Book) (policy : Policy)

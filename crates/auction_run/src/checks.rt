@@ -1,7 +1,6 @@
 //! What is checked before a run begins, and why a run that goes on stops.
 ghost use Rattle.std.specs.Prelude.{◌≡◌, ◌↔◌, ◌<◌, ◌≤◌, ℕ, length, slice_index, IsTrue, OnOk};
-ghost use Rattle.item_shards.specs.OpeningBooks.{rows_of_book};
-ghost use Rattle.item_shards.specs.OpeningRows.{rows_by};
+ghost use Rattle.item_shards.specs.{OpeningBooks.{rows_of_book}, OpeningRows.{rows_by}};
 ghost use Rattle.run_laws.specs.Serving.{script_of};
 ghost use Rattle.run_phases.specs.Beginning.{HaveWorkers, HasShards, HasQuotas, AreShort};
 ghost use Rattle.auction_run.specs.Checks.{IsFirstToFail};

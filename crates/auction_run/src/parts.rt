@@ -1,11 +1,9 @@
 //! Runs that go on from what another left, and the parts of a history, which one run after the
 //! other performs, as a law.
 ghost use Rattle.std.specs.Prelude.{List, length, IfOk, IfErr, ◌≡◌, ◌≤◌, ◌++◌, ◌∷◌, []};
-ghost use Rattle.auction_rows.specs.declared.values.Opening.{Opening};
-ghost use Rattle.auction_rows.specs.declared.rows.Entry.{Entry};
-ghost use Rattle.auction_rows.specs.Book.{Book};
-ghost use Rattle.auction_rows.specs.History.{book_after, ReplaysFrom};
+ghost use Rattle.auction_rows.specs.{Book.{Book}, History.{book_after, ReplaysFrom}};
 ghost use Rattle.auction_rows.specs.declared.limits.TheConstants.{MOST_WORKERS};
+ghost use Rattle.auction_rows.specs.declared.{rows.Entry.{Entry}, values.Opening.{Opening}};
 ghost use Rattle.phase_floor.specs.States.{IsBookOf, JoinedState};
 ghost use Rattle.run_phases.specs.Boards.{IsUpToDate};
 ghost use Rattle.auction_run.specs.GoingOn.{AnswersNextRun, GivesBack, HasShownFirstNext, HasShownNext, IsReadyFor};

@@ -1,29 +1,25 @@
 -- The acts of a row, each on the shard where its object lies.
 use Rattle.std.proofs.Common.{◌≡◌, ℕ, ◌<◌, ◌==◌, Bool, true, false, cond, List, [], ◌∷◌, Some, None, length, map, get_or, set, refl, sym, ap, ◌∙◌, subst, arith, eq-eqb, length-set}
-use Rattle.std.specs.Option.{option_map_or}
-use Rattle.std.specs.List.{AllByRecursion}
 use Rattle.std.proofs.lemmas.Bool.{eqb-true, false≢true}
-use Rattle.std.proofs.lemmas.Nat.{mod_below}
 use Rattle.std.proofs.lemmas.List.{length-map, map-set, set-get_or, get_or-set_same, get_or-set_other}
-use Rattle.auction_rows.specs.declared.{requests.ItemId.ItemId, requests.Object.Object, rows.ItemRow.ItemRow, rows.Row.Row}
-use Rattle.auction_rows.specs.declared.requests.Object.TheVariants.{Item, Category}
-use Rattle.auction_rows.specs.declared.replies.Reply.TheVariants.{ItemStored}
-use Rattle.auction_rows.specs.declared.rows.Row.TheVariants as row
-use Rattle.auction_rows.specs.Book.{item_entry}
-use Rattle.auction_rows.specs.History.{commit_of}
+use Rattle.std.{proofs.lemmas.Nat.{mod_below}, specs.List.{AllByRecursion}}
+use Rattle.std.specs.Option.{option_map_or}
+use Rattle.auction_rows.specs.{Book.{item_entry}, History.{commit_of}}
 use Rattle.auction_rows.specs.Requests.{number_of, shard_of}
+use Rattle.auction_rows.specs.declared.replies.Reply.TheVariants.{ItemStored}
+use Rattle.auction_rows.specs.declared.requests.Object.TheVariants.{Item, Category}
+use Rattle.auction_rows.specs.declared.{requests.ItemId.ItemId, requests.Object.Object, rows.ItemRow.ItemRow, rows.Row.Row}
+use Rattle.auction_rows.specs.declared.rows.Row.TheVariants as row
+use Rattle.item_shards.{proofs.StandingLemmas.{cold_here}, specs.Acting.{CanActOn}}
+use Rattle.item_shards.specs.Contents.{Contents, target, after_act, after_acts}
 use Rattle.item_shards.specs.Events.{Event, AddItem, ListItem}
+use Rattle.item_shards.specs.Writing.{writes_of, first_act, second_act, is_cold_in, is_done_on}
 use Rattle.item_shards.specs.declared.shard.Shard.{Shard}
 use Rattle.item_shards.specs.ShardContents.{IsSameShard, HasItemRoom, clock, contents, rooms, shard_number, shard_count, opening as opening_of}
-use Rattle.item_shards.specs.Acting.{CanActOn}
-use Rattle.item_shards.specs.Contents.{Contents, target, after_act, after_acts}
-use Rattle.item_shards.specs.Writing.{writes_of, first_act, second_act, is_cold_in, is_done_on}
-use Rattle.item_shards.proofs.StandingLemmas.{cold_here}
 use Rattle.shard_boxes.specs.States.{ShardState, state_of, state_at, no_shard}
-use Rattle.auction_shards.specs.Shards.{AreNumbered, AreOfOne}
-use Rattle.auction_shards.specs.inner.Acting.{IsShardOf, HasRoomIn}
+use Rattle.auction_shards.{proofs.Placed.{seen, lies_there}, specs.Shards.{AreNumbered, AreOfOne}}
 use Rattle.auction_shards.specs.Writing.{CanWriteOn, HaveDone, with_acts}
-use Rattle.auction_shards.proofs.Placed.{seen, lies_there}
+use Rattle.auction_shards.specs.inner.Acting.{IsShardOf, HasRoomIn}
 
 abbrev pub acted : Event → ShardState → ShardState
 acted act state = record state { contents = after_act state.contents act }

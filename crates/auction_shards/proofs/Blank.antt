@@ -1,11 +1,9 @@
 -- Shards in which nothing is stored.
 use Rattle.std.proofs.Common.{◌≡◌, ℕ, ◌<◌, ◌≤◌, List, length, sym, ◌∙◌, arith}
 use Rattle.auction_rows.specs.declared.values.Opening.{Opening}
-use Rattle.item_shards.specs.declared.shard.Shard.{Shard}
-use Rattle.item_shards.specs.ShardContents.{IsNewShard}
+use Rattle.item_shards.specs.{ShardContents.{IsNewShard}, declared.shard.Shard.{Shard}}
 use Rattle.shard_boxes.specs.States.{ShardState, state_of}
-use Rattle.auction_shards.specs.Making.{IsBlank, AreBlank}
-use Rattle.auction_shards.specs.Shards.{AreOfOne}
+use Rattle.auction_shards.specs.{Making.{IsBlank, AreBlank}, Shards.{AreOfOne}}
 
 pub blank_of_new : (opening : Opening) (count n : ℕ) (shard : Shard) → IsNewShard n count opening shard → IsBlank opening count n (state_of shard)
 blank_of_new opening count n shard new =

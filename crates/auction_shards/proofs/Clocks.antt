@@ -1,7 +1,6 @@
 -- Shards of one auction, with their clocks at 0.
 use Rattle.std.proofs.Common.{◌≡◌, ℕ, List, length, map, sym, ap, ◌∙◌, arith}
-use Rattle.std.proofs.Math.ListN.{get_or-map}
-use Rattle.std.proofs.lemmas.List.{length-map}
+use Rattle.std.proofs.{Math.ListN.{get_or-map}, lemmas.List.{length-map}}
 use Rattle.shard_boxes.specs.States.{ShardState, state_at, no_shard}
 use Rattle.auction_shards.specs.Shards.{AreOfOne, at_start}
 

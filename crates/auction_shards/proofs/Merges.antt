@@ -1,23 +1,19 @@
 -- A slice merged into the shard of its object leaves the shards of one auction.
 use Rattle.std.proofs.Common.{◌≡◌, ℕ, zero, suc, ◌<◌, ◌==◌, Bool, true, false, cond, List, [], ◌∷◌, Option, Some, None, length, map, get_or, set, refl, sym, ap, subst, ◌∙◌, arith}
-use Rattle.std.specs.Prelude.{IsSome, is_some}
 use Rattle.std.proofs.lemmas.List.{length-map, length-set, map-set}
+use Rattle.std.specs.Prelude.{IsSome, is_some}
 use Rattle.indexmap.specs.IndexMap.{get}
-use Rattle.auction_rows.specs.declared.requests.{ItemId.ItemId, Object.Object}
+use Rattle.auction_rows.specs.{Book.{same_item}, Requests.{shard_of}}
 use Rattle.auction_rows.specs.declared.requests.Object.TheVariants.{Item}
-use Rattle.auction_rows.specs.Book.{same_item}
-use Rattle.auction_rows.specs.Requests.{shard_of}
-use Rattle.item_shards.specs.declared.shard.records.ItemRecord.{ItemRecord}
-use Rattle.item_shards.specs.declared.shard.Shard.{Shard}
-use Rattle.item_shards.specs.declared.shard.slices.Slice.{Slice}
-use Rattle.item_shards.specs.Contents.{changed}
-use Rattle.item_shards.specs.Records.{item_value}
+use Rattle.auction_rows.specs.declared.requests.{ItemId.ItemId, Object.Object}
+use Rattle.item_shards.specs.{Contents.{changed}, Records.{item_value}}
 use Rattle.item_shards.specs.ShardContents.{IsSameShard, LiesIn, HasItemRoom, clock, contents, opening, shard_count, shard_number}
-use Rattle.item_shards.specs.Values.{blank}
+use Rattle.item_shards.specs.{Values.{blank}, declared.shard.Shard.{Shard}}
+use Rattle.item_shards.specs.declared.shard.{records.ItemRecord.{ItemRecord}, slices.Slice.{Slice}}
 use Rattle.shard_boxes.specs.States.{ShardState, state_of, state_at}
+use Rattle.auction_shards.proofs.Placed.{seen, lies_there, opening_there, value_there}
 use Rattle.auction_shards.specs.Merging.{merged_with, with_slice, after_merge}
 use Rattle.auction_shards.specs.Shards.{AreOfOne, opening_in, value_on}
-use Rattle.auction_shards.proofs.Placed.{seen, lies_there, opening_there, value_there}
 
 -- what no slice changes of a shard stays of all
 field_stays : {X : Type 0} (f : ShardState → X) (pair : Object × Slice) → ((state : ShardState) → f (with_slice state pair) ≡ f state)

@@ -1,10 +1,10 @@
 -- The shard in which an object lies, of those that are numbered.
 use Rattle.std.proofs.Common.{◌≡◌, ℕ, ◌<◌, List, length, map, get_or, sym, ap, ◌∙◌, arith}
 use Rattle.std.proofs.lemmas.List.{length-map, get_or-map}
-use Rattle.auction_rows.specs.declared.{values.Opening.Opening, requests.Object.Object}
 use Rattle.auction_rows.specs.Requests.{shard_of}
-use Rattle.item_shards.specs.declared.shard.Shard.{Shard}
+use Rattle.auction_rows.specs.declared.{values.Opening.Opening, requests.Object.Object}
 use Rattle.item_shards.specs.ShardContents.{LiesIn, contents, opening, shard_count, shard_number}
+use Rattle.item_shards.specs.declared.shard.Shard.{Shard}
 use Rattle.shard_boxes.specs.States.{ShardState, state_of, state_at, no_shard}
 use Rattle.auction_shards.specs.Shards.{AreNumbered, value_on}
 

@@ -1,17 +1,14 @@
 -- The shard in which an object lies, and what it shows.
 use Rattle.std.proofs.Common.{◌≡◌, ℕ, ◌<◌, List, [], length, map, refl, sym, ap, ◌∙◌, arith}
-use Rattle.std.proofs.lemmas.List.{length-map}
-use Rattle.std.proofs.lemmas.Nat.{mod_below}
+use Rattle.std.proofs.lemmas.{List.{length-map}, Nat.{mod_below}}
+use Rattle.auction_rows.specs.{Book.{Book}, Replies.{reply}, Requests.{number_of, shard_of}}
 use Rattle.auction_rows.specs.declared.{values.Opening.Opening, requests.Object.Object, requests.Request.Request, replies.Reply.Reply}
-use Rattle.auction_rows.specs.Book.{Book}
-use Rattle.auction_rows.specs.Replies.{reply}
-use Rattle.auction_rows.specs.Requests.{number_of, shard_of}
-use Rattle.item_shards.specs.declared.shard.Shard.{Shard}
 use Rattle.item_shards.specs.ShardContents.{LiesIn, opening, contents, ForEachBook, ShardStandsFor}
+use Rattle.item_shards.specs.declared.shard.Shard.{Shard}
 use Rattle.shard_boxes.specs.States.{ShardState, state_of}
+use Rattle.auction_shards.proofs.Placed.{seen, number_there, count_there, lies_there, opening_there, value_there}
 use Rattle.auction_shards.specs.Shards.{AreOfOne, ShardsStandFor, opening_in, value_on}
 use Rattle.auction_shards.specs.inner.Acting.{IsShardOf}
-use Rattle.auction_shards.proofs.Placed.{seen, number_there, count_there, lies_there, opening_there, value_there}
 
 module _ (shards : List Shard) (one : AreOfOne (map state_of shards)) (object : Object) (shard : Shard) (is : IsShardOf shards object shard) where
   abbrev place : ℕ

@@ -1,13 +1,11 @@
 -- Slices that are merged into the shards in which their objects lie.
-use Rattle.std.specs.Prelude.{◌+◌, ◌<◌, ◌^◌, ◌+ℤ◌, FitsSigned, IsSome, ⊤, List, length, slice_set}
 use Rattle.std.specs.Int.{w64}
-use Rattle.auction_rows.specs.declared.requests.Object.{Object}
+use Rattle.std.specs.Prelude.{◌+◌, ◌<◌, ◌^◌, ◌+ℤ◌, FitsSigned, IsSome, ⊤, List, length, slice_set}
+use Rattle.auction_rows.specs.{Requests.{shard_of}, declared.requests.Object.{Object}}
 use Rattle.auction_rows.specs.declared.requests.Object.TheVariants.{Item, User, Category}
-use Rattle.auction_rows.specs.Requests.{shard_of}
-use Rattle.item_shards.specs.declared.shard.slices.Slice.{Slice}
-use Rattle.item_shards.specs.declared.shard.slices.Slice.TheVariants as slice
 use Rattle.item_shards.specs.Contents.{changed, bids_merged, comments_merged, items_merged}
-use Rattle.item_shards.specs.Values.{Value}
+use Rattle.item_shards.specs.{Values.{Value}, declared.shard.slices.Slice.{Slice}}
+use Rattle.item_shards.specs.declared.shard.slices.Slice.TheVariants as slice
 use Rattle.shard_boxes.specs.States.{ShardState, state_at}
 use Rattle.auction_shards.specs.Shards.{value_on}
 

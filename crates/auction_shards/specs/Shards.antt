@@ -1,12 +1,10 @@
 -- The shards of one auction: what they have in common, and what they show.
 use Rattle.std.specs.Prelude.{◌≡◌, ℕ, ◌<◌, ◌≤◌, List, length, ⊤}
+use Rattle.auction_rows.specs.{Book.{Book}, Requests.{shard_of}}
 use Rattle.auction_rows.specs.declared.limits.TheConstants.{MOST_SHARDS}
-use Rattle.auction_rows.specs.declared.{values.Opening.Opening, requests.Object.Object}
 use Rattle.auction_rows.specs.declared.requests.Object.TheVariants.{Item, User, Category}
-use Rattle.auction_rows.specs.Book.{Book}
-use Rattle.auction_rows.specs.Requests.{shard_of}
-use Rattle.item_shards.specs.Standing.{ContentsStandsFor}
-use Rattle.item_shards.specs.Values.{Value}
+use Rattle.auction_rows.specs.declared.{values.Opening.Opening, requests.Object.Object}
+use Rattle.item_shards.specs.{Standing.{ContentsStandsFor}, Values.{Value}}
 use Rattle.shard_boxes.specs.States.{ShardState, state_at}
 
 -- each shard has its place for number, and is one of as many as there are

@@ -1,10 +1,7 @@
 -- Rows that are written on the shards of one auction.
-use Rattle.std.specs.Prelude.{◌≡◌, ℕ, ◌<◌, true, List, [], length}
-use Rattle.std.specs.List.{AllByRecursion}
+use Rattle.std.specs.{List.{AllByRecursion}, Prelude.{◌≡◌, ℕ, ◌<◌, true, List, [], length}}
 use Rattle.auction_rows.specs.declared.rows.Row.{Row}
-use Rattle.item_shards.specs.Events.{Event}
-use Rattle.item_shards.specs.Acting.{CanActOn}
-use Rattle.item_shards.specs.Contents.{after_acts}
+use Rattle.item_shards.specs.{Acting.{CanActOn}, Contents.{after_acts}, Events.{Event}}
 use Rattle.item_shards.specs.Writing.{writes_of, is_done_on, done_on}
 use Rattle.shard_boxes.specs.States.{ShardState, state_at}
 

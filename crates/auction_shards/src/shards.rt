@@ -1,8 +1,7 @@
 //! The shards, and what they show.
 ghost use Rattle.std.specs.Prelude.{◌≡◌, ◌<◌, ◌≤◌, [], ℕ, IfOk, IfSome, is_some, length, map};
 ghost use Rattle.shard_boxes.specs.States.{state_of};
-ghost use Rattle.auction_shards.specs.Making.{AreBlank};
-ghost use Rattle.auction_shards.specs.Shards.{AreOfOne};
+ghost use Rattle.auction_shards.specs.{Making.{AreBlank}, Shards.{AreOfOne}};
 
 use auction_rows::{MOST_SHARDS, Object, Opening, Reply, Request, shard_of};
 use item_shards::Shard;
@@ -16,8 +15,7 @@ pub struct Shards {
 }
 
 impl Model for Shards {
-    ghost use Rattle.std.specs.Prelude.{List, map};
-    ghost use Rattle.std.specs.Coded.{codes};
+    ghost use Rattle.std.specs.{Coded.{codes}, Prelude.{List, map}};
     ghost use Rattle.item_shards.specs.contracts.shard.Shard as shard;
     ghost use Rattle.item_shards.specs.declared.shard.Shard.{Shard as ShardValue};
     ghost use Rattle.shard_boxes.specs.States.{state_of};
@@ -71,9 +69,7 @@ impl Shards {
 }
 
 impl Shards {
-    ghost use Rattle.auction_rows.specs.Book.{Book};
-    ghost use Rattle.auction_rows.specs.Replies.{reply};
-    ghost use Rattle.auction_rows.specs.Requests.{is_view};
+    ghost use Rattle.auction_rows.specs.{Book.{Book}, Replies.{reply}, Requests.{is_view}};
     ghost use Rattle.item_shards.specs.ShardContents.{LiesIn, ShardStandsFor, contents, opening};
     ghost use Rattle.auction_shards.specs.Shards.{ShardsStandFor, opening_in, value_on};
 

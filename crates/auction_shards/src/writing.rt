@@ -1,14 +1,11 @@
 //! How a row is written: by acts, each on the shard where its object lies.
 ghost use Rattle.std.specs.Prelude.{◌≡◌, ◌∷◌, [], OnErr, OnOk, map};
-ghost use Rattle.auction_rows.specs.declared.requests.ItemId.{ItemId};
-ghost use Rattle.auction_rows.specs.declared.replies.Reply.TheVariants.{ItemStored};
 ghost use Rattle.auction_rows.specs.History.{commit_of};
-ghost use Rattle.item_shards.specs.Events.{Event};
-ghost use Rattle.item_shards.specs.Looking.{IsEvent};
-ghost use Rattle.item_shards.specs.Writing.{writes_of};
+ghost use Rattle.auction_rows.specs.declared.replies.Reply.TheVariants.{ItemStored};
+ghost use Rattle.auction_rows.specs.declared.requests.ItemId.{ItemId};
+ghost use Rattle.item_shards.specs.{Events.{Event}, Looking.{IsEvent}, Writing.{writes_of}};
 ghost use Rattle.shard_boxes.specs.States.{state_of};
-ghost use Rattle.auction_shards.specs.Shards.{AreOfOne};
-ghost use Rattle.auction_shards.specs.Writing.{CanWriteOn, HaveDone};
+ghost use Rattle.auction_shards.specs.{Shards.{AreOfOne}, Writing.{CanWriteOn, HaveDone}};
 ghost use Rattle.auction_shards.specs.inner.Acting.{CanActIn, HasRoomIn};
 
 use crate::shards::Shards;

@@ -1,8 +1,6 @@
 -- Lists that are those of their places.
 use Rattle.std.proofs.Common.{arith, ◌≡◌, ◌<◌, ◌∙◌, ◌⊎◌, inl, inr, ℕ, zero, suc, append-nil, append_assoc, List, [], Ok, Result, map, ◌∷◌, ◌++◌, Some, ap, get_or, length, refl, slice_get, sym}
-use Rattle.std.specs.Global.{Vec}
-use Rattle.std.proofs.lemmas.List.{map-append}
-use Rattle.std.proofs.lemmas.Option.{slice_get-get_or}
+use Rattle.std.{proofs.lemmas.{List.{map-append}, Option.{slice_get-get_or}}, specs.Global.{Vec}}
 use Rattle.auction_text.specs.inner.Workers.{AreEach}
 
 -- what is at a place of a list and one more

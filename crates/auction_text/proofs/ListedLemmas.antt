@@ -1,9 +1,8 @@
 -- A text that lists the elements of a list.
 use Rattle.std.proofs.Common.{arith, ◌≡◌, ◌++◌, ◌+◌, ◌<◌, ◌≤◌, ℕ, List, [], ◌∷◌, zero, suc, Option, Some, None, IsSome, take, get_or, slice_get, length, append_assoc, refl, sym, ap, ◌∙◌}
-use Rattle.std.specs.List.{flat_map}
 use Rattle.std.proofs.lemmas.Grind.{flat_map-append}
 use Rattle.std.proofs.lemmas.List.{append-nil, get_or_default, take_all, take_more}
-use Rattle.std.proofs.lemmas.Option.{slice_get-get_or, slice_get_within}
+use Rattle.std.{proofs.lemmas.Option.{slice_get-get_or, slice_get_within}, specs.List.{flat_map}}
 
 -- a text to which a word and the first elements of a list were added, and the next one
 pub one_listed : {X : Type 0} (f : X → List ℕ) (text word now more : List ℕ) (xs : List X) (i : ℕ) (x : X) → i < length xs → x ≡ get_or xs i x

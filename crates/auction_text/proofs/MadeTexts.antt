@@ -1,11 +1,9 @@
 -- A text that is made as it should be is written as it should be.
 use Rattle.std.proofs.Common.{◌≡◌, ℕ, List, Option, Result, Ok, Err, Vec, IsOkAnd, IfOk, OnOk, ap, subst}
-use Rattle.std.specs.Global.{Global}
-use Rattle.std.specs.Io.KnownBytes.{Appends}
+use Rattle.std.specs.{Global.{Global}, Io.KnownBytes.{Appends}}
 use Rattle.std.specs.declared.alloc.AllocError.{AllocError}
-use Rattle.byte_texts.specs.declared.writing.WriteFault.{WriteFault}
-use Rattle.byte_texts.specs.declared.writing.WriteFault.TheVariants.{Memory, Write}
 use Rattle.byte_texts.specs.Writing.{IsPartWritten, WritesText}
+use Rattle.byte_texts.specs.declared.writing.WriteFault.{TheVariants.{Memory, Write}, WriteFault}
 
 pub written_as : {W T : Type 0} (contents : W → Option (List ℕ)) (old new : W) (text : List ℕ) (made : Result (Vec ℕ Global) AllocError) (result : Result T WriteFault)
     → IfOk made (λ bytes. bytes.items ≡ text)

@@ -1,21 +1,16 @@
 -- The entries of a part as they stand in the whole: their order, and their lines.
 use Rattle.std.proofs.Common.{arith, ◌≡◌, ◌∙◌, ◌+◌, ◌<◌, ◌==◌, ◌∷◌, ◌++◌, ◌≤◌, ℕ, Bool, List, [], ap, ap₂, get_or, inl, inr, length, map, refl, set, subst, sym}
-use Rattle.std.specs.Cmp.{nat_cmp_is}
-use Rattle.std.specs.List.{AllByRecursion}
-use Rattle.std.specs.Ordering.{is_lt, nat_cmp, ordering_then}
-use Rattle.std.specs.declared.cmp.Ordering.{Ordering}
-use Rattle.std.specs.declared.cmp.Ordering.TheVariants.{Equal, Greater, Less}
-use Rattle.std.proofs.lemmas.Bool.{cases_Bool, cases_eq, cases_lt, cases_order}
-use Rattle.std.proofs.lemmas.Bool.Decides.{nat_tests}
+use Rattle.std.proofs.lemmas.Bool.{Decides.{nat_tests}, cases_Bool, cases_eq, cases_lt, cases_order}
 use Rattle.std.proofs.lemmas.List.{get_or-set_other, get_or-set_same, get_or_default, get_or_past}
-use Rattle.std.proofs.lemmas.List.Folds.{flat_map-map}
+use Rattle.std.{proofs.lemmas.List.Folds.{flat_map-map}, specs.Cmp.{nat_cmp_is}}
+use Rattle.std.specs.{List.{AllByRecursion}, Ordering.{is_lt, nat_cmp, ordering_then}}
+use Rattle.std.specs.declared.cmp.Ordering.{TheVariants.{Equal, Greater, Less}, Ordering}
 use Rattle.phase_laws.specs.Order.{part}
 use Rattle.auction_rows.specs.declared.{requests.Request.Request, rows.Entry.Entry}
 use Rattle.worker_journals.specs.Journals.{entry_worker}
 use Rattle.auction_text.specs.Moved.{Gone, all_moved, moved}
 use Rattle.auction_text.specs.Order.{comes_before, in_order, put_in, sorted}
-use Rattle.auction_text.specs.Replies.{lines, reply_line}
-use Rattle.auction_text.specs.inner.Putting.{line_after}
+use Rattle.auction_text.specs.{Replies.{lines, reply_line}, inner.Putting.{line_after}}
 use Rattle.auction_text.specs.inner.Workers.{replies_of}
 
 more_alike : (k i j : ℕ) → nat_cmp (k + i) (k + j) ≡ nat_cmp i j

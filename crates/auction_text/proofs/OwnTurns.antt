@@ -1,18 +1,14 @@
 -- The entries of one worker in turn, by their indexes.
 use Rattle.std.proofs.Common.{arith, ◌≡◌, ◌∙◌, ◌+◌, ◌==◌, ◌∷◌, ◌++◌, ℕ, true, false, not, List, [], Option, Some, None, IfSome, nat_lt, ap, refl, subst, sym, inl, inr}
-use Rattle.std.specs.Cmp.{nat_cmp_is}
-use Rattle.std.specs.List.{AllByRecursion}
+use Rattle.std.proofs.lemmas.Bool.{Decides.{nat_tests}, cases_Bool, cases_order}
+use Rattle.std.specs.{Cmp.{nat_cmp_is}, List.{AllByRecursion}}
 use Rattle.std.specs.Ordering.{is_lt, nat_cmp, ordering_then}
 use Rattle.std.specs.declared.cmp.Ordering.TheVariants.{Equal, Greater, Less}
-use Rattle.std.proofs.lemmas.Bool.{cases_Bool, cases_order}
-use Rattle.std.proofs.lemmas.Bool.Decides.{nat_tests}
 use Rattle.phase_laws.specs.Order.{part}
 use Rattle.auction_rows.specs.declared.rows.Entry.{Entry}
-use Rattle.worker_journals.specs.Journals.{entry_worker}
-use Rattle.auction_text.specs.Order.{comes_before}
-use Rattle.worker_journals.specs.Rising.{EntriesRiseTo, HasPassed}
+use Rattle.worker_journals.specs.{Journals.{entry_worker}, Rising.{EntriesRiseTo, HasPassed}}
+use Rattle.auction_text.{proofs.TurnLemmas.{late-in_turn}, specs.Order.{comes_before}}
 use Rattle.auction_text.specs.inner.Turns.{is_late, late}
-use Rattle.auction_text.proofs.TurnLemmas.{late-in_turn}
 
 -- the first index that comes after an entry's
 abbrev pub next_after : Option Entry → ℕ

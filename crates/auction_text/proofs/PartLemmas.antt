@@ -1,21 +1,15 @@
 -- The entries of one worker after the other.
 use Rattle.std.proofs.Common.{◌≡◌, ◌<◌, ◌≤◌, ◌+◌, ◌==◌, ◌∙◌, ℕ, Bool, true, false, cond, nat_lt, not, List, [], ◌∷◌, ◌++◌, refl, sym, ap, arith, inl, inr, eq-eqb}
-use Rattle.std.specs.Cmp.{IsStrictWeakOrder, nat_cmp_is}
-use Rattle.std.specs.List.{AllByRecursion, filter}
-use Rattle.std.specs.List.Sorted.{ties}
-use Rattle.std.specs.declared.cmp.Ordering.TheVariants.{Less}
-use Rattle.std.proofs.lemmas.Bool.{and_parts, cases_Bool, cases_order}
-use Rattle.std.proofs.lemmas.Bool.Decides.{nat_tests}
-use Rattle.std.proofs.lemmas.List.{append-nil}
-use Rattle.std.proofs.lemmas.List.Sorted.{ranks_by}
-use Rattle.std.proofs.lemmas.List.Elements.{filter-append}
+use Rattle.std.proofs.lemmas.Bool.{Decides.{nat_tests}, and_parts, cases_Bool, cases_order}
+use Rattle.std.proofs.lemmas.List.{Elements.{filter-append}, Sorted.{ranks_by}, append-nil}
+use Rattle.std.specs.{Cmp.{IsStrictWeakOrder, nat_cmp_is}, List.{AllByRecursion, filter}}
+use Rattle.std.specs.{List.Sorted.{ties}, declared.cmp.Ordering.TheVariants.{Less}}
 use Rattle.phase_laws.specs.Order.{part}
 use Rattle.auction_rows.specs.declared.rows.Entry.{Entry}
 use Rattle.worker_journals.specs.Journals.{entry_worker}
-use Rattle.auction_text.specs.Order.{comes_before, in_order}
 use Rattle.auction_text.proofs.ReplyOrder.{precedence_total}
 use Rattle.auction_text.proofs.SortLemmas.{NoneBefore, not_false, one_in_order, ties-sorted, up-sorted}
-use Rattle.auction_text.proofs.TurnLemmas.{sorted-append}
+use Rattle.auction_text.{proofs.TurnLemmas.{sorted-append}, specs.Order.{comes_before, in_order}}
 
 less_first : (a b : Entry) → a.worker < b.worker → comes_before a b ≡ true
 less_first a b less = rw (sym (nat_cmp_is a.worker b.worker Less less)) refl

@@ -1,12 +1,9 @@
 -- Texts that are put one after the other to what waits to be written.
 use Rattle.std.proofs.Common.{arith, ◌≡◌, ◌∙◌, ◌+◌, ◌≤◌, min, ℕ, List, [], ◌++◌, Option, Some, Result, Ok, Err, OnOk, IfErr, IsErrAnd, ap, append-nil, append_assoc, length, refl, subst, sym, take}
-use Rattle.std.proofs.KnownBytes.{Appends-nil, Appends-trans}
-use Rattle.std.proofs.Math.Seq.{take-append-add}
-use Rattle.std.proofs.lemmas.List.{take-append-le, take_min}
-use Rattle.std.specs.Io.KnownBytes.{Appends}
-use Rattle.byte_texts.specs.declared.writing.WriteFault.{WriteFault}
-use Rattle.byte_texts.specs.declared.writing.WriteFault.TheVariants.{Write}
+use Rattle.std.proofs.{KnownBytes.{Appends-nil, Appends-trans}, Math.Seq.{take-append-add}}
+use Rattle.std.{proofs.lemmas.List.{take-append-le, take_min}, specs.Io.KnownBytes.{Appends}}
 use Rattle.byte_texts.specs.Writing.{IsPartWritten, WritesText}
+use Rattle.byte_texts.specs.declared.writing.WriteFault.{TheVariants.{Write}, WriteFault}
 use Rattle.auction_text.specs.inner.Putting.{Adds, PutsText}
 
 -- nothing is written

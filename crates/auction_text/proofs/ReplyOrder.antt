@@ -1,6 +1,5 @@
 -- The order of replies is an order.
-use Rattle.std.specs.Cmp.{IsTotalOrder}
-use Rattle.std.proofs.lemmas.Cmp.{nat_cmp_total, on_total, then_total}
+use Rattle.std.{proofs.lemmas.Cmp.{nat_cmp_total, on_total, then_total}, specs.Cmp.{IsTotalOrder}}
 use Rattle.auction_rows.specs.declared.rows.Entry.{Entry}
 use Rattle.auction_text.specs.Order.{precedence}
 

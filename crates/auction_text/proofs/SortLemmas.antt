@@ -1,10 +1,9 @@
 -- There is one list in order, and a sort finds it.
 use Rattle.std.proofs.Common.{◌≡◌, ◌∷◌, ◌∙◌, ◌<◌, ◌≤◌, ◌+◌, ℕ, zero, suc, Bool, true, false, cond, List, [], length, refl, sym, ap, subst, arith, get_or, inl, inr, not}
-use Rattle.std.specs.Cmp.{IsStrictWeakOrder}
-use Rattle.std.specs.List.{AllByRecursion, filter}
-use Rattle.std.specs.List.Sorted.{IsPermutation, IsSortedBy, IsStableBy, ties}
 use Rattle.std.proofs.lemmas.Bool.{cases_Bool, and_parts, false_from_ne_true, false≢true}
 use Rattle.std.proofs.lemmas.List.Sorted.{IsPermutation-cons, IsPermutation-middle, IsPermutation-refl, IsPermutation-trans, sorted_far}
+use Rattle.std.specs.{Cmp.{IsStrictWeakOrder}, List.{AllByRecursion, filter}}
+use Rattle.std.specs.List.Sorted.{IsPermutation, IsSortedBy, IsStableBy, ties}
 use Rattle.auction_text.specs.Order.{put_in, sorted}
 use Rattle.phase_laws.proofs.OrderLemmas.{all-cond}
 

@@ -1,13 +1,10 @@
 -- Lists in order that are put together: from the elements in turn and the late ones, and from two lists of which one goes first.
 use Rattle.std.proofs.Common.{◌≡◌, ◌<◌, ◌+◌, ◌∷◌, ℕ, drop, get_or, length, ◌++◌, ◌∙◌, Bool, true, false, cond, List, [], Option, Some, None, refl, sym, ap, inl, inr}
-use Rattle.std.specs.Cmp.{IsStrictWeakOrder}
-use Rattle.std.specs.List.{AllByRecursion, filter}
-use Rattle.std.specs.List.Sorted.{ties}
-use Rattle.std.proofs.lemmas.Bool.{cases_Bool, and_parts}
-use Rattle.std.proofs.lemmas.List.{at_drop_more}
+use Rattle.std.proofs.lemmas.{Bool.{cases_Bool, and_parts}, List.{at_drop_more}}
+use Rattle.std.specs.{Cmp.{IsStrictWeakOrder}, List.{Sorted.{ties}, AllByRecursion, filter}}
+use Rattle.auction_text.proofs.SortLemmas.{IsUp, NoneBefore, kept_either, none_put_in, none_weaker, not_false, one_in_order, put_in-first, ties-sorted, up-sorted}
 use Rattle.auction_text.specs.Order.{put_in, sorted}
 use Rattle.auction_text.specs.inner.Turns.{front, in_turn, is_late, late, rest}
-use Rattle.auction_text.proofs.SortLemmas.{IsUp, NoneBefore, kept_either, none_put_in, none_weaker, not_false, one_in_order, put_in-first, ties-sorted, up-sorted}
 
 -- a list from a place on, by the element there
 pub drop_next : {X : Type 0} (xs : List X) (i : ℕ) (x : X) → i < length xs → x ≡ get_or xs i x → drop i xs ≡ x ∷ drop (i + 1) xs

@@ -1,16 +1,14 @@
 -- The replies of all workers, one worker's after the other's.
 use Rattle.std.proofs.Common.{arith, ◌≡◌, ◌<◌, ◌+◌, ◌-◌, ◌∙◌, ℕ, zero, suc, List, [], ◌∷◌, ◌++◌, ap, append-nil, append_assoc, length, refl, sym}
-use Rattle.std.proofs.lemmas.Grind.{flat_map-append}
-use Rattle.std.specs.Global.{Vec}
+use Rattle.std.{proofs.lemmas.Grind.{flat_map-append}, specs.Global.{Vec}}
 use Rattle.std.specs.List.{AllByRecursion, flat_map}
 use Rattle.phase_laws.specs.Order.{part}
 use Rattle.auction_rows.specs.declared.rows.Entry.{Entry}
 use Rattle.worker_journals.specs.Journals.{entry_worker}
-use Rattle.auction_text.specs.Order.{comes_before, in_order}
+use Rattle.auction_text.proofs.PartLemmas.{below, below_all, below_none, in_order_more}
+use Rattle.auction_text.{proofs.SortLemmas.{sorted-nil}, specs.Order.{comes_before, in_order}}
 use Rattle.auction_text.specs.Replies.{lines, replies_text, reply_line}
 use Rattle.auction_text.specs.inner.Workers.{AreEach, replies_of}
-use Rattle.auction_text.proofs.PartLemmas.{below, below_all, below_none, in_order_more}
-use Rattle.auction_text.proofs.SortLemmas.{sorted-nil}
 
 -- the replies of so many workers, from one on
 abbrev pub replies_from : List Entry → ℕ → ℕ → List ℕ

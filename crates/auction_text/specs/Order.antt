@@ -1,6 +1,6 @@
 -- The order of replies.
-use Rattle.std.specs.Prelude.{List, [], ◌∷◌, Bool, if◌then◌else◌}
 use Rattle.std.specs.Ordering.{is_lt, nat_cmp, ordering_then}
+use Rattle.std.specs.Prelude.{List, [], ◌∷◌, Bool, if◌then◌else◌}
 use Rattle.std.specs.declared.cmp.Ordering.{Ordering}
 use Rattle.auction_rows.specs.declared.rows.Entry.{Entry}
 

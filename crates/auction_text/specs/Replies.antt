@@ -1,7 +1,6 @@
 -- The texts of replies and of histories.
+use Rattle.std.specs.{Fmt.{signed_decimal}, List.{flat_map}}
 use Rattle.std.specs.Prelude.{ℕ, ℤ, List, ◌++◌, codes, decimal, Option}
-use Rattle.std.specs.Fmt.{signed_decimal}
-use Rattle.std.specs.List.{flat_map}
 use Rattle.auction_rows.specs.declared.{replies.Refusal.Refusal, replies.Reply.Reply, replies.BidShown.BidShown, replies.ItemShown.ItemShown, rows.Entry.Entry}
 use Rattle.auction_rows.specs.declared.replies.Refusal.TheVariants as refusal
 use Rattle.auction_rows.specs.declared.replies.Reply.TheVariants as reply

@@ -1,10 +1,10 @@
 -- The text of a report.
-use Rattle.std.specs.Prelude.{ℕ, ◌+◌, ◌==◌, if◌then◌else◌, List, [], ◌∷◌, ◌++◌, codes, count_by, length}
 use Rattle.std.specs.List.{flat_map}
-use Rattle.auction_rows.specs.declared.{requests.Object.Object, replies.Reply.Reply, rows.Entry.Entry}
-use Rattle.auction_rows.specs.declared.requests.Object.TheVariants.{Item, User, Category}
-use Rattle.auction_rows.specs.declared.replies.Reply.TheVariants as reply
+use Rattle.std.specs.Prelude.{ℕ, ◌+◌, ◌==◌, if◌then◌else◌, List, [], ◌∷◌, ◌++◌, codes, count_by, length}
 use Rattle.auction_rows.specs.StoreReplies.{is_refusal}
+use Rattle.auction_rows.specs.declared.requests.Object.TheVariants.{Item, User, Category}
+use Rattle.auction_rows.specs.declared.{requests.Object.Object, replies.Reply.Reply, rows.Entry.Entry}
+use Rattle.auction_rows.specs.declared.replies.Reply.TheVariants as reply
 use Rattle.byte_texts.specs.Labels.{labelled, labelled_id}
 use Rattle.auction_text.specs.Replies.{reply_text, score_text}
 

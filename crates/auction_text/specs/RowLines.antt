@@ -1,10 +1,9 @@
 -- The text of rows, as records that can be read again.
+use Rattle.std.specs.{Fmt.{signed_decimal}, List.{flat_map}}
 use Rattle.std.specs.Prelude.{ℕ, ◌==◌, if◌then◌else◌, List, [], ◌∷◌, ◌++◌, codes, decimal}
-use Rattle.std.specs.Fmt.{signed_decimal}
-use Rattle.std.specs.List.{flat_map}
-use Rattle.auction_rows.specs.declared.{requests.Facts.Facts, rows.ItemRow.ItemRow, rows.BidRow.BidRow, rows.CommentRow.CommentRow, rows.BuyRow.BuyRow, rows.Row.Row, rows.Entry.Entry}
-use Rattle.auction_rows.specs.declared.rows.Row.TheVariants.{Item, Bid, Comment, Buy}
 use Rattle.auction_rows.specs.History.{rows_of}
+use Rattle.auction_rows.specs.declared.rows.Row.TheVariants.{Item, Bid, Comment, Buy}
+use Rattle.auction_rows.specs.declared.{requests.Facts.Facts, rows.ItemRow.ItemRow, rows.BidRow.BidRow, rows.CommentRow.CommentRow, rows.BuyRow.BuyRow, rows.Row.Row, rows.Entry.Entry}
 use Rattle.record_reading.specs.Lines.{quote}
 use Rattle.byte_texts.specs.Labels.{labelled, labelled_id}
 use Rattle.auction_text.specs.Replies.{lines}

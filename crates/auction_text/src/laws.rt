@@ -1,12 +1,9 @@
 //! What holds of the texts that are written.
-ghost use Rattle.std.specs.Prelude.{◌≡◌, List};
-ghost use Rattle.std.specs.List.Sorted.{IsPermutation, IsSorted, IsStable};
+ghost use Rattle.std.specs.{List.Sorted.{IsPermutation, IsSorted, IsStable}, Prelude.{◌≡◌, List}};
+ghost use Rattle.auction_rows.specs.{Book.{Book}, History.{ReplaysFrom, book_after}};
 ghost use Rattle.auction_rows.specs.declared.values.Opening.{Opening};
 ghost use Rattle.auction_rows.specs.declared.rows.Entry.{Entry as Commit};
-ghost use Rattle.auction_rows.specs.Book.{Book};
-ghost use Rattle.auction_rows.specs.History.{ReplaysFrom, book_after};
-ghost use Rattle.auction_text.specs.Moved.{Gone, all_moved};
-ghost use Rattle.auction_text.specs.Order.{in_order, precedence};
+ghost use Rattle.auction_text.specs.{Moved.{Gone, all_moved}, Order.{in_order, precedence}};
 ghost use Rattle.auction_text.specs.Replies.{lines, replies_text, reply_line};
 ghost use Rattle.auction_text.specs.RowLines.{row_line, rows_text};
 

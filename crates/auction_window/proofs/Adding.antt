@@ -1,13 +1,11 @@
 -- The exchange that adds a phase keeps the rule.
 use Rattle.std.proofs.Common.{◌≡◌, ℕ, ◌+◌, ◌<◌, ◌==◌, Bool, true, false, List, [], ◌∷◌, ◌++◌, length, refl, ap, sym, subst, arith, inl, length-append, None}
-use Rattle.std.proofs.lemmas.List.{append-nil}
-use Rattle.std.proofs.lemmas.Bool.Decides.{nat_tests}
+use Rattle.std.proofs.lemmas.{Bool.Decides.{nat_tests}, List.{append-nil}}
 use mathlib.Core.List.{IsPrefix}
 use prog.Atomic.{either}
 use Rattle.logbook.specs.Pages.{Cell, cell, keeps, no_nib, step, Moves, Goes}
 use Rattle.auction_rows.specs.declared.rows.Row.{Row}
-use Rattle.auction_window.specs.inner.PhaseRule.{IsKept, Adds}
-use Rattle.auction_window.proofs.Prefixes.{prefix_whole}
+use Rattle.auction_window.{proofs.Prefixes.{prefix_whole}, specs.inner.PhaseRule.{IsKept, Adds}}
 
 abbrev pub shown : List (List Row) → List (List Row)
 shown log = []

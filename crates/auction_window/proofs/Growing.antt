@@ -2,13 +2,12 @@
 use Rattle.std.proofs.Common.{◌≡◌, suc, ◌+◌, List, [], ◌∷◌, ◌++◌, length, refl, ap, sym, ◌∙◌, subst, arith, length-append}
 use mathlib.Core.List.{IsPrefix}
 use Rattle.std.specs.Prelude.{fold, Some, Result, Ok, Err, OnOk, OnErr, MatchResult}
-use Rattle.auction_rows.specs.declared.{values.Opening.Opening, rows.Row.Row}
 use Rattle.auction_rows.specs.Book.{Book}
-use Rattle.item_shards.specs.declared.serial.SerialAuction.{SerialAuction}
+use Rattle.auction_rows.specs.declared.{values.Opening.Opening, rows.Row.Row}
 use Rattle.item_shards.specs.Serial.{CanFollow, CanAdd, HoldsBook, serial_opening}
-use Rattle.auction_window.specs.Published.{book_of}
-use Rattle.auction_window.specs.inner.Copies.{HasPhases, IsLastPhase}
+use Rattle.item_shards.specs.declared.serial.SerialAuction.{SerialAuction}
 use Rattle.auction_window.proofs.Prefixes.{prefix_shorter, prefix_whole}
+use Rattle.auction_window.specs.{Published.{book_of}, inner.Copies.{HasPhases, IsLastPhase}}
 
 -- the book with one phase more is the book with its rows at the end
 pub book_of-snoc : (rows : Book) (phases : List (List Row)) (last : List Row) → book_of rows (phases ++ last ∷ []) ≡ book_of rows phases ++ last

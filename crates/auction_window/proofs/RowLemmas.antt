@@ -1,12 +1,10 @@
 -- Rows as entries are gone through.
 use Rattle.std.proofs.Common.{◌≡◌, ℕ, ◌+◌, ◌<◌, ◌∙◌, ◌++◌, ◌∷◌, [], List, Option, Some, None, length, take, get_or, refl, ap, sym, append_assoc}
-use Rattle.std.specs.Prelude.{option_to_list}
-use Rattle.std.specs.List.{cons_option}
-use Rattle.std.proofs.lemmas.List.{take_more}
-use Rattle.std.proofs.lemmas.List.Elements.{filter_map-append}
-use Rattle.auction_rows.specs.declared.rows.{Row.Row, Entry.Entry}
-use Rattle.auction_rows.specs.History.{row_of_entry, rows_of}
+use Rattle.std.proofs.lemmas.List.{Elements.{filter_map-append}, take_more}
+use Rattle.std.specs.{List.{cons_option}, Prelude.{option_to_list}}
 use Rattle.auction_rows.proofs.HistoryLemmas.{filter_map-one}
+use Rattle.auction_rows.specs.History.{row_of_entry, rows_of}
+use Rattle.auction_rows.specs.declared.rows.{Row.Row, Entry.Entry}
 
 -- the row of an entry, if it adds one, stands before those of the entries after it
 pub gone_by : (rows added : List Row) (e : Entry) (rest left all : List Entry) (row : Option Row) → left ≡ e ∷ rest → row ≡ row_of_entry e →

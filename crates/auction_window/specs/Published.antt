@@ -1,8 +1,7 @@
 -- Published phases, and what is made of them.
 use Rattle.std.specs.Prelude.{◌⊎◌, Bool, List, ◌++◌, fold}
 use mathlib.Core.List.{IsPrefix}
-use Rattle.auction_rows.specs.declared.rows.Row.{Row}
-use Rattle.auction_rows.specs.Book.{Book}
+use Rattle.auction_rows.specs.{Book.{Book}, declared.rows.Row.{Row}}
 
 -- the book of these rows and of those of all phases, in order
 abbrev pub book_of : Book → List (List Row) → Book

@@ -5,8 +5,7 @@ ghost use mathlib.Core.List.{IsPrefix};
 ghost use Rattle.std.specs.Prelude.{◌≡◌, [], ◌+◌, ◌==◌, ◌<◌, ◌++◌, ◌∷◌, ◌⊎◌, length, MatchBool, IfOk, OnOk, option_to_list};
 ghost use Rattle.auction_rows.specs.History.{rows_of};
 ghost use Rattle.worker_journals.specs.Merged.{merged};
-ghost use Rattle.auction_window.specs.inner.PhaseRule.{head_of};
-ghost use Rattle.auction_window.specs.Published.{AreComparable};
+ghost use Rattle.auction_window.specs.{Published.{AreComparable}, inner.PhaseRule.{head_of}};
 
 use auction_rows::{Entry, Row, row_of};
 use logbook::{Gain, Offer, Plain, Play, Rule, Seen as Reached, Start, Word};
@@ -18,8 +17,7 @@ use worker_journals::History;
 /// of them, so that a window learns only from its own publisher. Who makes a publisher is generic
 /// in the name, and is called with `Brand`.
 pub trait WindowName {
-    ghost use Rattle.auction_rows.specs.declared.values.Opening.{Opening};
-    ghost use Rattle.auction_rows.specs.Book.{Book};
+    ghost use Rattle.auction_rows.specs.{Book.{Book}, declared.values.Opening.{Opening}};
     ghost use Rattle.logbook.specs.Pages as pages;
 
     /// The list of phases.

@@ -1,8 +1,7 @@
 //! What readers beside a running auction hold.
 ghost use Rattle.std.specs.Prelude.{◌≡◌, ◌⊎◌, ◌↔◌, List, length, false, Ok, None, IfOk, OnErr, IfSome, IfNone};
 ghost use mathlib.Core.List.{IsPrefix};
-ghost use Rattle.auction_rows.specs.Replies.{reply};
-ghost use Rattle.auction_rows.specs.Requests.{is_view};
+ghost use Rattle.auction_rows.specs.{Replies.{reply}, Requests.{is_view}};
 ghost use Rattle.auction_window.specs.Published.{book_of};
 
 use crate::auction_copy::AuctionCopy;

@@ -1,8 +1,7 @@
 -- The digits of a number where they lie, and the next one's.
 use Rattle.std.proofs.Common.{arith, ◌≡◌, ◌∙◌, ◌<◌, ◌≤◌, ◌+◌, ◌-◌, ◌/◌, ◌%◌, ◌^◌, ℕ, List, [], ◌∷◌, ◌++◌, ap, ap₂, decimal, drop, get_or, inl, inr, length, length-append, refl, set, subst, sym, take}
 use Rattle.std.proofs.Math.Seq.{get_or-append_seam, take-append-add, take-append_seam}
-use Rattle.std.proofs.lemmas.Fmt.{decimal_digit, decimal_nonempty, decimal_step}
-use Rattle.std.proofs.lemmas.Bool.{cases_lt}
+use Rattle.std.proofs.lemmas.{Bool.{cases_lt}, Fmt.{decimal_digit, decimal_nonempty, decimal_step}}
 use Rattle.std.proofs.lemmas.List.{get_or-take, length-set, length-take-le, take-append-le, take-take, take_more_set}
 use Rattle.byte_texts.specs.inner.Numerals.{HasDigits}
 

@@ -1,8 +1,7 @@
 -- What the writing of a text leaves.
-use Rattle.std.specs.Prelude.{◌≡◌, ℕ, List, take, Option, Result, IfErr, OnOk}
 use Rattle.std.specs.Io.KnownBytes.{Appends}
-use Rattle.byte_texts.specs.declared.writing.WriteFault.{WriteFault}
-use Rattle.byte_texts.specs.declared.writing.WriteFault.TheVariants.{Memory, Write}
+use Rattle.std.specs.Prelude.{◌≡◌, ℕ, List, take, Option, Result, IfErr, OnOk}
+use Rattle.byte_texts.specs.declared.writing.WriteFault.{TheVariants.{Memory, Write}, WriteFault}
 
 -- a prefix of the text was written, and nothing else
 abbrev pub IsPartWritten : Option (List ℕ) → Option (List ℕ) → List ℕ → Type 0

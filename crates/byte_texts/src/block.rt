@@ -1,6 +1,6 @@
 //! A part of a text, put together from its front.
-ghost use Rattle.std.specs.Prelude.{◌≡◌, ◌+◌, ◌≤◌, ◌++◌, decimal, length, []};
 ghost use Rattle.std.specs.Fmt.{signed_decimal};
+ghost use Rattle.std.specs.Prelude.{◌≡◌, ◌+◌, ◌≤◌, ◌++◌, decimal, length, []};
 ghost use Rattle.byte_texts.specs.Labels.{labelled, labelled_id, labelled_optional};
 
 use crate::numeral::{Numeral, put_digits};

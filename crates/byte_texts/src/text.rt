@@ -1,6 +1,5 @@
 //! A text that is made in memory.
-ghost use Rattle.std.specs.Prelude.{◌≡◌, ◌++◌, OnOk, decimal};
-ghost use Rattle.std.specs.Fmt.{signed_decimal};
+ghost use Rattle.std.specs.{Fmt.{signed_decimal}, Prelude.{◌≡◌, ◌++◌, OnOk, decimal}};
 ghost use Rattle.byte_texts.specs.Labels.{labelled, labelled_id};
 
 use itoa::Buffer;

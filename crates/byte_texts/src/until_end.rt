@@ -1,8 +1,6 @@
 //! A reader that is read to its end, and not again.
+ghost use Rattle.std.specs.{Io.{KnownBytes.{ReadConsumes}, ReadsAtMost}, IoError.{error_kind}};
 ghost use Rattle.std.specs.Prelude.{◌≡◌, ◌≢◌, IfErr};
-ghost use Rattle.std.specs.Io.{ReadsAtMost};
-ghost use Rattle.std.specs.Io.KnownBytes.{ReadConsumes};
-ghost use Rattle.std.specs.IoError.{error_kind};
 ghost use Rattle.byte_texts.specs.UntilEnd.{left_until_end};
 
 use std::io;

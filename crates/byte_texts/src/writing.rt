@@ -1,8 +1,6 @@
 //! The writing of a text by calls of `write`, and why it was not written whole.
-ghost use Rattle.std.specs.Prelude.{◌≡◌, ◌≢◌, [], IfErr, OnOk};
-ghost use Rattle.std.specs.Io.{WritesAtMost};
-ghost use Rattle.std.specs.Io.KnownBytes.{Appends, WriteAppends};
-ghost use Rattle.std.specs.IoError.{error_kind};
+ghost use Rattle.std.specs.Io.{KnownBytes.{Appends, WriteAppends}, WritesAtMost};
+ghost use Rattle.std.specs.{IoError.{error_kind}, Prelude.{◌≡◌, ◌≢◌, [], IfErr, OnOk}};
 ghost use Rattle.byte_texts.specs.Writing.{IsPartWritten};
 
 use std::io;

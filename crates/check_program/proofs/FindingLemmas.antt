@@ -1,16 +1,14 @@
 -- What is found of a history, by the text of its rows and scripts, and what is said of it.
 use Rattle.std.proofs.Common.{◌≡◌, ℕ, List, Option, Some, None, subst, sym}
 use Rattle.std.specs.Prelude.{IfSome, Ok}
-use Rattle.auction_rows.specs.declared.{values.Opening.Opening, requests.Request.Request, requests.Opened.Opened}
 use Rattle.auction_rows.specs.Book.{Book}
+use Rattle.auction_rows.specs.declared.{values.Opening.Opening, requests.Request.Request, requests.Opened.Opened}
 use Rattle.auction_text.specs.Scripts.{input_of}
 use Rattle.item_shards.specs.OpeningRows.{AreRows, opening_rows}
-use Rattle.history_check.specs.declared.lines.Verdict.{Verdict}
+use Rattle.history_check.specs.{Checking.{IsAccepted, IsVerdict}, declared.lines.Verdict.{Verdict}}
 use Rattle.history_check.specs.declared.lines.Verdict.TheVariants.{Replays}
-use Rattle.history_check.specs.Checking.{IsAccepted, IsVerdict}
+use Rattle.check_program.specs.{Finding.{IsFound, Tells}, VerdictLines.{Says}}
 use Rattle.check_program.specs.declared.options.Options.{Options}
-use Rattle.check_program.specs.Finding.{IsFound, Tells}
-use Rattle.check_program.specs.VerdictLines.{Says}
 
 module _ (options : Options) (rows : List Opened) (scripts : List (List Request)) (opening : Opening) (start : Book) (line : List ℕ) (verdict : Verdict)
     (opening_is : opening ≡ options.opening) (start_is : start ≡ opening_rows options.opening rows) (are_rows : AreRows options.opening rows) where

@@ -1,9 +1,7 @@
 -- The program's options are simple ones, and one names a file.
 use Rattle.std.proofs.Common.{◌≡◌, ◌∙◌, List, ℕ, [], Option, Some, None, true, refl, ap}
-use Rattle.std.specs.Borrow.{Bor}
-use Rattle.std.specs.Prelude.{option_map, unwrap_or}
-use Rattle.clap.specs.Faults.{is_simple_and_free}
-use Rattle.clap.specs.Simple.{App}
+use Rattle.std.specs.{Borrow.{Bor}, Prelude.{option_map, unwrap_or}}
+use Rattle.clap.specs.{Faults.{is_simple_and_free}, Simple.{App}}
 use Rattle.check_program.specs.Words.{program}
 
 free : is_simple_and_free program ≡ true

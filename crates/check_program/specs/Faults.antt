@@ -1,11 +1,10 @@
 -- The exit statuses of faults and of what is found, and the words of faults.
 use Rattle.std.specs.Prelude.{ℕ, List, Option, None}
-use Rattle.history_check.specs.declared.lines.CheckFault.{CheckFault}
-use Rattle.history_check.specs.declared.lines.CheckFault.TheVariants as checking
-use Rattle.history_check.specs.declared.lines.Verdict.{Verdict}
+use Rattle.history_check.specs.declared.lines.{CheckFault.{CheckFault}, Verdict.{Verdict}}
 use Rattle.history_check.specs.declared.lines.Verdict.TheVariants.{Replays, WrongAt, Lacks}
 use Rattle.history_check.specs.declared.lines.Wrong.{Wrong}
 use Rattle.history_check.specs.declared.lines.Wrong.TheVariants.{Unreadable, NoRequest, Again, Late, Due}
+use Rattle.history_check.specs.declared.lines.CheckFault.TheVariants as checking
 use Rattle.program_options.specs.Words.{usage_words}
 use Rattle.check_program.specs.declared.faults.Fault.{Fault}
 use Rattle.check_program.specs.declared.faults.Fault.TheVariants.{Usage, Read, Resume, Check, History, Write}

@@ -2,8 +2,7 @@
 use Rattle.std.specs.Prelude.{ℕ, List, [], ◌++◌, Option, Some, None, codes, decimal}
 use Rattle.auction_text.specs.Replies.{reply_text}
 use Rattle.byte_texts.specs.Labels.{labelled}
-use Rattle.history_check.specs.CommitIds.{IsLineOf}
-use Rattle.history_check.specs.declared.lines.CommitId.{CommitId}
+use Rattle.history_check.specs.{CommitIds.{IsLineOf}, declared.lines.CommitId.{CommitId}}
 use Rattle.history_check.specs.declared.lines.Verdict.{Verdict}
 use Rattle.history_check.specs.declared.lines.Verdict.TheVariants.{Replays, WrongAt, Lacks}
 use Rattle.history_check.specs.declared.lines.Wrong.{Wrong}

@@ -1,11 +1,9 @@
 -- What the program's words say of its options, by the parser of words (`clap`).
 use Rattle.std.specs.Prelude.{◌≡◌, ℕ, Bool, true, false, List, [], ◌∷◌, Option, Some, codes, fold, string_bytes, unwrap_or}
 use Rattle.auction_rows.specs.declared.limits.TheConstants.{MOST_WORKERS}
+use Rattle.clap.specs.{Simple.{App, new_rule, with_rule}, Walk.{Rule}}
 use Rattle.clap.specs.declared.builder.action.ArgAction.TheVariants.{Set}
-use Rattle.clap.specs.Simple.{App, new_rule, with_rule}
-use Rattle.clap.specs.Walk.{Rule}
-use Rattle.history_check.specs.declared.lines.Order.{Order}
-use Rattle.history_check.specs.declared.lines.Order.TheVariants.{Any, StoresFirst, Strict}
+use Rattle.history_check.specs.declared.lines.Order.{TheVariants.{Any, StoresFirst, Strict}, Order}
 use Rattle.program_options.specs.Options.{flag_rule, is_set, named_rule, number_of, versioned_program}
 use Rattle.program_options.specs.declared.options.TheConstants.{MOST_ASKED}
 use Rattle.check_program.specs.declared.options.Options.{Options}

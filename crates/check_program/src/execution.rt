@@ -1,11 +1,10 @@
 //! From the bytes of rows and scripts and those of a history to what is found of the history, as a
 //! line and as an exit status.
-ghost use Rattle.std.specs.Prelude.{◌≡◌, ◌≤◌, ◌++◌, Err, IfErr, IfOk, OnOk};
 ghost use Rattle.std.specs.Io.KnownBytes.{Appends};
+ghost use Rattle.std.specs.Prelude.{◌≡◌, ◌≤◌, ◌++◌, Err, IfErr, IfOk, OnOk};
 ghost use Rattle.byte_texts.specs.Writing.{IsPartWritten};
 ghost use Rattle.byte_texts.specs.declared.writing.WriteFault.{WriteFault};
-ghost use Rattle.check_program.specs.Finding.{Tells, TellsSome};
-ghost use Rattle.check_program.specs.Faults.{verdict_status};
+ghost use Rattle.check_program.specs.{Faults.{verdict_status}, Finding.{Tells, TellsSome}};
 ghost use Rattle.check_program.specs.VerdictLines.{place_text, reason_text, Says, SaysWrong};
 
 use crate::faults::Fault;

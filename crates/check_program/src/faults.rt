@@ -1,6 +1,5 @@
 //! Why the program finds nothing, its exit statuses and its words.
-ghost use Rattle.std.specs.Prelude.{◌≡◌, IfErr, IfSome, OnOk};
-ghost use Rattle.std.specs.Io.KnownBytes.{Appends};
+ghost use Rattle.std.specs.{Io.KnownBytes.{Appends}, Prelude.{◌≡◌, IfErr, IfSome, OnOk}};
 ghost use Rattle.byte_texts.specs.declared.writing.WriteFault.{WriteFault};
 ghost use Rattle.check_program.specs.Faults.{status, parser_words};
 

@@ -1,19 +1,17 @@
 -- A phase leaves a book, and a worker's commits grow by the entries of its journal.
 use Rattle.std.proofs.Common.{◌≡◌, ℕ, ◌+◌, ◌<◌, ◌≤◌, List, [], ◌∷◌, fold, length, sym, ap, subst, ◌∙◌, arith}
 use Rattle.std.proofs.lemmas.List.{length-map}
-use Rattle.auction_rows.specs.declared.rows.Entry.{Entry}
-use Rattle.auction_rows.specs.Book.{Book}
-use Rattle.auction_rows.specs.History.{IsBook, book_after, rows_of}
 use Rattle.auction_rows.proofs.HistoryLemmas.{book_after-replays, rows_go_on, longer_book}
+use Rattle.auction_rows.specs.{Book.{Book}, History.{IsBook, book_after, rows_of}}
+use Rattle.auction_rows.specs.declared.rows.Entry.{Entry}
 use Rattle.worker_slices.specs.declared.counters.Counters.{Counters}
-use Rattle.phase_transactions.specs.Txns.{Txn, entry_of, after_txn}
 use Rattle.phase_transactions.proofs.LawfulLemmas.{counts_one}
+use Rattle.phase_transactions.specs.Txns.{Txn, entry_of, after_txn}
+use Rattle.closing_laws.proofs.ReceiptLemmas.{txns_by, counts, journal_entries}
+use Rattle.closing_laws.proofs.{ReplayLemmas.{entries_replay}, WorkerLemmas.{rows_below}}
 use Rattle.closing_laws.specs.Phases.{Phase, HasClosed, counters_of, journal_of, receipt_at}
 use Rattle.closing_laws.specs.Standing.{StandFor, AreOfWorkers, counters_at, stores}
-use Rattle.closing_laws.proofs.WorkerLemmas.{rows_below}
 use Rattle.item_shards.specs.Counting.{worker_of}
-use Rattle.closing_laws.proofs.ReceiptLemmas.{txns_by, counts, journal_entries}
-use Rattle.closing_laws.proofs.ReplayLemmas.{entries_replay}
 use Rattle.phase_laws.proofs.ListLemmas.{all-append}
 
 pub book_left : (p : Phase) (closed : HasClosed p) (book : Book) → StandFor p.initial p.counters book [] → IsBook p.setting.opening book

@@ -1,18 +1,14 @@
 -- Counters that count a book count the next one, after a commit of their worker; after one of another worker they stay.
 use Rattle.std.proofs.Common.{◌≡◌, ℕ, ◌+◌, ◌==◌, Bool, true, false, cond, [], ◌∷◌, ◌++◌, Option, Some, None, option_to_list, refl, sym, ap, subst, ◌∙◌, arith, eq-eqb}
+use Rattle.std.proofs.lemmas.{Bool.{false≢true}, List.{Elements.{filter_map-append}, append-nil}}
+use Rattle.std.{proofs.lemmas.List.Sums.{sum_by-append}, specs.List.{filter_map}}
 use Rattle.std.specs.Prelude.{count_by}
-use Rattle.std.specs.List.{filter_map}
-use Rattle.std.proofs.lemmas.Bool.{false≢true}
-use Rattle.std.proofs.lemmas.List.{append-nil}
-use Rattle.std.proofs.lemmas.List.Elements.{filter_map-append}
-use Rattle.std.proofs.lemmas.List.Sums.{sum_by-append}
-use Rattle.auction_rows.specs.declared.{requests.Facts.Facts, requests.Request.Request, replies.Refusal.Refusal, rows.Row.Row}
-use Rattle.auction_rows.specs.declared.requests.Request.TheVariants.{StoreItem, StoreBid, StoreComment, BuyNow, ViewItem, ViewBids, ViewCategory, ViewUser}
-use Rattle.auction_rows.specs.declared.rows.Row.TheVariants as row
 use Rattle.auction_rows.specs.Book.{Book, as_item, as_bid, as_comment, as_buy, facts_of}
 use Rattle.auction_rows.specs.Replies.{answer, answer_unless, item_seen, row_of, row_if}
-use Rattle.worker_slices.specs.declared.counters.Counters.{Counters}
-use Rattle.worker_slices.specs.Counting.{counters_after}
+use Rattle.auction_rows.specs.declared.requests.Request.TheVariants.{StoreItem, StoreBid, StoreComment, BuyNow, ViewItem, ViewBids, ViewCategory, ViewUser}
+use Rattle.auction_rows.specs.declared.{requests.Facts.Facts, requests.Request.Request, replies.Refusal.Refusal, rows.Row.Row}
+use Rattle.auction_rows.specs.declared.rows.Row.TheVariants as row
+use Rattle.worker_slices.specs.{Counting.{counters_after}, declared.counters.Counters.{Counters}}
 use Rattle.phase_permits.specs.Replying.{CountsOf}
 
 -- the rows of one kind that pass a test, with one row more

@@ -1,19 +1,15 @@
 -- The phase of the example has closed.
 use Rattle.std.proofs.Common.{◌≡◌, ℕ, zero, suc, ◌<◌, ◌||◌, false, cond, [], ◌∷◌, map, refl, sym, ap, arith}
-use Rattle.std.specs.List.{IsDistinct}
-use Rattle.std.proofs.lemmas.Bool.{ne_eqb}
-use Rattle.auction_rows.specs.declared.requests.Facts.{Facts}
-use Rattle.auction_rows.specs.Requests.{same_object}
-use Rattle.shard_boxes.specs.Closed.{IsClosedBox}
+use Rattle.std.{proofs.lemmas.Bool.{ne_eqb}, specs.List.{IsDistinct}}
+use Rattle.auction_rows.specs.{Requests.{same_object}, declared.requests.Facts.{Facts}}
+use Rattle.shard_boxes.specs.{Closed.{IsClosedBox}, Keys.{key_at, lines_at, holds_at}}
+use Rattle.shard_boxes.specs.{Lines.{lines_of}, States.{state_at}}
 use Rattle.item_shards.specs.Standing.{ContentsStandsFor}
-use Rattle.shard_boxes.specs.Keys.{key_at, lines_at, holds_at}
-use Rattle.shard_boxes.specs.Lines.{lines_of}
-use Rattle.shard_boxes.specs.States.{state_at}
 use Rattle.phase_transactions.specs.Txns.{hot_of, line_on, lines_owed}
 use Rattle.phase_permits.specs.Replying.{CountsOf}
+use Rattle.closing_laws.specs.Example.{setting, counters, txn, line, key, receipt, opened, example_book, example_phase}
 use Rattle.closing_laws.specs.Phases.{HasClosed, IsReceiptOf, receipt_at}
 use Rattle.closing_laws.specs.Standing.{StandFor, counters_at}
-use Rattle.closing_laws.specs.Example.{setting, counters, txn, line, key, receipt, opened, example_book, example_phase}
 
 module _ (facts : Facts) where
   idle : (shard : ℕ) → holds_at (key facts) shard ≡ false

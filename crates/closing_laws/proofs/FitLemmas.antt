@@ -1,34 +1,26 @@
 -- Each slice can be merged in its turn, whatever the order.
 use Rattle.std.proofs.Common.{◌≡◌, ℕ, suc, ◌+◌, ◌*◌, ◌<◌, ◌≤◌, ℤ, ◌+ℤ◌, Bool, true, false, cond, List, [], ◌∷◌, length, Option, IsSome, refl, sym, subst, ◌∙◌, arith, unsigned_abs}
-use Rattle.std.specs.Prelude.{count_by}
-use Rattle.std.specs.Int.{w64}
-use Rattle.std.specs.List.{AllByRecursion, IsDistinct}
-use Rattle.std.specs.List.Sorted.{IsPermutation}
 use Rattle.std.proofs.Math.ListN.{length-set}
 use Rattle.std.proofs.lemmas.Bool.{false≢true, or_left, or_parts, or_right}
 use Rattle.std.proofs.lemmas.Int.{ints, fits_signed_from_abs}
 use Rattle.std.proofs.lemmas.List.Elements.{All-from_recursion, recursion_from_All}
 use Rattle.std.proofs.lemmas.List.Sorted.{All-permutation, sum_by-IsPermutation}
-use Rattle.std.proofs.lemmas.List.Sums.{sum_by-append, sum_by-cons}
-use Rattle.phase_laws.specs.Replay.{SawInTurn}
-use Rattle.phase_laws.proofs.ListLemmas.{all-append}
-use Rattle.auction_rows.specs.declared.requests.{Facts.Facts, Object.Object}
-use Rattle.auction_rows.specs.declared.requests.Object.TheVariants.{Item, User, Category}
-use Rattle.auction_rows.specs.Book.{Book}
-use Rattle.auction_rows.specs.Footprint.{is_hot}
-use Rattle.auction_rows.specs.Requests.{same_object, shard_of}
+use Rattle.std.{proofs.lemmas.List.Sums.{sum_by-append, sum_by-cons}, specs.Int.{w64}}
+use Rattle.std.specs.{List.{Sorted.{IsPermutation}, AllByRecursion, IsDistinct}, Prelude.{count_by}}
+use Rattle.phase_laws.{proofs.ListLemmas.{all-append}, specs.Replay.{SawInTurn}}
 use Rattle.auction_rows.proofs.RequestLemmas.{same_object-true, same_object-own}
-use Rattle.item_shards.specs.declared.shard.slices.Slice.{Slice}
+use Rattle.auction_rows.specs.{Book.{Book}, Footprint.{is_hot}, Requests.{same_object, shard_of}}
+use Rattle.auction_rows.specs.declared.requests.Object.TheVariants.{Item, User, Category}
+use Rattle.auction_rows.specs.declared.requests.{Facts.Facts, Object.Object}
+use Rattle.item_shards.specs.{Values.{Value, value}, declared.shard.slices.Slice.{Slice}}
 use Rattle.item_shards.specs.declared.shard.slices.Slice.TheVariants as slice
-use Rattle.item_shards.specs.Values.{Value, value}
-use Rattle.shard_boxes.specs.declared.limits.TheConstants.{MOST_COMMITS, MOST_KEPT}
 use Rattle.shard_boxes.specs.States.{ShardState, state_at}
+use Rattle.shard_boxes.specs.declared.limits.TheConstants.{MOST_COMMITS, MOST_KEPT}
 use Rattle.phase_transactions.specs.Workers.{WorkerState}
 use Rattle.worker_slices.specs.Slicing.{hot_objects, slices_in, slices_of, slice_of, HasAtMost, HaveAtMost}
-use Rattle.closing_laws.specs.Phases.{value_on}
+use Rattle.closing_laws.proofs.{MergeLemmas.{value_merged}, SliceLemmas.{apart_of}}
 use Rattle.closing_laws.specs.Merging.{merged_with, with_slice, after_merge, slices_left, CanMerge}
-use Rattle.closing_laws.proofs.MergeLemmas.{value_merged}
-use Rattle.closing_laws.proofs.SliceLemmas.{apart_of}
+use Rattle.closing_laws.specs.Phases.{value_on}
 
 -- A slice is of its object's kind.
 abbrev pub IsOfKind : Object → Slice → Type 0

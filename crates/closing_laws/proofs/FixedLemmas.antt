@@ -1,24 +1,21 @@
 -- What is fixed of hot items stays: no commit of the phase buys one, and the facts of a stored item stay.
 use Rattle.std.proofs.Common.{◌≡◌, ℕ, ◌==◌, Bool, true, false, cond, List, ◌++◌, Option, Some, None, IsSome, option_to_list, option_map, unwrap_or, ◌-◌, refl, sym, ap, subst, ◌∙◌}
-use Rattle.std.proofs.lemmas.Bool.{false≢true}
-use Rattle.std.proofs.lemmas.List.{append-nil}
-use Rattle.auction_rows.specs.declared.{requests.ItemId.ItemId, requests.Facts.Facts, requests.Object.Object, requests.Request.Request, replies.Reply.Reply, rows.Row.Row}
+use Rattle.std.proofs.lemmas.{Bool.{false≢true}, List.{append-nil}}
+use Rattle.auction_rows.proofs.RequestLemmas.{same_item-true}
+use Rattle.auction_rows.specs.Book.{Book, same_item, facts_of, left, bought, bid_entry}
+use Rattle.auction_rows.specs.{Footprint.{is_hot}, Replies.{row_of, row_if}}
+use Rattle.auction_rows.specs.declared.replies.Reply.TheVariants.{ItemStored, BidStored, CommentStored, Bought}
 use Rattle.auction_rows.specs.declared.requests.Object.TheVariants.{Item}
 use Rattle.auction_rows.specs.declared.requests.Request.TheVariants.{StoreItem, StoreBid, StoreComment, BuyNow}
-use Rattle.auction_rows.specs.declared.replies.Reply.TheVariants.{ItemStored, BidStored, CommentStored, Bought}
+use Rattle.auction_rows.specs.declared.{requests.ItemId.ItemId, requests.Facts.Facts, requests.Object.Object, requests.Request.Request, replies.Reply.Reply, rows.Row.Row}
 use Rattle.auction_rows.specs.declared.rows.Row.TheVariants as row
-use Rattle.auction_rows.specs.Book.{Book, same_item, facts_of, left, bought, bid_entry}
-use Rattle.auction_rows.specs.Footprint.{is_hot}
-use Rattle.auction_rows.specs.Replies.{row_of, row_if}
-use Rattle.auction_rows.proofs.RequestLemmas.{same_item-true}
-use Rattle.item_shards.specs.Values.{Value, value, stock_in}
-use Rattle.item_shards.specs.Contents.{Contents, with_facts, bid_on, bought_of, after_acts}
-use Rattle.item_shards.specs.Writing.{writes_of}
 use Rattle.item_shards.proofs.RowLemmas.{value_next}
+use Rattle.item_shards.specs.Contents.{Contents, with_facts, bid_on, bought_of, after_acts}
+use Rattle.item_shards.specs.{Values.{Value, value, stock_in}, Writing.{writes_of}}
+use Rattle.phase_transactions.proofs.HomeLemmas.{no_other}
 use Rattle.phase_transactions.specs.Txns.{Setting, hot_of, is_put_off}
 use Rattle.worker_slices.specs.Slicing.{stock_of}
 use Rattle.phase_permits.specs.Replying.{HasFixed}
-use Rattle.phase_transactions.proofs.HomeLemmas.{no_other}
 
 -- a row is no purchase of an item
 abbrev IsNoPurchase : ItemId → Row → Type 0

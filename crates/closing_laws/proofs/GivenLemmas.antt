@@ -1,24 +1,18 @@
 -- What the boxes gave back: the shards after the lines of the transactions, which leave hot objects alone.
 use Rattle.std.proofs.Common.{◌≡◌, ℕ, ◌==◌, ◌&&◌, Bool, true, false, cond, not, List, [], ◌∷◌, filter, fold, map, length, ◌<◌, refl, sym, ap, ◌∙◌}
-use Rattle.std.specs.Option.{option_map_or}
-use Rattle.std.proofs.Math.Nat.{mod-lt}
-use Rattle.std.proofs.lemmas.Bool.{false≢true}
-use Rattle.auction_rows.specs.declared.requests.Object.{Object}
-use Rattle.auction_rows.specs.declared.requests.Object.TheVariants.{Item, User, Category}
-use Rattle.auction_rows.specs.Footprint.{is_hot}
+use Rattle.std.{proofs.{Math.Nat.{mod-lt}, lemmas.Bool.{false≢true}}, specs.Option.{option_map_or}}
+use Rattle.auction_rows.{proofs.RequestLemmas.{same_object-true}, specs.Footprint.{is_hot}}
+use Rattle.auction_rows.specs.declared.requests.Object.{TheVariants.{Item, User, Category}, Object}
 use Rattle.auction_rows.specs.Requests.{number_of as object_number, same_object, shard_of}
-use Rattle.auction_rows.proofs.RequestLemmas.{same_object-true}
-use Rattle.item_shards.specs.Events.{Event, AddItem, ListItem, Bid, Comment, Buy, Look}
-use Rattle.item_shards.specs.Contents.{Contents, changed, target, after_act, after_acts, with_facts, item_listed, bid_on, comment_about, bought_of}
-use Rattle.item_shards.specs.Values.{Value}
-use Rattle.item_shards.specs.Writing.{acts_of, is_cold_in, is_done_on}
 use Rattle.item_shards.proofs.EntryLemmas.{padded_leaves, few_done}
+use Rattle.item_shards.specs.Contents.{Contents, changed, target, after_act, after_acts, with_facts, item_listed, bid_on, comment_about, bought_of}
+use Rattle.item_shards.specs.Events.{Event, AddItem, ListItem, Bid, Comment, Buy, Look}
+use Rattle.item_shards.specs.{Values.{Value}, Writing.{acts_of, is_cold_in, is_done_on}}
 use Rattle.shard_boxes.specs.Lines.{acts_in, after_lines, after_line}
 use Rattle.shard_boxes.specs.States.{ShardState, state_at}
 use Rattle.phase_transactions.specs.Txns.{Setting, Txn, hot_of, takes, line_on}
+use Rattle.closing_laws.{proofs.ListLemmas.{all_txns, box, list_is}, specs.Histories.{worker_line}}
 use Rattle.closing_laws.specs.Phases.{Phase, HasClosed, value_on}
-use Rattle.closing_laws.specs.Histories.{worker_line}
-use Rattle.closing_laws.proofs.ListLemmas.{all_txns, box, list_is}
 
 module _ (here : Object → Bool) (object : Object) (away : here object ≡ false) where
   -- a change of another object

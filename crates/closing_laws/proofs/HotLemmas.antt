@@ -1,12 +1,9 @@
 -- What is fixed of the hot items of a phase, by the list of what is fixed of each hot object.
 use Rattle.std.proofs.Common.{◌≡◌, ℕ, Bool, true, false, cond, ◌||◌, List, [], ◌∷◌, Option, IsSome, refl, sym, ap, subst, ◌∙◌}
-use Rattle.std.specs.List.{AllByRecursion}
-use Rattle.std.proofs.lemmas.Bool.{false≢true}
+use Rattle.std.{proofs.lemmas.Bool.{false≢true}, specs.List.{AllByRecursion}}
+use Rattle.auction_rows.{proofs.RequestLemmas.{same_object-true}, specs.Footprint.{is_hot}}
+use Rattle.auction_rows.specs.{Requests.{same_object}, declared.requests.Object.TheVariants.{Item}}
 use Rattle.auction_rows.specs.declared.requests.{ItemId.ItemId, Facts.Facts, Object.Object}
-use Rattle.auction_rows.specs.declared.requests.Object.TheVariants.{Item}
-use Rattle.auction_rows.specs.Footprint.{is_hot}
-use Rattle.auction_rows.specs.Requests.{same_object}
-use Rattle.auction_rows.proofs.RequestLemmas.{same_object-true}
 use Rattle.item_shards.specs.Values.{stock}
 use Rattle.shard_boxes.specs.States.{ShardState}
 use Rattle.worker_slices.specs.Slicing.{hot_objects, stock_of, IsStocked}

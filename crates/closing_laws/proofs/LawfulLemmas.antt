@@ -1,25 +1,21 @@
 -- A phase that has closed, and whose slices are merged, closes lawfully.
 use Rattle.std.proofs.Common.{◌≡◌, ℕ, ◌<◌, List, [], fold, length, refl, sym, ap, subst, ◌∙◌}
-use Rattle.std.proofs.Math.Nat.{mod-lt}
-use Rattle.std.proofs.lemmas.Bool.{false≢true}
-use Rattle.auction_rows.specs.declared.requests.Object.{Object}
-use Rattle.auction_rows.specs.Footprint.{is_hot}
+use Rattle.std.proofs.{Math.Nat.{mod-lt}, lemmas.Bool.{false≢true}}
+use Rattle.auction_rows.specs.{Footprint.{is_hot}, declared.requests.Object.{Object}}
 use Rattle.auction_rows.specs.Requests.{number_of as object_number, shard_of}
 use Rattle.item_shards.specs.Contents.{Contents}
-use Rattle.shard_boxes.specs.Lines.{Line, IsShardHistory}
-use Rattle.shard_boxes.specs.States.{ShardState, state_at}
+use Rattle.shard_boxes.specs.{Lines.{Line, IsShardHistory}, States.{ShardState, state_at}}
 use Rattle.phase_transactions.specs.Txns.{hot_of}
-use Rattle.closing_laws.specs.Phases.{Phase, HasClosed, value_on}
-use Rattle.closing_laws.specs.Merging.{after_merge, slices_left, IsReconciled}
-use Rattle.closing_laws.specs.Lawful.{with_slices_by, AreSliced, AreHotMerged, AreOthersAsGiven, ClosesLawfully}
 use Rattle.closing_laws.proofs.GivenLemmas.{given_alone}
 use Rattle.closing_laws.proofs.ListLemmas.{lift, all_txns, box, list_is, follow_what_they_share}
 use Rattle.closing_laws.proofs.MergeLemmas.{value_after_all, as_many}
-use Rattle.closing_laws.proofs.PermutedLemmas.{fold_permuted}
-use Rattle.closing_laws.proofs.ReceiptLemmas.{sliced}
+use Rattle.closing_laws.proofs.{PermutedLemmas.{fold_permuted}, ReceiptLemmas.{sliced}}
 use Rattle.closing_laws.proofs.ReconcileLemmas.{rows_by, all_sliced}
 use Rattle.closing_laws.proofs.SliceLemmas.{merge_at, merge_at-commutes, all_cold, all_hot}
 use Rattle.closing_laws.proofs.WorkerLemmas.{part_is}
+use Rattle.closing_laws.specs.Lawful.{with_slices_by, AreSliced, AreHotMerged, AreOthersAsGiven, ClosesLawfully}
+use Rattle.closing_laws.specs.Merging.{after_merge, slices_left, IsReconciled}
+use Rattle.closing_laws.specs.Phases.{Phase, HasClosed, value_on}
 
 module _ (p : Phase) (closed : HasClosed p) where
   pub are_sliced : AreSliced p

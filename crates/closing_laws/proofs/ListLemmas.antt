@@ -1,25 +1,22 @@
 -- The shards' lists hold the lines of the entries, and the entries' numbers follow what they share.
 use Rattle.std.proofs.Common.{◌≡◌, ℕ, ◌<◌, ◌≤◌, ◌==◌, ◌||◌, ◌⊎◌, inl, inr, Bool, true, false, cond, List, [], ◌∷◌, map, filter, length, refl, sym, ap, subst, ◌∙◌, arith, eq-eqb}
-use Rattle.std.specs.List.{list_any, AllByRecursion}
 use Rattle.std.proofs.Math.Nat.{mod-lt}
 use Rattle.std.proofs.lemmas.Bool.{eqb-true, or_left, or_right, cases_lt, false≢true}
-use Rattle.phase_laws.specs.Numbers.{IsLinkedFrom, IsNumberedFrom, shares}
-use Rattle.phase_laws.specs.Order.{Precedes, IsAscending, Lifted, part}
+use Rattle.std.specs.List.{list_any, AllByRecursion}
 use Rattle.phase_laws.proofs.NumberLemmas.{follows, linked_from_map, follows_map}
 use Rattle.phase_laws.proofs.OrderLemmas.{ordered_from_map, lines_in_order, lifted}
-use Rattle.auction_rows.specs.declared.requests.Object.{Object}
+use Rattle.phase_laws.specs.Numbers.{IsLinkedFrom, IsNumberedFrom, shares}
+use Rattle.phase_laws.specs.Order.{Precedes, IsAscending, Lifted, part}
 use Rattle.auction_rows.specs.Footprint.{footprint, objects_taken, takes_shard}
+use Rattle.auction_rows.specs.declared.requests.Object.{Object}
 use Rattle.auction_rows.specs.Requests.{number_of as object_number, shard_of}
 use Rattle.worker_journals.specs.Journals.{entry_number, entry_worker}
-use Rattle.shard_boxes.specs.Closed.{IsClosedBox}
-use Rattle.shard_boxes.specs.Lines.{Line, lines_of}
-use Rattle.shard_boxes.specs.States.{state_at}
+use Rattle.shard_boxes.specs.{Closed.{IsClosedBox}, Lines.{Line, lines_of}, States.{state_at}}
 use Rattle.phase_transactions.specs.Txns.{Setting, Txn, hot_of, entry_of, txn_number, clock_found, greatest_clock, takes, line_on, lines_owed}
-use Rattle.phase_transactions.specs.Workers.{work_of}
-use Rattle.phase_transactions.specs.Works.{Explains}
-use Rattle.closing_laws.specs.Phases.{Phase, HasClosed, key_of, receipt_at}
-use Rattle.closing_laws.specs.Histories.{worker_line, HoldTheEntries, FollowWhatTheyShare}
+use Rattle.phase_transactions.specs.{Workers.{work_of}, Works.{Explains}}
 use Rattle.closing_laws.proofs.ReceiptLemmas.{txns_by, explains, no_txns, own, numbered, entries_are, lines_are}
+use Rattle.closing_laws.specs.Histories.{worker_line, HoldTheEntries, FollowWhatTheyShare}
+use Rattle.closing_laws.specs.Phases.{Phase, HasClosed, key_of, receipt_at}
 
 -- A shard that a transaction takes is one of the shards.
 

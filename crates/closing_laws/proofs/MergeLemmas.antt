@@ -1,17 +1,14 @@
 -- The shards into which all slices are merged stand for the book after the entries.
 use Rattle.std.proofs.Common.{◌≡◌, ℕ, ◌<◌, ◌==◌, Bool, true, false, cond, List, [], ◌∷◌, fold, length, set, refl, sym, ap, subst, ◌∙◌, eq-eqb}
-use Rattle.std.proofs.Math.ListN.{length-set}
-use Rattle.std.proofs.Math.Nat.{mod-lt}
-use Rattle.std.proofs.lemmas.Bool.{eqb-true, false≢true}
+use Rattle.std.proofs.{Math.{ListN.{length-set}, Nat.{mod-lt}}, lemmas.Bool.{eqb-true, false≢true}}
 use Rattle.std.proofs.lemmas.List.{get_or-set_same, get_or-set_other}
+use Rattle.auction_rows.proofs.RequestLemmas.{same_object-true}
 use Rattle.auction_rows.specs.declared.requests.Object.{Object}
 use Rattle.auction_rows.specs.Requests.{number_of as object_number, same_object, shard_of}
-use Rattle.auction_rows.proofs.RequestLemmas.{same_object-true}
 use Rattle.item_shards.specs.declared.shard.slices.Slice.{Slice}
 use Rattle.shard_boxes.specs.States.{ShardState, no_shard, state_at}
-use Rattle.closing_laws.specs.Phases.{value_on}
-use Rattle.closing_laws.specs.Merging.{merged_with, with_slice, after_merge}
 use Rattle.closing_laws.proofs.SliceLemmas.{merge_at}
+use Rattle.closing_laws.specs.{Merging.{merged_with, with_slice, after_merge}, Phases.{value_on}}
 
 -- One slice merged changes the value of its object alone.
 

@@ -1,23 +1,19 @@
 -- Slices of an object merged are what all rows make of it.
 use Rattle.std.proofs.Common.{◌≡◌, ℕ, ◌<◌, ◌==◌, Bool, true, false, cond, List, [], ◌∷◌, ◌++◌, map, fold, Option, Some, None, option_to_list, option_and_then, refl, sym, ap, ◌∙◌, append_assoc}
-use Rattle.std.specs.List.{list_any, AllByRecursion, cons_option}
-use Rattle.std.proofs.lemmas.List.{append-nil}
-use Rattle.phase_laws.specs.Merging.{SliceLaws}
+use Rattle.std.{proofs.lemmas.List.{append-nil}, specs.List.{list_any, AllByRecursion, cons_option}}
+use Rattle.phase_laws.{proofs.MergingLemmas.{merged, map-agree}, specs.Merging.{SliceLaws}}
 use Rattle.phase_laws.specs.Order.{IsOrderedBy, part}
-use Rattle.phase_laws.proofs.MergingLemmas.{merged, map-agree}
 use Rattle.split_records.proofs.Histories.{value_is_record}
-use Rattle.auction_rows.specs.declared.{requests.ItemId.ItemId, requests.Object.Object, rows.Row.Row, rows.Entry.Entry}
-use Rattle.auction_rows.specs.declared.requests.Object.TheVariants.{Item, User, Category}
-use Rattle.auction_rows.specs.declared.rows.Row.TheVariants as row
 use Rattle.auction_rows.specs.Book.{Book, same_item, bid_entry, item_entry, bid_entries, item_entries}
 use Rattle.auction_rows.specs.History.{row_of_entry, rows_of}
 use Rattle.auction_rows.specs.RowParts.{row_bid, row_listing, row_stars}
+use Rattle.auction_rows.specs.declared.requests.Object.TheVariants.{Item, User, Category}
+use Rattle.auction_rows.specs.declared.{requests.ItemId.ItemId, requests.Object.Object, rows.Row.Row, rows.Entry.Entry}
+use Rattle.auction_rows.specs.declared.rows.Row.TheVariants as row
+use Rattle.item_shards.proofs.{RowLemmas.{value_next}, StandingLemmas.{blank_of_none}}
 use Rattle.item_shards.specs.Contents.{with_facts, bid_on, bought_of, comment_about, item_listed}
 use Rattle.item_shards.specs.SliceLaws.{item_laws, item_values, user_laws, category_laws, category_values}
-use Rattle.item_shards.specs.Slices.{with_bids, with_comments, with_items}
-use Rattle.item_shards.specs.Values.{Value, value}
-use Rattle.item_shards.proofs.RowLemmas.{value_next}
-use Rattle.item_shards.proofs.StandingLemmas.{blank_of_none}
+use Rattle.item_shards.specs.{Slices.{with_bids, with_comments, with_items}, Values.{Value, value}}
 use Rattle.worker_journals.specs.Journals.{entry_worker}
 
 -- A record to which at most one operation is applied.

@@ -1,12 +1,9 @@
 -- Steps that commute come to the same in any order.
 use Rattle.std.proofs.Common.{◌≡◌, ℕ, zero, suc, ◌<◌, ◌≤◌, ◌⊎◌, inl, inr, List, [], ◌∷◌, fold, length, get_or, set, refl, sym, ap, ◌∙◌, arith}
-use Rattle.std.specs.List.{swap}
+use Rattle.std.proofs.{Math.Nat.{eq-or-lt_of_le}, lemmas.Bool.{cases_lt}}
+use Rattle.std.proofs.lemmas.List.{Edits.{swap_is}, set-get_or, set_comm}
+use Rattle.std.{proofs.lemmas.List.Sorted.{IsPermutation-keeps}, specs.List.{swap}}
 use Rattle.std.specs.List.Sorted.{IsPermutation}
-use Rattle.std.proofs.Math.Nat.{eq-or-lt_of_le}
-use Rattle.std.proofs.lemmas.Bool.{cases_lt}
-use Rattle.std.proofs.lemmas.List.{set-get_or, set_comm}
-use Rattle.std.proofs.lemmas.List.Edits.{swap_is}
-use Rattle.std.proofs.lemmas.List.Sorted.{IsPermutation-keeps}
 
 module _ {X V : Type 0} (step : V → X → V) (commute : (v : V) (x y : X) → step (step v x) y ≡ step (step v y) x) where
   -- a step before others is one after them

@@ -2,23 +2,17 @@
 use Rattle.std.proofs.Common.{◌≡◌, ℕ, ◌==◌, Bool, true, false, ◌++◌, Option, IsSome, option_to_list, refl, sym, ap, subst, eq-eqb, eqb-true}
 use Rattle.std.proofs.lemmas.Bool.{false≢true}
 use Rattle.phase_laws.specs.Replay.{ResourceLaws}
-use Rattle.auction_rows.specs.declared.{requests.ItemId.ItemId, requests.Facts.Facts, replies.Reply.Reply}
+use Rattle.auction_rows.specs.{Book.{Book}, Footprint.{is_hot}, History.{IsRight, after_entry}}
+use Rattle.auction_rows.specs.{Refusals.{refusal}, Replies.{row_of}}
 use Rattle.auction_rows.specs.declared.requests.Object.TheVariants.{Item}
-use Rattle.auction_rows.specs.Book.{Book}
-use Rattle.auction_rows.specs.Footprint.{is_hot}
-use Rattle.auction_rows.specs.History.{IsRight, after_entry}
-use Rattle.auction_rows.specs.Refusals.{refusal}
-use Rattle.auction_rows.specs.Replies.{row_of}
-use Rattle.item_shards.specs.Contents.{Contents, after_acts}
-use Rattle.item_shards.specs.Standing.{ContentsStandsFor}
+use Rattle.auction_rows.specs.declared.{requests.ItemId.ItemId, requests.Facts.Facts, replies.Reply.Reply}
 use Rattle.item_shards.proofs.EntryLemmas.{entry_stands, untaken_stands}
+use Rattle.item_shards.specs.{Contents.{Contents, after_acts}, Standing.{ContentsStandsFor}}
 use Rattle.shard_boxes.specs.Lines.{acts_in, AreTrueOf}
+use Rattle.worker_slices.specs.{Counting.{counters_after}, Slicing.{stock_of}}
 use Rattle.worker_slices.specs.declared.counters.Counters.{Counters}
 use Rattle.phase_transactions.specs.Txns.{Setting, Txn, hot_of, takes, line_on, after_txn, IsAnswered}
-use Rattle.worker_slices.specs.Counting.{counters_after}
-use Rattle.worker_slices.specs.Slicing.{stock_of}
-use Rattle.phase_permits.specs.Replying.{CountsOf, HasFixed}
-use Rattle.phase_permits.proofs.RightLemmas.{txn_right}
+use Rattle.phase_permits.{proofs.RightLemmas.{txn_right}, specs.Replying.{CountsOf, HasFixed}}
 use Rattle.closing_laws.proofs.CountLemmas.{own_commit, other_commit}
 use Rattle.closing_laws.proofs.FixedLemmas.{HasItems, fixed_next}
 

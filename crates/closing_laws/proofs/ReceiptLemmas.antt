@@ -1,21 +1,17 @@
 -- What the receipts of a phase tell of each worker, and nothing of others.
 use Rattle.std.proofs.Common.{◌≡◌, ℕ, zero, suc, ◌+◌, ◌<◌, ◌≤◌, ◌==◌, ◌⊎◌, inl, inr, fold, List, [], ◌∷◌, map, length, refl, sym, ap, subst, ◌∙◌, arith, eq-eqb}
-use Rattle.std.specs.List.{AllByRecursion}
 use Rattle.std.proofs.Math.ListN.{get_or-map}
-use Rattle.std.proofs.lemmas.Bool.{cond-true, cond-false, ne_eqb, cases_lt}
-use Rattle.std.proofs.lemmas.List.{get_or_past}
-use Rattle.phase_laws.specs.Numbers.{IsNumberedFrom}
-use Rattle.phase_laws.specs.Replay.{SawInTurn}
+use Rattle.std.proofs.lemmas.{Bool.{cond-true, cond-false, ne_eqb, cases_lt}, List.{get_or_past}}
+use Rattle.std.specs.List.{AllByRecursion}
+use Rattle.phase_laws.specs.{Numbers.{IsNumberedFrom}, Replay.{SawInTurn}}
 use Rattle.auction_rows.specs.History.{rows_of}
 use Rattle.worker_journals.specs.Merged.{entries_of}
 use Rattle.shard_boxes.specs.Keys.{key_at, lines_at}
-use Rattle.worker_slices.specs.declared.counters.Counters.{Counters}
+use Rattle.worker_slices.specs.{Slicing.{slices_of}, declared.counters.Counters.{Counters}}
 use Rattle.phase_transactions.specs.Txns.{Setting, Txn, entry_of, txn_number, greatest_clock, lines_owed, IsAnswered, after_txn}
-use Rattle.phase_transactions.specs.Workers.{WorkerState, work_of}
-use Rattle.worker_slices.specs.Slicing.{slices_of}
-use Rattle.phase_transactions.specs.Works.{Explains, IsWorkOf}
-use Rattle.closing_laws.specs.Standing.{counters_at}
+use Rattle.phase_transactions.specs.{Workers.{WorkerState, work_of}, Works.{Explains, IsWorkOf}}
 use Rattle.closing_laws.specs.Phases.{Phase, HasClosed, IsReceiptOf, no_receipt, receipt_at, key_of, journal_of, counters_of}
+use Rattle.closing_laws.specs.Standing.{counters_at}
 
 -- a receipt is explained, in the setting and of the worker of the phase
 explained_of : (z : Setting) (w : ℕ) (opened : Counters) (receipt : WorkerState) → IsReceiptOf z w opened receipt → IsWorkOf z w (work_of receipt)

@@ -1,38 +1,33 @@
 -- The shards into which all slices are merged stand for the book after the entries.
 use Rattle.std.proofs.Common.{◌≡◌, ℕ, ◌+◌, ◌<◌, ◌==◌, Bool, true, false, List, [], ◌∷◌, ◌++◌, map, fold, length, refl, sym, ap, subst, ◌∙◌, arith}
 use Rattle.std.specs.List.{list_any, AllByRecursion}
-use Rattle.phase_laws.specs.Order.{part, up_from}
-use Rattle.phase_laws.proofs.WorkerLemmas.{up_from_ordered, up_from_has, map-up_from}
 use Rattle.phase_laws.proofs.ListLemmas.{every_from}
-use Rattle.auction_rows.specs.declared.{requests.ItemId.ItemId, requests.Object.Object, rows.Entry.Entry}
-use Rattle.auction_rows.specs.declared.requests.Object.TheVariants.{Item, User, Category}
-use Rattle.auction_rows.specs.Book.{Book, facts_of, bought}
-use Rattle.auction_rows.specs.Footprint.{is_hot}
-use Rattle.auction_rows.specs.History.{book_after, rows_of}
-use Rattle.auction_rows.specs.Requests.{shard_of}
+use Rattle.phase_laws.proofs.WorkerLemmas.{up_from_ordered, up_from_has, map-up_from}
+use Rattle.phase_laws.specs.Order.{part, up_from}
 use Rattle.auction_rows.proofs.HistoryLemmas.{book_after-replays}
-use Rattle.item_shards.specs.declared.shard.slices.UserSlice.{UserSlice}
-use Rattle.item_shards.specs.declared.shard.slices.CategorySlice.{CategorySlice}
+use Rattle.auction_rows.specs.{Book.{Book, facts_of, bought}, Footprint.{is_hot}}
+use Rattle.auction_rows.specs.{History.{book_after, rows_of}, Requests.{shard_of}}
+use Rattle.auction_rows.specs.declared.requests.Object.TheVariants.{Item, User, Category}
+use Rattle.auction_rows.specs.declared.{requests.ItemId.ItemId, requests.Object.Object, rows.Entry.Entry}
 use Rattle.item_shards.specs.Contents.{Contents, bids_merged, comments_merged, items_merged}
 use Rattle.item_shards.specs.Slices.{with_bids, with_comments, with_items}
-use Rattle.item_shards.specs.Standing.{ContentsStandsFor}
-use Rattle.item_shards.specs.Values.{Value, blank, value}
+use Rattle.item_shards.specs.{Standing.{ContentsStandsFor}, Values.{Value, blank, value}}
+use Rattle.item_shards.specs.declared.shard.slices.CategorySlice.{CategorySlice}
+use Rattle.item_shards.specs.declared.shard.slices.UserSlice.{UserSlice}
 use Rattle.worker_journals.specs.Journals.{entry_worker}
 use Rattle.shard_boxes.specs.States.{ShardState, state_at}
-use Rattle.phase_transactions.specs.Txns.{Setting, hot_of}
-use Rattle.phase_transactions.specs.Workers.{WorkerState}
+use Rattle.phase_transactions.specs.{Txns.{Setting, hot_of}, Workers.{WorkerState}}
 use Rattle.worker_slices.specs.Slicing.{slices_of, slice_of}
-use Rattle.closing_laws.specs.Phases.{Phase, HasClosed, value_on, counters_of, journal_of, no_receipt}
-use Rattle.closing_laws.specs.Standing.{StandFor}
-use Rattle.closing_laws.specs.Merging.{merged_with, after_merge, slices_left, IsReconciled}
 use Rattle.closing_laws.proofs.GivenLemmas.{is_known, given_alone}
 use Rattle.closing_laws.proofs.MergeLemmas.{value_after_all, as_many}
 use Rattle.closing_laws.proofs.PartLemmas.{bids_merged_all, comments_merged_all, items_merged_all}
-use Rattle.closing_laws.proofs.PermutedLemmas.{fold_permuted}
-use Rattle.closing_laws.proofs.ReceiptLemmas.{sliced}
-use Rattle.closing_laws.proofs.WorkerLemmas.{part_is, entries_below}
+use Rattle.closing_laws.proofs.{PermutedLemmas.{fold_permuted}, ReceiptLemmas.{sliced}}
 use Rattle.closing_laws.proofs.ReplayLemmas.{opening_value, entries_replay, end, end_is, given_stands, items_kept, replays_and_stands}
 use Rattle.closing_laws.proofs.SliceLemmas.{merge_at, merge_at-commutes, all_cold, all_hot}
+use Rattle.closing_laws.proofs.WorkerLemmas.{part_is, entries_below}
+use Rattle.closing_laws.specs.Merging.{merged_with, after_merge, slices_left, IsReconciled}
+use Rattle.closing_laws.specs.Phases.{Phase, HasClosed, value_on, counters_of, journal_of, no_receipt}
+use Rattle.closing_laws.specs.Standing.{StandFor}
 
 -- entries of the first so many workers are of some of these
 all_present : (n : ℕ) (entries : List Entry) → AllByRecursion (λ entry. entry_worker entry < n) entries

@@ -1,33 +1,27 @@
 -- From every book for which the phase began, the entries replay, and what the boxes gave back stands for the book after them.
 use Rattle.std.proofs.Common.{Option, ◌≡◌, ℕ, ◌<◌, ◌≤◌, ◌⊎◌, inl, inr, true, List, [], ◌∷◌, map, filter, fold, length, refl, sym, ap, subst, ◌∙◌, arith}
-use Rattle.std.proofs.lemmas.Bool.{cases_lt}
-use Rattle.std.proofs.lemmas.List.{length-map}
-use Rattle.std.proofs.lemmas.List.Folds.{fold-map}
-use Rattle.phase_laws.specs.Replay.{SawInTurn, Replays}
+use Rattle.std.proofs.lemmas.{Bool.{cases_lt}, List.{Folds.{fold-map}, length-map}}
 use Rattle.phase_laws.proofs.ReplayLemmas.{replayed, saw_from_map, replays_map, saw_nothing}
-use Rattle.auction_rows.specs.declared.requests.{ItemId.ItemId, Facts.Facts, Object.Object}
-use Rattle.auction_rows.specs.declared.requests.Object.TheVariants.{Item}
+use Rattle.phase_laws.specs.Replay.{SawInTurn, Replays}
 use Rattle.auction_rows.specs.Book.{Book, facts_of, bought, items_stored, bids_stored, comments_stored, buys_stored}
 use Rattle.auction_rows.specs.History.{IsRight, ReplaysFrom, after_entry, book_after}
-use Rattle.auction_rows.specs.Requests.{shard_of}
-use Rattle.item_shards.specs.Contents.{Contents}
-use Rattle.item_shards.specs.Standing.{ContentsStandsFor}
-use Rattle.item_shards.specs.Values.{value, stock}
-use Rattle.item_shards.proofs.AnswerLemmas.{stock_is}
+use Rattle.auction_rows.specs.{Requests.{shard_of}, declared.requests.Object.TheVariants.{Item}}
+use Rattle.auction_rows.specs.declared.requests.{ItemId.ItemId, Facts.Facts, Object.Object}
+use Rattle.item_shards.{proofs.AnswerLemmas.{stock_is}, specs.Contents.{Contents}}
+use Rattle.item_shards.specs.{Standing.{ContentsStandsFor}, Values.{value, stock}}
 use Rattle.shard_boxes.specs.Lines.{Line, acts_in, AreTrueOf, after_line}
 use Rattle.shard_boxes.specs.States.{ShardState, state_at}
 use Rattle.worker_slices.specs.declared.counters.Counters.{Counters}
 use Rattle.phase_transactions.specs.Txns.{Setting, Txn, hot_of, entry_of, takes, line_on, IsAnswered, after_txn}
 use Rattle.phase_permits.specs.Replying.{CountsOf}
-use Rattle.closing_laws.specs.Phases.{Phase, HasClosed, counters_of, value_on}
-use Rattle.closing_laws.specs.Standing.{ShardsStandFor, StandFor, counters_at}
-use Rattle.closing_laws.specs.Histories.{ReplaysAndStands, worker_line}
-use Rattle.closing_laws.proofs.FixedLemmas.{HasItems}
-use Rattle.closing_laws.proofs.GivenLemmas.{given_is, is_known}
+use Rattle.closing_laws.proofs.{FixedLemmas.{HasItems}, GivenLemmas.{given_is, is_known}}
 use Rattle.closing_laws.proofs.HotLemmas.{stocked_of, read_of}
+use Rattle.closing_laws.proofs.ListLemmas.{lift, all_txns, box, list_is, nowhere}
 use Rattle.closing_laws.proofs.PlaceLemmas.{Place, shard, worker, fixed, State, takes_at, step_at, Saw_at, Stands_at, next_at, Right_at, phase_laws}
 use Rattle.closing_laws.proofs.ReceiptLemmas.{receipt, no_txns, answered, counts, counters_are}
-use Rattle.closing_laws.proofs.ListLemmas.{lift, all_txns, box, list_is, nowhere}
+use Rattle.closing_laws.specs.Histories.{ReplaysAndStands, worker_line}
+use Rattle.closing_laws.specs.Phases.{Phase, HasClosed, counters_of, value_on}
+use Rattle.closing_laws.specs.Standing.{ShardsStandFor, StandFor, counters_at}
 
 -- Of a shard after lines, its contents alone.
 

@@ -1,25 +1,21 @@
 -- The shards that the boxes gave back leave room for the slices of 16 workers.
 use Rattle.std.proofs.Common.{◌≡◌, ℕ, ◌<◌, ◌≤◌, true, List, length, Option, Some, None, IsSome, option_map, refl, sym, subst, arith}
-use Rattle.std.specs.Prelude.{◌-◌}
-use Rattle.std.specs.List.{AllByRecursion}
-use Rattle.std.specs.List.Sorted.{IsPermutation}
+use Rattle.std.specs.{List.{Sorted.{IsPermutation}, AllByRecursion}, Prelude.{◌-◌}}
 use Rattle.phase_laws.specs.Replay.{SawInTurn}
-use Rattle.auction_rows.specs.declared.requests.{ItemId.ItemId, Facts.Facts, Object.Object}
+use Rattle.auction_rows.specs.{Footprint.{is_hot}, Requests.{shard_of}}
 use Rattle.auction_rows.specs.declared.requests.Object.TheVariants.{Item, User, Category}
-use Rattle.auction_rows.specs.Footprint.{is_hot}
-use Rattle.auction_rows.specs.Requests.{shard_of}
-use Rattle.item_shards.specs.declared.shard.slices.Slice.{Slice}
-use Rattle.item_shards.specs.Values.{Value, stock}
-use Rattle.shard_boxes.specs.declared.limits.TheConstants.{MOST_COMMITS}
+use Rattle.auction_rows.specs.declared.requests.{ItemId.ItemId, Facts.Facts, Object.Object}
+use Rattle.item_shards.specs.{Values.{Value, stock}, declared.shard.slices.Slice.{Slice}}
 use Rattle.shard_boxes.specs.States.{state_at, IsInitial, AreInitial}
+use Rattle.shard_boxes.specs.declared.limits.TheConstants.{MOST_COMMITS}
 use Rattle.phase_transactions.specs.Txns.{hot_of}
 use Rattle.worker_slices.specs.Slicing.{HaveAtMost}
-use Rattle.closing_laws.specs.Phases.{Phase, HasClosed, value_on}
-use Rattle.closing_laws.specs.Merging.{after_merge, slices_left, CanMerge}
 use Rattle.closing_laws.proofs.FitLemmas.{HasRoomFor, how_many, all_once, all_good, all_in_turn}
 use Rattle.closing_laws.proofs.GivenLemmas.{is_known, given_alone}
 use Rattle.closing_laws.proofs.HotLemmas.{stocked_of, read_of}
 use Rattle.closing_laws.proofs.ReconcileLemmas.{rows_by, all_sliced}
+use Rattle.closing_laws.specs.Merging.{after_merge, slices_left, CanMerge}
+use Rattle.closing_laws.specs.Phases.{Phase, HasClosed, value_on}
 
 stored_by : (v : Value) → IsSome (stock v) → IsSome v.facts
 stored_by v some = at v.facts some where

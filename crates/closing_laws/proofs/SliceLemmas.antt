@@ -1,21 +1,17 @@
 -- The slices of the workers merged into one value.
 use Rattle.std.proofs.Common.{◌≡◌, ℕ, Bool, true, false, cond, ◌||◌, List, [], ◌∷◌, fold, Option, refl, sym, ap, subst, ◌∙◌}
+use Rattle.std.proofs.lemmas.{Bool.{false≢true, or_parts}, List.Sums.{fold-append}}
 use Rattle.std.specs.List.{AllByRecursion, IsDistinct}
-use Rattle.std.proofs.lemmas.Bool.{false≢true, or_parts}
-use Rattle.std.proofs.lemmas.List.Sums.{fold-append}
 use Rattle.phase_laws.specs.Merging.{SliceLaws}
+use Rattle.auction_rows.{proofs.RequestLemmas.{same_object-true, same_objects}, specs.Book.{Book}}
+use Rattle.auction_rows.specs.{Footprint.{is_hot}, Requests.{same_object}}
 use Rattle.auction_rows.specs.declared.requests.{Facts.Facts, Object.Object}
-use Rattle.auction_rows.specs.Book.{Book}
-use Rattle.auction_rows.specs.Footprint.{is_hot}
-use Rattle.auction_rows.specs.Requests.{same_object}
-use Rattle.auction_rows.proofs.RequestLemmas.{same_object-true, same_objects}
-use Rattle.item_shards.specs.declared.shard.slices.Slice.{Slice}
-use Rattle.item_shards.specs.declared.shard.slices.Slice.TheVariants as slice
-use Rattle.item_shards.specs.declared.shard.slices.ItemSlice.{ItemSlice}
-use Rattle.item_shards.specs.declared.shard.slices.UserSlice.{UserSlice}
-use Rattle.item_shards.specs.declared.shard.slices.CategorySlice.{CategorySlice}
 use Rattle.item_shards.specs.SliceLaws.{item_laws, user_laws, category_laws}
 use Rattle.item_shards.specs.Values.{Value, value}
+use Rattle.item_shards.specs.declared.shard.slices.CategorySlice.{CategorySlice}
+use Rattle.item_shards.specs.declared.shard.slices.{ItemSlice.{ItemSlice}, Slice.{Slice}}
+use Rattle.item_shards.specs.declared.shard.slices.UserSlice.{UserSlice}
+use Rattle.item_shards.specs.declared.shard.slices.Slice.TheVariants as slice
 use Rattle.phase_transactions.specs.Workers.{WorkerState}
 use Rattle.worker_slices.specs.Slicing.{hot_objects, slices_in, slices_of, slice_of}
 use Rattle.closing_laws.specs.Merging.{merged_with, slices_left}

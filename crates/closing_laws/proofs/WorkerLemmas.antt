@@ -1,19 +1,18 @@
 -- The entries of a phase are those of its workers, and so are their rows.
 use Rattle.std.proofs.Common.{◌≡◌, ℕ, ◌<◌, ◌≤◌, ◌==◌, ◌⊎◌, inl, inr, Bool, true, false, cond, List, [], ◌∷◌, map, length, Option, Some, None, refl, sym, ap, subst, ◌∙◌, eq-eqb}
-use Rattle.std.specs.List.{AllByRecursion, cons_option}
 use Rattle.std.proofs.lemmas.Bool.{eqb-true, cond-true, cases_lt}
+use Rattle.std.specs.List.{AllByRecursion, cons_option}
 use Rattle.phase_laws.specs.Order.{part}
-use Rattle.auction_rows.specs.declared.{requests.Request.Request, replies.Reply.Reply, rows.Row.Row, rows.Entry.Entry}
-use Rattle.auction_rows.specs.declared.requests.Request.TheVariants.{StoreItem, StoreBid, StoreComment, BuyNow}
-use Rattle.auction_rows.specs.declared.replies.Reply.TheVariants.{ItemStored, BidStored, CommentStored, Bought}
-use Rattle.auction_rows.specs.Book.{Book}
-use Rattle.auction_rows.specs.History.{row_of_entry, rows_of}
+use Rattle.auction_rows.specs.{Book.{Book}, History.{row_of_entry, rows_of}}
 use Rattle.auction_rows.specs.Replies.{row_of, row_if}
+use Rattle.auction_rows.specs.declared.replies.Reply.TheVariants.{ItemStored, BidStored, CommentStored, Bought}
+use Rattle.auction_rows.specs.declared.requests.Request.TheVariants.{StoreItem, StoreBid, StoreComment, BuyNow}
+use Rattle.auction_rows.specs.declared.{requests.Request.Request, replies.Reply.Reply, rows.Row.Row, rows.Entry.Entry}
 use Rattle.item_shards.specs.Counting.{worker_of}
 use Rattle.worker_journals.specs.Journals.{entry_worker}
 use Rattle.phase_transactions.specs.Txns.{entry_of}
-use Rattle.closing_laws.specs.Phases.{Phase, HasClosed, journal_of, receipt_at}
 use Rattle.closing_laws.proofs.ReceiptLemmas.{no_txns, entries_are, journal_entries}
+use Rattle.closing_laws.specs.Phases.{Phase, HasClosed, journal_of, receipt_at}
 
 -- Who has no part of the entries is of none.
 

@@ -1,21 +1,15 @@
 -- A phase that closes: a user is hot, and the one worker comments on a stored item about that user.
 use Rattle.std.specs.Prelude.{false, [], ◌∷◌, Some, None}
-use Rattle.auction_rows.specs.declared.{requests.ItemId.ItemId, requests.Facts.Facts, rows.Entry.Entry}
+use Rattle.auction_rows.specs.{Book.{Book}, History.{rows_of}, Stars.{five}}
+use Rattle.auction_rows.specs.declared.replies.Reply.TheVariants.{CommentStored}
 use Rattle.auction_rows.specs.declared.requests.Object.TheVariants.{Item, User}
 use Rattle.auction_rows.specs.declared.requests.Request.TheVariants.{StoreComment}
-use Rattle.auction_rows.specs.declared.replies.Reply.TheVariants.{CommentStored}
-use Rattle.auction_rows.specs.Book.{Book}
+use Rattle.auction_rows.specs.declared.{requests.ItemId.ItemId, requests.Facts.Facts, rows.Entry.Entry}
 use Rattle.auction_rows.specs.declared.rows.Row.TheVariants as row
-use Rattle.auction_rows.specs.History.{rows_of}
-use Rattle.auction_rows.specs.Stars.{five}
 use Rattle.item_shards.specs.Values.{stock, value}
-use Rattle.shard_boxes.specs.Keys.{KeyState}
-use Rattle.shard_boxes.specs.Lines.{Line, after_line}
-use Rattle.shard_boxes.specs.States.{ShardState}
-use Rattle.worker_slices.specs.declared.counters.Counters.{Counters}
-use Rattle.phase_transactions.specs.Txns.{Setting, Txn, line_on, after_txn}
-use Rattle.worker_slices.specs.Slicing.{slices_of}
-use Rattle.phase_transactions.specs.Workers.{WorkerState}
+use Rattle.shard_boxes.specs.{Keys.{KeyState}, Lines.{Line, after_line}, States.{ShardState}}
+use Rattle.worker_slices.specs.{Slicing.{slices_of}, declared.counters.Counters.{Counters}}
+use Rattle.phase_transactions.specs.{Txns.{Setting, Txn, line_on, after_txn}, Workers.{WorkerState}}
 use Rattle.closing_laws.specs.Phases.{Phase}
 
 -- the item that is stored

@@ -1,16 +1,13 @@
 -- What a phase that has closed comes to.
 use Rattle.std.specs.Prelude.{◌≡◌, ℕ, ◌<◌, ◌≤◌, List, [], map, filter, length}
-use Rattle.phase_laws.specs.Numbers.{shares, FollowsWhatItShares}
-use Rattle.phase_laws.specs.Order.{part}
-use Rattle.auction_rows.specs.declared.{values.Opening.Opening, requests.Object.Object, rows.Entry.Entry}
-use Rattle.auction_rows.specs.Book.{Book}
-use Rattle.auction_rows.specs.Footprint.{footprint, takes_shard}
+use Rattle.phase_laws.specs.{Numbers.{shares, FollowsWhatItShares}, Order.{part}}
+use Rattle.auction_rows.specs.{Book.{Book}, Footprint.{footprint, takes_shard}}
 use Rattle.auction_rows.specs.History.{ReplaysFrom, book_after}
+use Rattle.auction_rows.specs.declared.{values.Opening.Opening, requests.Object.Object, rows.Entry.Entry}
 use Rattle.worker_journals.specs.Journals.{entry_number, entry_worker}
 use Rattle.shard_boxes.specs.Lines.{Line}
 use Rattle.phase_transactions.specs.Txns.{Setting, Txn, hot_of, entry_of, takes, line_on}
-use Rattle.phase_transactions.specs.Workers.{work_of}
-use Rattle.phase_transactions.specs.Works.{Explains}
+use Rattle.phase_transactions.specs.{Workers.{work_of}, Works.{Explains}}
 use Rattle.closing_laws.specs.Phases.{Phase, HasClosed, counters_of, receipt_at}
 use Rattle.closing_laws.specs.Standing.{StandFor}
 

@@ -1,21 +1,15 @@
 -- How a phase closes lawfully.
 use Rattle.std.specs.Prelude.{◌≡◌, ℕ, ◌<◌, true, false, List, map, fold, length}
 use Rattle.phase_laws.specs.Order.{part}
+use Rattle.auction_rows.specs.{Footprint.{is_hot}, History.{rows_of}, Phases.{IsNumbered}}
 use Rattle.auction_rows.specs.declared.requests.Object.{Object}
-use Rattle.auction_rows.specs.Footprint.{is_hot}
-use Rattle.auction_rows.specs.History.{rows_of}
-use Rattle.auction_rows.specs.Phases.{IsNumbered}
-use Rattle.item_shards.specs.declared.shard.slices.Slice.{Slice}
-use Rattle.item_shards.specs.Values.{Value, value}
+use Rattle.item_shards.specs.{Values.{Value, value}, declared.shard.slices.Slice.{Slice}}
 use Rattle.worker_journals.specs.Journals.{entry_worker}
-use Rattle.shard_boxes.specs.Lines.{IsShardHistory}
-use Rattle.shard_boxes.specs.States.{ShardState, state_at}
-use Rattle.phase_transactions.specs.Txns.{Txn, hot_of, entry_of}
+use Rattle.shard_boxes.specs.{Lines.{IsShardHistory}, States.{ShardState, state_at}}
+use Rattle.phase_transactions.specs.{Txns.{Txn, hot_of, entry_of}, Workers.{WorkerState}}
 use Rattle.worker_slices.specs.Slicing.{slice_of, slices_of}
-use Rattle.phase_transactions.specs.Workers.{WorkerState}
+use Rattle.closing_laws.specs.{Histories.{lines_on}, Merging.{merged_with}}
 use Rattle.closing_laws.specs.Phases.{Phase, value_on, journal_of, receipt_at}
-use Rattle.closing_laws.specs.Histories.{lines_on}
-use Rattle.closing_laws.specs.Merging.{merged_with}
 
 -- a worker's slice of an object: it has the value that the accepted stores of the worker's journal give the object
 abbrev pub slice_by : WorkerState → Object → Slice

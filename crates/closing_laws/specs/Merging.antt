@@ -1,7 +1,6 @@
 -- The slices of the workers, all merged.
+use Rattle.std.specs.List.{Sorted.{IsPermutation}, flat_map}
 use Rattle.std.specs.Prelude.{◌≡◌, ℕ, ◌<◌, List, fold, length}
-use Rattle.std.specs.List.{flat_map}
-use Rattle.std.specs.List.Sorted.{IsPermutation}
 use Rattle.auction_rows.specs.declared.requests.Object.{Object}
 use Rattle.item_shards.specs.declared.shard.slices.Slice.{Slice}
 use Rattle.shard_boxes.specs.States.{ShardState, state_at}

@@ -1,20 +1,17 @@
 -- A phase that has closed: with what it began, what its workers did, and what it left.
-use Rattle.std.specs.Prelude.{◌≡◌, ℕ, ◌<◌, List, [], Option, map, length, slice_index_or, ⊤}
 use Rattle.std.specs.List.{AllByRecursion, IsDistinct}
+use Rattle.std.specs.Prelude.{◌≡◌, ℕ, ◌<◌, List, [], Option, map, length, slice_index_or, ⊤}
 use Rattle.phase_laws.specs.Order.{IsAscending, part}
-use Rattle.auction_rows.specs.declared.{requests.Facts.Facts, requests.Object.Object, rows.Entry.Entry}
-use Rattle.auction_rows.specs.declared.requests.Object.TheVariants.{Item, User, Category}
 use Rattle.auction_rows.specs.Requests.{same_object}
+use Rattle.auction_rows.specs.declared.requests.Object.TheVariants.{Item, User, Category}
+use Rattle.auction_rows.specs.declared.{requests.Facts.Facts, requests.Object.Object, rows.Entry.Entry}
 use Rattle.item_shards.specs.Values.{stock}
 use Rattle.worker_journals.specs.Journals.{JournalView, entry_number, entry_worker, empty_journal}
 use Rattle.worker_journals.specs.Merged.{entries_of}
-use Rattle.shard_boxes.specs.Closed.{AreClosed}
-use Rattle.shard_boxes.specs.Keys.{KeyState, no_key}
-use Rattle.shard_boxes.specs.States.{ShardState}
-use Rattle.worker_slices.specs.declared.counters.Counters.{Counters}
+use Rattle.shard_boxes.specs.{Closed.{AreClosed}, Keys.{KeyState, no_key}, States.{ShardState}}
+use Rattle.worker_slices.specs.{Slicing.{IsStocked}, declared.counters.Counters.{Counters}}
 use Rattle.phase_transactions.specs.Txns.{Setting, hot_of}
 use Rattle.phase_transactions.specs.Workers.{WorkerState, IsExplained, no_counters, new_worker, setting_of}
-use Rattle.worker_slices.specs.Slicing.{IsStocked}
 use Rattle.closing_laws.specs.Standing.{counters_at}
 pub use Rattle.auction_shards.specs.Shards.{value_on}
 

@@ -1,8 +1,6 @@
 -- Shards and counters, and the books for which they stand.
-use Rattle.std.specs.Prelude.{ℕ, ◌+◌, ◌<◌, List, length, slice_index_or}
-use Rattle.std.specs.List.{AllByRecursion}
-use Rattle.auction_rows.specs.declared.requests.Object.{Object}
-use Rattle.auction_rows.specs.Book.{Book}
+use Rattle.std.specs.{List.{AllByRecursion}, Prelude.{ℕ, ◌+◌, ◌<◌, List, length, slice_index_or}}
+use Rattle.auction_rows.specs.{Book.{Book}, declared.requests.Object.{Object}}
 use Rattle.item_shards.specs.Counting.{worker_of}
 use Rattle.shard_boxes.specs.States.{ShardState}
 use Rattle.worker_slices.specs.declared.counters.Counters.{Counters}

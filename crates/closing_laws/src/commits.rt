@@ -1,27 +1,21 @@
 //! What slices are of rows, what commits keep, and why their replies are the model's. Each law is
 //! what a function with an empty body ensures.
 ghost use Rattle.std.specs.Prelude.{◌≡◌, ◌<◌, ◌==◌, if◌then◌else◌, ℕ, ◌++◌, ◌∷◌, [], List, Option, length};
-ghost use Rattle.auction_rows.specs.declared.requests.Facts.{Facts};
-ghost use Rattle.auction_rows.specs.declared.requests.Object.{Object};
-ghost use Rattle.auction_rows.specs.declared.requests.Request.{Request};
-ghost use Rattle.auction_rows.specs.declared.replies.Reply.{Reply};
+ghost use Rattle.auction_rows.specs.{Book.{Book}, Footprint.{footprint}, History.{IsRight}};
+ghost use Rattle.auction_rows.specs.declared.{replies.Reply.{Reply}, requests.Facts.{Facts}};
+ghost use Rattle.auction_rows.specs.declared.requests.{Object.{Object}, Request.{Request}};
 ghost use Rattle.auction_rows.specs.declared.rows.Row.{Row};
-ghost use Rattle.auction_rows.specs.Book.{Book};
-ghost use Rattle.auction_rows.specs.Footprint.{footprint};
-ghost use Rattle.auction_rows.specs.History.{IsRight};
-ghost use Rattle.item_shards.specs.Contents.{Contents};
-ghost use Rattle.item_shards.specs.Writing.{writes_of};
-ghost use Rattle.shard_boxes.specs.Lines.{Line};
+ghost use Rattle.item_shards.specs.{Contents.{Contents}, Writing.{writes_of}};
 ghost use Rattle.shard_boxes.specs.Keys.{KeyState, taking, putting, lines_at, added};
-ghost use Rattle.shard_boxes.specs.States.{ShardState};
-ghost use Rattle.worker_slices.specs.declared.counters.Counters.{Counters};
-ghost use Rattle.phase_transactions.specs.declared.done.PermitFault.{PermitFault};
-ghost use Rattle.phase_transactions.specs.Performing.{HasCommitted, HasFailed, shards_asked};
-ghost use Rattle.phase_permits.specs.Replying.{CountsOf, SawTrue, StoodFor, HasFixed, IsModelReply};
+ghost use Rattle.shard_boxes.specs.{Lines.{Line}, States.{ShardState}};
 ghost use Rattle.worker_slices.specs.Slicing.{slices_of, slices_after_acts, HaveAtMost};
+ghost use Rattle.worker_slices.specs.declared.counters.Counters.{Counters};
+ghost use Rattle.phase_transactions.specs.Performing.{HasCommitted, HasFailed, shards_asked};
 ghost use Rattle.phase_transactions.specs.Txns.{Setting, Txn, entry_of, hot_of, IsAnswered};
 ghost use Rattle.phase_transactions.specs.Workers.{WorkerState, IsExplained, IsIdle, setting_of, txn_of};
 ghost use Rattle.phase_transactions.specs.Works.{Work, IsWorkOf, IsCommitOf, with_txn};
+ghost use Rattle.phase_transactions.specs.declared.done.PermitFault.{PermitFault};
+ghost use Rattle.phase_permits.specs.Replying.{CountsOf, SawTrue, StoodFor, HasFixed, IsModelReply};
 
 /// The slices of rows and one row more are those of the rows after the acts that write the row.
 /// Each has at most as many operations as there are rows.

@@ -5,24 +5,20 @@
 
 mod commits;
 
+ghost use Rattle.std.specs.List.{Sorted.{IsPermutation}, AllByRecursion, flat_map};
 ghost use Rattle.std.specs.Prelude.{◌≡◌, ◌+◌, ◌<◌, ◌≤◌, ℕ, [], length, List, map, reverse};
-ghost use Rattle.std.specs.List.{AllByRecursion, flat_map};
-ghost use Rattle.std.specs.List.Sorted.{IsPermutation};
 ghost use Rattle.phase_laws.specs.Replay.{SawInTurn};
+ghost use Rattle.closing_laws.specs.Example.{example_book, example_phase};
+ghost use Rattle.closing_laws.specs.Histories.{HoldTheEntries, FollowWhatTheyShare, ReplaysAndStands, book_left};
+ghost use Rattle.closing_laws.specs.Lawful.{AreHotMerged, AreSliced, ClosesLawfully};
+ghost use Rattle.closing_laws.specs.Merging.{IsReconciled, CanMerge, after_merge, slices_left};
 ghost use Rattle.closing_laws.specs.Phases.{Phase, HasClosed, receipt_at, counters_of, journal_of};
 ghost use Rattle.closing_laws.specs.Standing.{StandFor, AreOfWorkers, counters_at, stores};
-ghost use Rattle.closing_laws.specs.Histories.{HoldTheEntries, FollowWhatTheyShare, ReplaysAndStands, book_left};
-ghost use Rattle.closing_laws.specs.Merging.{IsReconciled, CanMerge, after_merge, slices_left};
-ghost use Rattle.closing_laws.specs.Lawful.{AreHotMerged, AreSliced, ClosesLawfully};
-ghost use Rattle.closing_laws.specs.Example.{example_book, example_phase};
-ghost use Rattle.auction_rows.specs.declared.requests.Facts.{Facts};
-ghost use Rattle.auction_rows.specs.declared.requests.Object.{Object};
-ghost use Rattle.auction_rows.specs.Book.{Book};
-ghost use Rattle.auction_rows.specs.History.{IsBook};
+ghost use Rattle.auction_rows.specs.{Book.{Book}, History.{IsBook}};
+ghost use Rattle.auction_rows.specs.declared.requests.{Facts.{Facts}, Object.{Object}};
 ghost use Rattle.item_shards.specs.declared.shard.slices.Slice.{Slice};
 ghost use Rattle.shard_boxes.specs.States.{ShardState, AreInitial};
-ghost use Rattle.phase_transactions.specs.Txns.{hot_of};
-ghost use Rattle.phase_transactions.specs.Workers.{WorkerState};
+ghost use Rattle.phase_transactions.specs.{Txns.{hot_of}, Workers.{WorkerState}};
 ghost use Rattle.worker_slices.specs.Slicing.{HaveAtMost, slices_in};
 
 use auction_rows::MOST_WORKERS;

@@ -2,8 +2,7 @@
 //! publisher and its window. `tests/library_calls.py` runs these tests by name, with each
 //! allocation refused in turn. What they answer stands in `tests/library_calls.txt`.
 ghost use Rattle.std.specs.Prelude.{◌≡◌, ◌<◌, ◌++◌, ◌∷◌, [], IfOk, false};
-ghost use Rattle.item_shards.specs.OpeningBooks.{opening_of};
-ghost use Rattle.item_shards.specs.Serial.{CanFollow};
+ghost use Rattle.item_shards.specs.{OpeningBooks.{opening_of}, Serial.{CanFollow}};
 ghost use Rattle.auction_window.specs.Published.{book_of};
 
 use crate::testing::{own_scripts, policy_of, vases_and_bid};

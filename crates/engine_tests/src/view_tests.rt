@@ -2,8 +2,7 @@
 //! their auction was opened with.
 ghost use Rattle.std.specs.Prelude.{◌≡◌, ◌++◌, ◌∷◌, [], length, vec_len, false};
 ghost use Rattle.auction_rows.specs.History.{rows_of as stored_rows};
-ghost use Rattle.item_shards.specs.OpeningBooks.{opening_of, rows_of_book};
-ghost use Rattle.item_shards.specs.Serial.{CanFollow};
+ghost use Rattle.item_shards.specs.{OpeningBooks.{opening_of, rows_of_book}, Serial.{CanFollow}};
 ghost use Rattle.auction_window.specs.Published.{book_of};
 
 use crate::testing::{assert_same, own_scripts, policy_of, vases_and_bid};

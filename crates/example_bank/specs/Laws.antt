@@ -1,15 +1,12 @@
 -- Why deposits may be performed on slices.
-use Rattle.std.specs.Prelude.{◌≡◌, ℕ, suc, Bool, true, false}
-use Rattle.std.specs.List.{AllByRecursion}
 use Rattle.std.proofs.Common.{true≢false, refl, sym, ap, arith}
-use Rattle.std.proofs.Math.Nat.{add_assoc, add_right_comm, add-zero}
+use Rattle.std.{proofs.Math.Nat.{add_assoc, add_right_comm, add-zero}, specs.List.{AllByRecursion}}
+use Rattle.std.specs.Prelude.{◌≡◌, ℕ, suc, Bool, true, false}
 use Rattle.split_engine.specs.Rules.{SplitLaws}
-use Rattle.example_bank.specs.declared.bank.BankRequest.{BankRequest}
-use Rattle.example_bank.specs.declared.bank.BankRequest.TheVariants.{Deposit, Transfer, Balance, Close}
-use Rattle.example_bank.specs.declared.bank.Change.{Change}
-use Rattle.example_bank.specs.declared.bank.Change.TheVariants.{Add, Take, Shut}
-use Rattle.example_bank.specs.declared.bank.Account.{Account}
 use Rattle.example_bank.specs.Model.{account, deposited, decide, splits, applied, is_splittable, sliced, merged, bank, Fits, SliceFits, IsSmall}
+use Rattle.example_bank.specs.declared.bank.{Account.{Account}, BankRequest.{BankRequest}}
+use Rattle.example_bank.specs.declared.bank.BankRequest.TheVariants.{Deposit, Transfer, Balance, Close}
+use Rattle.example_bank.specs.declared.bank.Change.{TheVariants.{Add, Take, Shut}, Change}
 
 pub bank_laws : SplitLaws bank Fits SliceFits IsSmall
 bank_laws = record {

@@ -1,14 +1,11 @@
 -- The bank as its model has it.
 use Rattle.std.specs.Prelude.{ℕ, ◌+◌, ◌-◌, ◌*◌, ◌≤◌, nat_lt, ◌&&◌, Bool, true, false, List, [], ◌∷◌, if◌then◌else◌, ⊤}
-use Rattle.split_engine.specs.declared.entry.Decision.{Decision}
-use Rattle.split_engine.specs.Rules.{Rules}
+use Rattle.split_engine.specs.{Rules.{Rules}, declared.entry.Decision.{Decision}}
+use Rattle.example_bank.specs.declared.bank.{Account.{Account}, BankReply.{BankReply}}
+use Rattle.example_bank.specs.declared.bank.BankReply.TheVariants.{Done, Closed, NotEnough, Holds}
 use Rattle.example_bank.specs.declared.bank.BankRequest.{BankRequest}
 use Rattle.example_bank.specs.declared.bank.BankRequest.TheVariants.{Deposit, Transfer, Balance, Close}
-use Rattle.example_bank.specs.declared.bank.BankReply.{BankReply}
-use Rattle.example_bank.specs.declared.bank.BankReply.TheVariants.{Done, Closed, NotEnough, Holds}
-use Rattle.example_bank.specs.declared.bank.Change.{Change}
-use Rattle.example_bank.specs.declared.bank.Change.TheVariants.{Add, Take, Shut}
-use Rattle.example_bank.specs.declared.bank.Account.{Account}
+use Rattle.example_bank.specs.declared.bank.Change.{TheVariants.{Add, Take, Shut}, Change}
 
 -- an account that holds so much
 abbrev pub account : ℕ → Bool → Account

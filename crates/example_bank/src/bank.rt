@@ -1,6 +1,5 @@
 //! The bank: its accounts, and the requests that name one or two of them.
-ghost use Rattle.std.specs.Prelude.{◌≡◌, ◌*◌, ◌≤◌};
-ghost use Rattle.std.specs.List.{AllByRecursion};
+ghost use Rattle.std.specs.{List.{AllByRecursion}, Prelude.{◌≡◌, ◌*◌, ◌≤◌}};
 ghost use Rattle.example_bank.specs.Model.{deposited, unchanged, transferred, IsSmall};
 
 use split_engine::{Application, Checkable, Decision, Few};
@@ -96,8 +95,7 @@ fn transferred(from: Account, to: Account, amount: u32) -> Decision<BankReply, C
 }
 
 impl Application for Bank {
-    ghost use Rattle.example_bank.specs.Model.{bank, Fits, SliceFits, IsSmall};
-    ghost use Rattle.example_bank.specs.Laws.{bank_laws};
+    ghost use Rattle.example_bank.specs.{Laws.{bank_laws}, Model.{bank, Fits, SliceFits, IsSmall}};
 
     type Record = Account;
 

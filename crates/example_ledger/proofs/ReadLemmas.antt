@@ -1,9 +1,9 @@
 -- What is read of a line.
 use Rattle.std.proofs.Common.{◌≡◌, ◌⊎◌, inl, inr, ◌<◌, ◌^◌, ℕ, zero, suc, slice_index, List, Option, None, Some, IsSomeAnd, IsUtf8, codes, refl, sym, ◌∙◌, subst, arith}
+use Rattle.example_ledger.proofs.WordLemmas.{words_are_text}
+use Rattle.example_ledger.specs.Log.{words, line_of, HasNoBlank, IsInRange}
 use Rattle.example_ledger.specs.declared.ledger.LedgerRequest.{LedgerRequest}
 use Rattle.example_ledger.specs.declared.ledger.LedgerRequest.TheVariants.{Add, Take, Held}
-use Rattle.example_ledger.specs.Log.{words, line_of, HasNoBlank, IsInRange}
-use Rattle.example_ledger.proofs.WordLemmas.{words_are_text}
 
 -- a line is a word and two numbers
 pub record HasWords (q : LedgerRequest) (text : List ℕ) : Type 0 where

@@ -1,7 +1,6 @@
 -- Words with a blank between them.
 use Rattle.std.proofs.Common.{◌≡◌, ◌≢◌, ◌<◌, ◌^◌, ℕ, zero, suc, List, [], ◌∷◌, length, get_or, decimal, Option, None, Some, MatchOption, Bor, IsAscii, IsUtf8, ap, subst, arith}
-use Rattle.std.proofs.lemmas.Fmt.{IsAscii-decimal}
-use Rattle.std.proofs.lemmas.Str.{IsUtf8-append, IsUtf8-from_ascii}
+use Rattle.std.proofs.lemmas.{Fmt.{IsAscii-decimal}, Str.{IsUtf8-append, IsUtf8-from_ascii}}
 use Rattle.std.proofs.lemmas.Str.Pattern.{IsSplitOnceResult, split_after}
 use Rattle.example_ledger.specs.Log.{numbers, words, HasNoBlank}
 use Rattle.example_ledger.specs.LogLaws.{AreDigits, decimal_are_digits}

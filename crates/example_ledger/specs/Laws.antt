@@ -1,14 +1,12 @@
 -- Why additions may be performed on slices.
-use Rattle.std.specs.Prelude.{◌≡◌, ℕ, suc, ◌+◌, true}
-use Rattle.std.specs.List.{AllByRecursion}
 use Rattle.std.proofs.Common.{true≢false, refl, sym, arith}
-use Rattle.std.proofs.Math.Nat.{add_assoc, add_right_comm, add-zero}
+use Rattle.std.{proofs.Math.Nat.{add_assoc, add_right_comm, add-zero}, specs.List.{AllByRecursion}}
+use Rattle.std.specs.Prelude.{◌≡◌, ℕ, suc, ◌+◌, true}
 use Rattle.split_engine.specs.Rules.{SplitLaws}
+use Rattle.example_ledger.specs.Model.{decide, splits, applied, is_splittable, sliced, ledger, Fits, SliceFits, IsSmall}
+use Rattle.example_ledger.specs.declared.ledger.Change.{TheVariants.{Plus, Minus}, Change}
 use Rattle.example_ledger.specs.declared.ledger.LedgerRequest.{LedgerRequest}
 use Rattle.example_ledger.specs.declared.ledger.LedgerRequest.TheVariants.{Add, Take, Held}
-use Rattle.example_ledger.specs.declared.ledger.Change.{Change}
-use Rattle.example_ledger.specs.declared.ledger.Change.TheVariants.{Plus, Minus}
-use Rattle.example_ledger.specs.Model.{decide, splits, applied, is_splittable, sliced, ledger, Fits, SliceFits, IsSmall}
 
 pub ledger_laws : SplitLaws ledger Fits SliceFits IsSmall
 ledger_laws = record {

@@ -1,13 +1,11 @@
 -- Why a log of the ledger's requests leaves the ledger.
-use Rattle.std.specs.Prelude.{◌≡◌, ◌≤◌, ◌<◌, ◌^◌, ℕ, ◌+◌, ◌%◌, List, [], ◌∷◌, ◌++◌, None, IfSome, decimal}
+use Rattle.std.proofs.{Common.{refl, arith}, lemmas.Fmt.{decimal_by_steps}}
 use Rattle.std.specs.List.{AllByRecursion}
-use Rattle.std.proofs.Common.{refl, arith}
-use Rattle.std.proofs.lemmas.Fmt.{decimal_by_steps}
+use Rattle.std.specs.Prelude.{◌≡◌, ◌≤◌, ◌<◌, ◌^◌, ℕ, ◌+◌, ◌%◌, List, [], ◌∷◌, ◌++◌, None, IfSome, decimal}
 use Rattle.application_log.specs.Lines.{HasNoEnd}
+use Rattle.example_ledger.specs.{Log.{numbers, line_of, IsInRange}, Model.{decide}}
 use Rattle.example_ledger.specs.declared.ledger.LedgerRequest.{LedgerRequest}
 use Rattle.example_ledger.specs.declared.ledger.LedgerRequest.TheVariants.{Add, Take, Held}
-use Rattle.example_ledger.specs.Model.{decide}
-use Rattle.example_ledger.specs.Log.{numbers, line_of, IsInRange}
 
 -- digits alone
 abbrev pub AreDigits : List ℕ → Type 0

@@ -1,13 +1,11 @@
 -- The ledger as its model has it.
 use Rattle.std.specs.Prelude.{ℕ, ◌+◌, ◌-◌, ◌*◌, ◌≤◌, nat_lt, Bool, true, false, List, [], ◌∷◌, if◌then◌else◌, ⊤}
-use Rattle.split_engine.specs.declared.entry.Decision.{Decision}
-use Rattle.split_engine.specs.Rules.{Rules}
-use Rattle.example_ledger.specs.declared.ledger.LedgerRequest.{LedgerRequest}
-use Rattle.example_ledger.specs.declared.ledger.LedgerRequest.TheVariants.{Add, Take, Held}
+use Rattle.split_engine.specs.{Rules.{Rules}, declared.entry.Decision.{Decision}}
+use Rattle.example_ledger.specs.declared.ledger.Change.{TheVariants.{Plus, Minus}, Change}
 use Rattle.example_ledger.specs.declared.ledger.LedgerReply.{LedgerReply}
 use Rattle.example_ledger.specs.declared.ledger.LedgerReply.TheVariants.{Done, NotEnough, Holds}
-use Rattle.example_ledger.specs.declared.ledger.Change.{Change}
-use Rattle.example_ledger.specs.declared.ledger.Change.TheVariants.{Plus, Minus}
+use Rattle.example_ledger.specs.declared.ledger.LedgerRequest.{LedgerRequest}
+use Rattle.example_ledger.specs.declared.ledger.LedgerRequest.TheVariants.{Add, Take, Held}
 
 -- an answer, and what is done to each account
 abbrev pub decided : LedgerReply → List Change → Decision LedgerReply Change

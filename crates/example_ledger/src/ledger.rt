@@ -1,9 +1,9 @@
 //! A ledger of accounts, whose requests are lines of a log.
-ghost use Rattle.std.specs.Prelude.{◌≡◌, ◌++◌, ◌<◌, ◌^◌, ℕ, List, Some, IsSomeAnd, IsUtf8, OnOk, codes, decimal};
 ghost use Rattle.std.specs.List.{AllByRecursion};
-ghost use Rattle.example_ledger.specs.declared.ledger.LedgerRequest.TheVariants.{Add, Take};
-ghost use Rattle.example_ledger.specs.Model.{refused, taken, IsSmall};
+ghost use Rattle.std.specs.Prelude.{◌≡◌, ◌++◌, ◌<◌, ◌^◌, ℕ, List, Some, IsSomeAnd, IsUtf8, OnOk, codes, decimal};
 ghost use Rattle.example_ledger.specs.Log.{numbers, words, HasNoBlank};
+ghost use Rattle.example_ledger.specs.Model.{refused, taken, IsSmall};
+ghost use Rattle.example_ledger.specs.declared.ledger.LedgerRequest.TheVariants.{Add, Take};
 
 use application_log::Loggable;
 use itoa::Buffer;
@@ -68,8 +68,8 @@ fn taken(held: u64, amount: u32) -> Decision<LedgerReply, Change>
 }
 
 impl Application for Ledger {
-    ghost use Rattle.example_ledger.specs.Model.{ledger, Fits, SliceFits, IsSmall};
     ghost use Rattle.example_ledger.specs.Laws.{ledger_laws};
+    ghost use Rattle.example_ledger.specs.Model.{ledger, Fits, SliceFits, IsSmall};
 
     type Record = u64;
 

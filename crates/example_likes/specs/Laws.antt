@@ -1,18 +1,13 @@
 -- Why likes may be performed on slices: the laws are those of sums and of the greatest.
-use Rattle.std.specs.Prelude.{◌≡◌, ℕ, suc, ◌+◌, true, List, [], ◌∷◌, None}
-use Rattle.std.specs.List.{AllByRecursion}
-use Rattle.std.specs.Ordering.{nat_cmp}
-use Rattle.std.proofs.Common.{true≢false, refl, sym, ap, arith}
+use Rattle.std.{proofs.Common.{true≢false, refl, sym, ap, arith}, specs.List.{AllByRecursion}}
+use Rattle.std.specs.{Ordering.{nat_cmp}, Prelude.{◌≡◌, ℕ, suc, ◌+◌, true, List, [], ◌∷◌, None}}
 use Rattle.phase_laws.specs.Ranking.{greater}
-use Rattle.split_records.specs.Records.{max_laws}
-use Rattle.split_records.specs.Sums.{sum_laws}
+use Rattle.split_records.specs.{Records.{max_laws}, Sums.{sum_laws}}
 use Rattle.split_engine.specs.Rules.{SplitLaws}
-use Rattle.example_likes.specs.declared.likes.LikeRequest.{LikeRequest}
-use Rattle.example_likes.specs.declared.likes.LikeRequest.TheVariants.{Like, View}
-use Rattle.example_likes.specs.declared.likes.Change.{Change}
-use Rattle.example_likes.specs.declared.likes.Change.TheVariants.{Note, Count}
-use Rattle.example_likes.specs.declared.likes.Tally.{Tally}
 use Rattle.example_likes.specs.Model.{tally, splits, decide, applied, merged, likes, Fits}
+use Rattle.example_likes.specs.declared.likes.Change.{TheVariants.{Note, Count}, Change}
+use Rattle.example_likes.specs.declared.likes.LikeRequest.{TheVariants.{Like, View}, LikeRequest}
+use Rattle.example_likes.specs.declared.likes.Tally.{Tally}
 
 one_more : (a s : Tally) (x : Change) → true ≡ true →
     merged a (applied s x) ≡ applied (merged a s) x

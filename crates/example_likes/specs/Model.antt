@@ -1,15 +1,11 @@
 -- Likes as their model has them.
-use Rattle.std.specs.Prelude.{ℕ, ◌+◌, ◌≤◌, Bool, true, false, List, [], ◌∷◌, Option, None, Some}
 use Rattle.std.specs.Ordering.{nat_cmp}
+use Rattle.std.specs.Prelude.{ℕ, ◌+◌, ◌≤◌, Bool, true, false, List, [], ◌∷◌, Option, None, Some}
 use Rattle.phase_laws.specs.Ranking.{greater}
-use Rattle.split_engine.specs.declared.entry.Decision.{Decision}
-use Rattle.split_engine.specs.Rules.{Rules}
-use Rattle.example_likes.specs.declared.likes.LikeRequest.{LikeRequest}
-use Rattle.example_likes.specs.declared.likes.LikeRequest.TheVariants.{Like, View}
-use Rattle.example_likes.specs.declared.likes.LikeReply.{LikeReply}
-use Rattle.example_likes.specs.declared.likes.LikeReply.TheVariants.{Liked, Viewed}
-use Rattle.example_likes.specs.declared.likes.Change.{Change}
-use Rattle.example_likes.specs.declared.likes.Change.TheVariants.{Note, Count}
+use Rattle.split_engine.specs.{Rules.{Rules}, declared.entry.Decision.{Decision}}
+use Rattle.example_likes.specs.declared.likes.Change.{TheVariants.{Note, Count}, Change}
+use Rattle.example_likes.specs.declared.likes.LikeReply.{TheVariants.{Liked, Viewed}, LikeReply}
+use Rattle.example_likes.specs.declared.likes.LikeRequest.{TheVariants.{Like, View}, LikeRequest}
 use Rattle.example_likes.specs.declared.likes.Tally.{Tally}
 
 -- a tally of so many likes and this time

@@ -48,8 +48,7 @@ pub const NONE: Tally = Tally {
 pub struct Likes;
 
 impl Application for Likes {
-    ghost use Rattle.example_likes.specs.Model.{likes, Fits};
-    ghost use Rattle.example_likes.specs.Laws.{likes_laws};
+    ghost use Rattle.example_likes.specs.{Laws.{likes_laws}, Model.{likes, Fits}};
 
     type Record = Tally;
 

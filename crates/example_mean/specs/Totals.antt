@@ -1,11 +1,10 @@
 -- The sum of numbers and how many they are: what slices of them keep.
-use Rattle.std.specs.Prelude.{◌+◌, ◌<◌, ◌^◌, ℕ, List, length, sum}
 use Rattle.std.proofs.Common.{refl, sym, ap₂, ◌∙◌}
 use Rattle.std.proofs.Math.Nat.{add_assoc, add_comm, add_right_comm, add-zero}
-use Rattle.std.proofs.Math.Numerals.{suc-eq-add-one}
-use Rattle.std.proofs.lemmas.List.{length-append}
-use Rattle.std.proofs.lemmas.List.Sums.{sum_by-cons, sum_by-append}
+use Rattle.std.proofs.{Math.Numerals.{suc-eq-add-one}, lemmas.List.{length-append}}
 use Rattle.std.proofs.lemmas.List.Sorted.{length_permutation, sum_by-IsPermutation}
+use Rattle.std.proofs.lemmas.List.Sums.{sum_by-cons, sum_by-append}
+use Rattle.std.specs.Prelude.{◌+◌, ◌<◌, ◌^◌, ℕ, List, length, sum}
 use Rattle.phase_laws.specs.Merging.{SliceLaws}
 use Rattle.split_records.specs.Laws.{ValueLaws}
 

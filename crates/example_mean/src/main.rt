@@ -4,8 +4,8 @@
 
 mod mean;
 
-ghost use Rattle.std.specs.Prelude.{◌≡◌, ◌<◌, ◌^◌, ◌++◌, ℕ, List, sum};
 ghost use Rattle.std.specs.List.Sorted.{IsPermutation};
+ghost use Rattle.std.specs.Prelude.{◌≡◌, ◌<◌, ◌^◌, ◌++◌, ℕ, List, sum};
 ghost use Rattle.example_mean.specs.Totals.{totals_of};
 
 use crate::mean::MeanRec;

@@ -1,7 +1,6 @@
 -- The permits of two workers, whose receipts a close takes.
 use Rattle.std.proofs.Common.{◌≡◌, ℕ, zero, suc, ◌<◌, List, [], ◌∷◌, length, get_or, sym, subst, arith}
-use Rattle.phase_floor.specs.Closings.{AreReceiptsOf, IsReceipt}
-use Rattle.phase_floor.specs.Floors.{FloorState}
+use Rattle.phase_floor.specs.{Closings.{AreReceiptsOf, IsReceipt}, Floors.{FloorState}}
 use Rattle.phase_transactions.specs.Workers.{WorkerState}
 
 -- each of two

@@ -1,7 +1,6 @@
 //! A split phase of two workers.
 ghost use Rattle.std.specs.Prelude.{◌≡◌, ◌+◌, ◌<◌, ◌^◌, length, IfOk};
-ghost use Rattle.phase_floor.specs.Closings.{IsReceipt};
-ghost use Rattle.phase_floor.specs.States.{states_of};
+ghost use Rattle.phase_floor.specs.{Closings.{IsReceipt}, States.{states_of}};
 ghost use Rattle.example_phases.specs.Auctions.{IsOfTwo};
 
 use crate::auction::Auction;

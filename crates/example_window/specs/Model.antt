@@ -1,14 +1,10 @@
 -- Votes as their model has them, and why votes may be counted on slices.
-use Rattle.std.specs.Prelude.{◌≡◌, ℕ, ◌+◌, ◌*◌, ◌≤◌, Bool, true, false, List, [], ◌∷◌}
-use Rattle.std.specs.List.{AllByRecursion}
 use Rattle.std.proofs.Common.{true≢false, refl, sym, arith}
-use Rattle.std.proofs.Math.Nat.{add_assoc, add_right_comm, add-zero}
-use Rattle.split_engine.specs.declared.entry.Decision.{Decision}
-use Rattle.split_engine.specs.Rules.{Rules, SplitLaws}
-use Rattle.example_window.specs.declared.votes.VoteRequest.{VoteRequest}
-use Rattle.example_window.specs.declared.votes.VoteRequest.TheVariants.{Vote, Count}
-use Rattle.example_window.specs.declared.votes.VoteReply.{VoteReply}
-use Rattle.example_window.specs.declared.votes.VoteReply.TheVariants.{Voted, Counted}
+use Rattle.std.{proofs.Math.Nat.{add_assoc, add_right_comm, add-zero}, specs.List.{AllByRecursion}}
+use Rattle.std.specs.Prelude.{◌≡◌, ℕ, ◌+◌, ◌*◌, ◌≤◌, Bool, true, false, List, [], ◌∷◌}
+use Rattle.split_engine.specs.{Rules.{Rules, SplitLaws}, declared.entry.Decision.{Decision}}
+use Rattle.example_window.specs.declared.votes.VoteReply.{TheVariants.{Voted, Counted}, VoteReply}
+use Rattle.example_window.specs.declared.votes.VoteRequest.{TheVariants.{Vote, Count}, VoteRequest}
 
 abbrev pub decided : VoteReply → List ℕ → Decision VoteReply ℕ
 decided reply acts = record { reply = reply; acts = acts }

@@ -1,8 +1,7 @@
 -- There is a book of a state to which rows are added.
 use Rattle.std.proofs.Common.{[], arith}
 use Rattle.auction_rows.specs.Book.{Book}
-use Rattle.phase_floor.specs.Adding.{HasBook}
-use Rattle.phase_floor.specs.States.{IsBookOf, JoinedState, StandsFor}
+use Rattle.phase_floor.specs.{Adding.{HasBook}, States.{IsBookOf, JoinedState, StandsFor}}
 
 -- of a new one
 pub nothing_stored : {state : JoinedState} → StandsFor state [] → IsBookOf state []

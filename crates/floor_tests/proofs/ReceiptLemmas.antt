@@ -2,16 +2,14 @@
 use Rattle.std.proofs.Common.{◌≡◌, ℕ, suc, ◌+◌, ◌<◌, ◌≤◌, Bool, true, false, List, [], ◌∷◌, ◌++◌, length, Result, Ok, Err, sym, subst, arith}
 use Rattle.std.specs.Prelude.{IfOk, IfErr}
 use Rattle.auction_rows.specs.declared.requests.Request.{Request}
-use Rattle.shard_boxes.specs.States.{ShardState}
-use Rattle.shard_boxes.proofs.Each.{each_push}
+use Rattle.shard_boxes.{proofs.Each.{each_push}, specs.States.{ShardState}}
 use Rattle.closing_laws.specs.Phases.{no_receipt, receipt_at}
+use Rattle.phase_transactions.specs.Performing.{HasDealt, HasFailed}
 use Rattle.phase_transactions.specs.Workers.{WorkerState, with_try}
 use Rattle.phase_transactions.specs.declared.done.Done.TheVariants.{Stashed}
 use Rattle.phase_transactions.specs.declared.done.PermitFault.{PermitFault}
-use Rattle.phase_transactions.specs.Performing.{HasDealt, HasFailed}
-use Rattle.phase_floor.specs.Closings.{IsReceipt, AreReceiptsOf}
-use Rattle.phase_floor.specs.Floors.{FloorState}
 use Rattle.phase_floor.proofs.Receipts.{committed, dealt, failed}
+use Rattle.phase_floor.specs.{Closings.{IsReceipt, AreReceiptsOf}, Floors.{FloorState}}
 
 -- the receipts that are given and the permits that are left are the workers', in order
 pub record AreInTurn (floor : FloorState) (given capacity left : ℕ) (receipts permits : List WorkerState) : Type 0 where

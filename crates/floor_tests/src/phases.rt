@@ -1,7 +1,6 @@
 //! Phases of either kind, in which each worker performs its script.
 ghost use Rattle.std.specs.Prelude.{◌≡◌, ◌+◌, length};
-ghost use Rattle.phase_floor.specs.Closings.{IsReceipt, AreReceiptsOf};
-ghost use Rattle.phase_floor.specs.States.{states_of};
+ghost use Rattle.phase_floor.specs.{Closings.{IsReceipt, AreReceiptsOf}, States.{states_of}};
 
 use crate::testing::{assert_same, nothing_waits, room_for};
 use auction_rows::{MOST_TRIES, Object, Request};

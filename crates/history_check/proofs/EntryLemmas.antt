@@ -1,21 +1,15 @@
 -- One entry more.
 use Rattle.std.proofs.Common.{◌≡◌, ℕ, ◌+◌, ◌<◌, ◌≤◌, ◌==◌, ◌&&◌, Bool, true, false, cond, List, [], ◌∷◌, ◌++◌, Option, Some, None, option_to_list, length, refl, sym, ap, ◌∙◌, arith}
+use Rattle.std.proofs.lemmas.{Bool.{eqb-true, eq-eqb, and_parts}, List.{length-append}}
+use Rattle.std.{proofs.lemmas.List.Sums.{fold_push, sum_by_push}, specs.List.{AllByRecursion}}
 use Rattle.std.specs.Prelude.{count_by}
-use Rattle.std.specs.List.{AllByRecursion}
-use Rattle.std.proofs.lemmas.Bool.{eqb-true, eq-eqb, and_parts}
-use Rattle.std.proofs.lemmas.List.{length-append}
-use Rattle.std.proofs.lemmas.List.Sums.{fold_push, sum_by_push}
-use Rattle.phase_laws.proofs.OrderLemmas.{all_push, ordered_push}
-use Rattle.phase_laws.proofs.ReplayLemmas.{replays_append}
-use Rattle.auction_rows.specs.declared.{values.Opening.Opening, requests.Request.Request, rows.Row.Row, rows.Entry.Entry}
-use Rattle.auction_rows.specs.Book.{Book}
-use Rattle.auction_rows.specs.History.{IsRight, after_entry, book_after}
+use Rattle.phase_laws.proofs.{OrderLemmas.{all_push, ordered_push}, ReplayLemmas.{replays_append}}
+use Rattle.auction_rows.specs.{Book.{Book}, History.{IsRight, after_entry, book_after}}
 use Rattle.auction_rows.specs.Replies.{reply, row_of, next}
+use Rattle.auction_rows.specs.declared.{values.Opening.Opening, requests.Request.Request, rows.Row.Row, rows.Entry.Entry}
+use Rattle.history_check.specs.{Checking.{GoWell}, CommitIds.{Fits, commit_id_of}}
+use Rattle.history_check.specs.{Orders.{MayPrecede}, Scripts.{request_at, is_of}}
 use Rattle.history_check.specs.declared.lines.Order.{Order}
-use Rattle.history_check.specs.Scripts.{request_at, is_of}
-use Rattle.history_check.specs.Orders.{MayPrecede}
-use Rattle.history_check.specs.CommitIds.{Fits, commit_id_of}
-use Rattle.history_check.specs.Checking.{GoWell}
 
 pub counted : (worker index : ℕ) (history : List Entry) (e : Entry) → count_by (is_of worker index) (history ++ e ∷ []) ≡ count_by (is_of worker index) history + cond (is_of worker index e) 1 0
 counted worker index history e = sum_by_push (λ (one : Entry). cond (is_of worker index one) 1 0) history e

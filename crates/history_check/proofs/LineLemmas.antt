@@ -1,16 +1,14 @@
 -- The lines of texts.
 use Rattle.std.proofs.Common.{◌≡◌, ℕ, zero, suc, ◌+◌, ◌<◌, ◌≤◌, ◌==◌, Bool, true, false, cond, List, [], ◌∷◌, ◌++◌, Option, Some, None, length, take, get_or, append_assoc, refl, subst, sym, ap, ◌∙◌, arith}
-use Rattle.std.specs.Prelude.{decimal, codes, ⊤, IfSome}
-use Rattle.std.specs.Io.BufRead.{take_through, drop_through, DropsThrough}
-use Rattle.std.specs.Io.KnownBytes.{Consumes, IsAtEnd, Keeps}
 use Rattle.std.proofs.lemmas.List.{length-append}
+use Rattle.std.specs.Io.BufRead.{take_through, drop_through, DropsThrough}
+use Rattle.std.specs.{Io.KnownBytes.{Consumes, IsAtEnd, Keeps}, Prelude.{decimal, codes, ⊤, IfSome}}
 use Rattle.auction_rows.specs.declared.rows.Entry.{Entry}
 use Rattle.auction_text.specs.Replies.{history_line, reply_text}
-use Rattle.history_check.specs.declared.lines.CommitId.{CommitId}
+use Rattle.history_check.proofs.NumberLemmas.{numbers_apart, take_front}
 use Rattle.history_check.specs.CommitIds.{line_at, Fits, commit_id_of}
 use Rattle.history_check.specs.Texts.{with_byte, lines_of, history_lines}
-use Rattle.history_check.specs.inner.Reading.{ReadsLine}
-use Rattle.history_check.proofs.NumberLemmas.{numbers_apart, take_front}
+use Rattle.history_check.specs.{declared.lines.CommitId.{CommitId}, inner.Reading.{ReadsLine}}
 
 -- ---- the first line of a text
 

@@ -1,15 +1,11 @@
 -- Numbers in decimal, and the space after one.
 use Rattle.std.proofs.Common.{◌≡◌, ℕ, zero, suc, ◌+◌, ◌<◌, ◌==◌, ◌&&◌, ◌⊎◌, ◌^◌, Bool, true, false, not, cond, List, [], ◌∷◌, ◌++◌, Some, None, length, take, drop, get_or, refl, subst, sym, ap, ◌∙◌, inl, inr, arith, rules}
-use Rattle.std.specs.Prelude.{decimal, nat_lt}
-use Rattle.std.specs.List.{list_all, position, prefix_len}
-use Rattle.std.specs.Char.{is_ascii_digit}
-use Rattle.std.specs.Str.Parse.{digits_value}
 use Rattle.std.proofs.lemmas.Bool.{eqb-true, eqb-false, false≢true, and_parts, and_from, ltb-true, lt-ltb, cases_eq}
-use Rattle.std.proofs.lemmas.List.{length-append}
-use Rattle.std.proofs.lemmas.List.Quantifiers.{position-Some}
 use Rattle.std.proofs.lemmas.Fmt.{digits_decimal, digits_value-decimal, decimal-digits_value, decimal_nonempty, first_decimal, decimal_digit}
+use Rattle.std.proofs.lemmas.{List.{Quantifiers.{position-Some}, length-append}, Option.{same_Some}}
 use Rattle.std.proofs.lemmas.Str.Parse.{IsNumeralModel, numerals_by_value}
-use Rattle.std.proofs.lemmas.Option.{same_Some}
+use Rattle.std.specs.{Char.{is_ascii_digit}, List.{list_all, position, prefix_len}}
+use Rattle.std.specs.{Prelude.{decimal, nat_lt}, Str.Parse.{digits_value}}
 use Rattle.auction_text.specs.Fields.{is_numeral, is_empty, number}
 use Rattle.history_check.specs.inner.Reading.{is_space}
 

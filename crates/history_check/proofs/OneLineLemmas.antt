@@ -1,15 +1,13 @@
 -- No reply has a line feed in its text.
 use Rattle.std.proofs.Common.{◌≡◌, ℕ, ℤ, pos, negsuc, zero, suc, ◌<◌, ◌/◌, ◌%◌, ◌==◌, Bool, true, false, not, cond, List, [], ◌∷◌, ◌++◌, Option, Some, None, refl, ap, ◌∙◌, ◌+◌, arith}
-use Rattle.std.specs.Prelude.{decimal, codes, nat_lt}
-use Rattle.std.specs.Fmt.{signed_decimal, digits, digits_onto, digit_glyph}
-use Rattle.std.specs.List.{flat_map, list_all, All}
-use Rattle.std.proofs.lemmas.Bool.{eqb-true, and_from}
-use Rattle.std.proofs.lemmas.List.Elements.{All-head, All-tail}
+use Rattle.std.proofs.lemmas.{Bool.{eqb-true, and_from}, List.Elements.{All-head, All-tail}}
 use Rattle.std.proofs.lemmas.List.Folds.{list_all-append}
+use Rattle.std.specs.Fmt.{signed_decimal, digits, digits_onto, digit_glyph}
+use Rattle.std.specs.{List.{flat_map, list_all, All}, Prelude.{decimal, codes, nat_lt}}
 use Rattle.auction_rows.specs.Name.{IsPrinting}
-use Rattle.auction_rows.specs.declared.replies.{Refusal.Refusal, Reply.Reply, BidShown.BidShown, ItemShown.ItemShown}
-use Rattle.auction_rows.specs.declared.replies.Reply.TheVariants.{ItemStored, BidStored, CommentStored, Bought, ItemSeen, BidsSeen, CategorySeen, UserSeen, Refused}
 use Rattle.auction_rows.specs.declared.replies.Refusal.TheVariants.{NoSuchUser, NoSuchCategory, NoSuchItem, BelowStart, Closed, SoldOut, NotEnough}
+use Rattle.auction_rows.specs.declared.replies.Reply.TheVariants.{ItemStored, BidStored, CommentStored, Bought, ItemSeen, BidsSeen, CategorySeen, UserSeen, Refused}
+use Rattle.auction_rows.specs.declared.replies.{Refusal.Refusal, Reply.Reply, BidShown.BidShown, ItemShown.ItemShown}
 use Rattle.auction_text.specs.Replies.{refusal_text, facts_text, state_text, bid_text, item_text, score_text, reply_text}
 use Rattle.byte_texts.specs.Labels.{id_text, optional_text, labelled, labelled_optional, labelled_id}
 use Rattle.history_check.specs.Texts.{ShowsName}

@@ -1,26 +1,21 @@
 -- What is found while a text is read.
 use Rattle.std.proofs.Common.{◌≡◌, ℕ, ◌+◌, ◌<◌, ◌≤◌, Bool, true, false, cond, List, [], ◌∷◌, ◌++◌, Option, Some, None, length, refl, subst, sym, ap, ◌∙◌, arith}
-use Rattle.std.specs.Bool.{OnFalse, OnTrue}
+use Rattle.std.{proofs.lemmas.List.{length-append}, specs.Bool.{OnFalse, OnTrue}}
 use Rattle.std.specs.Prelude.{Result, Ok, Err, IfOk, IsErrAnd, IsErrOf, IsSome, IsSomeAnd, IfSome}
-use Rattle.std.proofs.lemmas.List.{length-append}
-use Rattle.auction_rows.specs.declared.{values.Opening.Opening, requests.Request.Request, rows.Entry.Entry}
 use Rattle.auction_rows.specs.Book.{Book}
+use Rattle.auction_rows.specs.declared.{values.Opening.Opening, requests.Request.Request, rows.Entry.Entry}
 use Rattle.auction_text.specs.Replies.{history_line, reply_text}
-use Rattle.history_check.specs.declared.lines.CheckFault.{CheckFault}
-use Rattle.history_check.specs.declared.lines.Order.{Order}
-use Rattle.history_check.specs.declared.lines.Verdict.{Verdict}
-use Rattle.history_check.specs.declared.lines.Verdict.TheVariants.{Replays, WrongAt, Lacks}
-use Rattle.history_check.specs.declared.lines.Wrong.{Wrong}
-use Rattle.history_check.specs.declared.lines.CommitId.{CommitId}
-use Rattle.history_check.specs.declared.replay.Replay.{Replay}
-use Rattle.history_check.specs.CommitIds.{IsLineOf, line_at, commit_id_of}
-use Rattle.history_check.specs.Texts.{history_lines, lines_of}
-use Rattle.history_check.specs.inner.Reading.{ReadsLine}
-use Rattle.history_check.specs.Checking.{IsAccepted, IsWrong, IsVerdict}
-use Rattle.history_check.specs.Taking.{HasTaken, AreMarked, IsUnmarked}
-use Rattle.history_check.proofs.ScriptLemmas.{worker_within}
 use Rattle.history_check.proofs.LineLemmas.{HasRead, entry_line, one_read, left_read, all_read, long_read, history_lines_length}
-use Rattle.history_check.proofs.VerdictLemmas.{accepted, found}
+use Rattle.history_check.proofs.{ScriptLemmas.{worker_within}, VerdictLemmas.{accepted, found}}
+use Rattle.history_check.specs.Checking.{IsAccepted, IsWrong, IsVerdict}
+use Rattle.history_check.specs.CommitIds.{IsLineOf, line_at, commit_id_of}
+use Rattle.history_check.specs.Taking.{HasTaken, AreMarked, IsUnmarked}
+use Rattle.history_check.specs.Texts.{history_lines, lines_of}
+use Rattle.history_check.specs.declared.lines.{CheckFault.{CheckFault}, CommitId.{CommitId}}
+use Rattle.history_check.specs.declared.lines.{Order.{Order}, Verdict.{Verdict}}
+use Rattle.history_check.specs.declared.lines.Verdict.TheVariants.{Replays, WrongAt, Lacks}
+use Rattle.history_check.specs.declared.{lines.Wrong.{Wrong}, replay.Replay.{Replay}}
+use Rattle.history_check.specs.inner.Reading.{ReadsLine}
 
 -- A replay has performed the entries whose lines were read of a text, so many, if the text is
 -- known.

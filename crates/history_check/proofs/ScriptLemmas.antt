@@ -1,14 +1,12 @@
 -- The requests of scripts, and their marks.
 use Rattle.std.proofs.Common.{◌≡◌, ℕ, zero, suc, ◌+◌, ◌<◌, ◌≤◌, ◌==◌, ◌&&◌, ◌⊎◌, Bool, true, false, cond, List, [], Some, length, get_or, set, refl, subst, sym, ap, ◌∙◌, inl, inr, arith}
-use Rattle.std.specs.Prelude.{replicate}
 use Rattle.std.proofs.lemmas.Bool.{cases_lt, eqb-true, eq-eqb, false≢true, and_left, and_right}
 use Rattle.std.proofs.lemmas.List.{get_or_default, get_or-set_same, get_or-set_other}
 use Rattle.std.proofs.lemmas.Option.{slice_get_within, unwrap_or-slice_get}
+use Rattle.std.specs.Prelude.{replicate}
 use Rattle.auction_rows.specs.declared.requests.Request.{Request}
-use Rattle.run_laws.specs.Serving.{script_of}
-use Rattle.run_laws.proofs.ScriptLemmas.{past_end}
-use Rattle.history_check.specs.Scripts.{request_at}
-use Rattle.history_check.specs.Marks.{is_marked, HasPlaces}
+use Rattle.run_laws.{proofs.ScriptLemmas.{past_end}, specs.Serving.{script_of}}
+use Rattle.history_check.specs.{Marks.{is_marked, HasPlaces}, Scripts.{request_at}}
 use Rattle.history_check.specs.inner.MarkRows.{AreWide}
 
 -- a request that there is, is of a worker and at an index that there is

@@ -1,15 +1,14 @@
 -- Texts of histories, and their lines.
 use Rattle.std.proofs.Common.{◌≡◌, ℕ, ◌==◌, Bool, true, false, not, cond, List, [], ◌∷◌, ◌++◌, append_assoc, refl, sym, ap, ◌∙◌}
+use Rattle.std.{proofs.lemmas.Bool.{false≢true, and_parts}, specs.List.{AllByRecursion, list_all}}
 use Rattle.std.specs.Prelude.{decimal}
-use Rattle.std.specs.List.{AllByRecursion, list_all}
-use Rattle.std.proofs.lemmas.Bool.{false≢true, and_parts}
 use Rattle.auction_rows.specs.declared.rows.Entry.{Entry}
 use Rattle.auction_text.specs.Replies.{history_line, history_text, reply_text}
-use Rattle.history_check.specs.declared.lines.CommitId.{CommitId}
+use Rattle.history_check.proofs.LineLemmas.{entry_line}
+use Rattle.history_check.proofs.OneLineLemmas.{no_feed, IsOneLine, both, number_one, reply_one}
 use Rattle.history_check.specs.CommitIds.{with_commit_id, commit_id_of}
 use Rattle.history_check.specs.Texts.{with_byte, lines_of, history_lines, ShowsName}
-use Rattle.history_check.proofs.OneLineLemmas.{no_feed, IsOneLine, both, number_one, reply_one}
-use Rattle.history_check.proofs.LineLemmas.{entry_line}
+use Rattle.history_check.specs.declared.lines.CommitId.{CommitId}
 
 -- ---- lines make up their text
 

@@ -1,15 +1,12 @@
 -- Turns, and the order of a worker's entries.
 use Rattle.std.proofs.Common.{◌≡◌, ℕ, suc, ◌<◌, ◌≤◌, ◌==◌, ◌&&◌, Bool, true, false, cond, List, [], ◌∷◌, ◌++◌, refl, sym, ap, ◌∙◌, arith}
-use Rattle.std.specs.Prelude.{max, nat_lt}
-use Rattle.std.specs.List.{AllByRecursion}
 use Rattle.std.proofs.lemmas.Bool.{eqb-true, eq-eqb, false≢true, and_parts, and_from, ltb-true, ltb-false}
-use Rattle.phase_laws.specs.Numbers.{greatest_by}
-use Rattle.phase_laws.specs.Order.{IsOrderedBy}
+use Rattle.std.specs.{List.{AllByRecursion}, Prelude.{max, nat_lt}}
 use Rattle.phase_laws.proofs.ListLemmas.{greatest_bounds, greatest_least}
+use Rattle.phase_laws.specs.{Numbers.{greatest_by}, Order.{IsOrderedBy}}
 use Rattle.auction_rows.specs.declared.rows.Entry.{Entry}
-use Rattle.history_check.specs.declared.lines.Order.{Order}
 use Rattle.history_check.specs.Orders.{is_bound, MayPrecede, turn, turn_after}
-use Rattle.history_check.specs.inner.Replaying.{is_late}
+use Rattle.history_check.specs.{declared.lines.Order.{Order}, inner.Replaying.{is_late}}
 
 max_zero : (a : ℕ) → max a 0 ≡ a
 max_zero a = omega arith

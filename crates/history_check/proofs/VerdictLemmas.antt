@@ -1,31 +1,25 @@
 -- What is found of a whole text.
 use Rattle.std.proofs.Common.{◌≡◌, ℕ, ◌+◌, ◌<◌, ◌≤◌, Bool, true, false, cond, List, [], ◌∷◌, ◌++◌, Some, None, length, refl, subst, sym, ap, ◌∙◌, arith}
-use Rattle.std.specs.Prelude.{count_by, nat_lt}
-use Rattle.std.specs.List.{AllByRecursion}
 use Rattle.std.proofs.lemmas.Bool.{ltb-true, ltb-false, lt-ltb}
 use Rattle.std.proofs.lemmas.List.Sums.{sum_by-append, sum_by-cons}
 use Rattle.std.proofs.lemmas.Option.{slice_get_within, none-some, same_Some}
+use Rattle.std.specs.{List.{AllByRecursion}, Prelude.{count_by, nat_lt}}
+use Rattle.auction_rows.{proofs.HistoryLemmas.{replays_parts}, specs.Book.{Book}}
+use Rattle.auction_rows.specs.{History.{ReplaysFrom, after_entry, book_after}, Replies.{reply}}
 use Rattle.auction_rows.specs.declared.{values.Opening.Opening, requests.Request.Request, replies.Reply.Reply, rows.Entry.Entry}
-use Rattle.auction_rows.specs.Book.{Book}
-use Rattle.auction_rows.specs.History.{ReplaysFrom, after_entry, book_after}
-use Rattle.auction_rows.specs.Replies.{reply}
-use Rattle.auction_rows.proofs.HistoryLemmas.{replays_parts}
 use Rattle.auction_text.specs.Replies.{history_line, reply_text}
 use Rattle.run_laws.specs.Serving.{script_of}
-use Rattle.history_check.specs.declared.lines.Order.{Order}
+use Rattle.history_check.proofs.EntryLemmas.{same_request, own_request}
+use Rattle.history_check.proofs.LineLemmas.{append_nil, entry_line, line_apart}
+use Rattle.history_check.proofs.TurnLemmas.{ordered_before}
+use Rattle.history_check.specs.Checking.{GoWell, IsAccepted, OfLine, OfRequest, IsWrong, IsVerdict}
+use Rattle.history_check.specs.{CommitIds.{Fits, entry_with_id, commit_id_of}, Orders.{MayPrecede}}
+use Rattle.history_check.specs.{Scripts.{request_at, is_of}, Texts.{history_lines, lines_of}}
+use Rattle.history_check.specs.declared.lines.{CommitId.{CommitId}, Order.{Order}}
 use Rattle.history_check.specs.declared.lines.Verdict.{Verdict}
 use Rattle.history_check.specs.declared.lines.Verdict.TheVariants.{Replays, WrongAt, Lacks}
 use Rattle.history_check.specs.declared.lines.Wrong.{Wrong}
 use Rattle.history_check.specs.declared.lines.Wrong.TheVariants.{Unreadable, NoRequest, Again, Late, Due}
-use Rattle.history_check.specs.declared.lines.CommitId.{CommitId}
-use Rattle.history_check.specs.Orders.{MayPrecede}
-use Rattle.history_check.specs.CommitIds.{Fits, entry_with_id, commit_id_of}
-use Rattle.history_check.specs.Scripts.{request_at, is_of}
-use Rattle.history_check.specs.Texts.{history_lines, lines_of}
-use Rattle.history_check.specs.Checking.{GoWell, IsAccepted, OfLine, OfRequest, IsWrong, IsVerdict}
-use Rattle.history_check.proofs.EntryLemmas.{same_request, own_request}
-use Rattle.history_check.proofs.LineLemmas.{append_nil, entry_line, line_apart}
-use Rattle.history_check.proofs.TurnLemmas.{ordered_before}
 use Rattle.phase_laws.proofs.OrderLemmas.{cons-first, cons-rest}
 
 no_first : {X : Type 0} (x : X) (xs : List X) → [] ≡ x ∷ xs → ⊥

@@ -1,23 +1,18 @@
 -- What is found of the text of a history.
-use Rattle.std.specs.Prelude.{ℕ, ◌+◌, ◌≡◌, ◌<◌, ◌≤◌, nat_lt, if◌then◌else◌, List, ◌∷◌, ◌++◌, length, count_by, Some, None}
 use Rattle.std.specs.List.{AllByRecursion}
+use Rattle.std.specs.Prelude.{ℕ, ◌+◌, ◌≡◌, ◌<◌, ◌≤◌, nat_lt, if◌then◌else◌, List, ◌∷◌, ◌++◌, length, count_by, Some, None}
 use Rattle.phase_laws.specs.Order.{IsOrderedBy}
+use Rattle.auction_rows.specs.{Book.{Book}, History.{ReplaysFrom, book_after}, Replies.{reply}}
 use Rattle.auction_rows.specs.declared.{values.Opening.Opening, requests.Request.Request, replies.Reply.Reply, rows.Entry.Entry}
-use Rattle.auction_rows.specs.Book.{Book}
-use Rattle.auction_rows.specs.History.{ReplaysFrom, book_after}
-use Rattle.auction_rows.specs.Replies.{reply}
 use Rattle.auction_text.specs.Replies.{reply_text}
 use Rattle.run_laws.specs.Serving.{script_of}
-use Rattle.history_check.specs.declared.lines.Order.{Order}
-use Rattle.history_check.specs.declared.lines.Verdict.{Verdict}
+use Rattle.history_check.specs.CommitIds.{Fits, IsLineOf, entry_with_id, commit_id_of}
+use Rattle.history_check.specs.{Orders.{MayPrecede}, Scripts.{request_at, is_of}}
+use Rattle.history_check.specs.{Texts.{history_lines, lines_of}, declared.lines.CommitId.{CommitId}}
+use Rattle.history_check.specs.declared.lines.{Order.{Order}, Verdict.{Verdict}}
 use Rattle.history_check.specs.declared.lines.Verdict.TheVariants.{Replays, WrongAt, Lacks}
 use Rattle.history_check.specs.declared.lines.Wrong.{Wrong}
 use Rattle.history_check.specs.declared.lines.Wrong.TheVariants.{Unreadable, NoRequest, Again, Late, Due}
-use Rattle.history_check.specs.declared.lines.CommitId.{CommitId}
-use Rattle.history_check.specs.Orders.{MayPrecede}
-use Rattle.history_check.specs.CommitIds.{Fits, IsLineOf, entry_with_id, commit_id_of}
-use Rattle.history_check.specs.Scripts.{request_at, is_of}
-use Rattle.history_check.specs.Texts.{history_lines, lines_of}
 
 -- Nothing is wrong with the entries of a history, but that requests may be lacking.
 pub record GoWell (opening : Opening) (start : Book) (scripts : List (List Request))

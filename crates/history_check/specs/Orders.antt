@@ -3,8 +3,7 @@ use Rattle.std.specs.Prelude.{ℕ, suc, ◌<◌, ◌≡◌, ◌==◌, Bool, true
 use Rattle.phase_laws.specs.Numbers.{greatest_by}
 use Rattle.auction_rows.specs.Requests.{is_splittable}
 use Rattle.auction_rows.specs.declared.{requests.Request.Request, rows.Entry.Entry}
-use Rattle.history_check.specs.declared.lines.Order.{Order}
-use Rattle.history_check.specs.declared.lines.Order.TheVariants.{Any, StoresFirst, Strict}
+use Rattle.history_check.specs.declared.lines.Order.{TheVariants.{Any, StoresFirst, Strict}, Order}
 
 -- whether a request may stand after no later request of its script
 abbrev pub is_bound : Order → Request → Bool

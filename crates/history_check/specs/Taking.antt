@@ -1,17 +1,13 @@
 -- A replay that has performed the entries of a history so far.
 use Rattle.std.specs.Prelude.{ℕ, ◌+◌, ◌≡◌, ◌<◌, ◌≤◌, Bool, if◌then◌else◌, true, false, List, length, count_by, get_or}
+use Rattle.auction_rows.specs.{Book.{Book}, History.{book_after}}
 use Rattle.auction_rows.specs.declared.limits.TheConstants.{MOST_WORKERS}
 use Rattle.auction_rows.specs.declared.{values.Opening.Opening, requests.Request.Request, rows.Entry.Entry}
-use Rattle.auction_rows.specs.Book.{Book}
-use Rattle.auction_rows.specs.History.{book_after}
 use Rattle.item_shards.specs.Serial.{HoldsBook, serial_opening}
 use Rattle.run_laws.specs.Serving.{script_of}
-use Rattle.history_check.specs.declared.lines.Order.{Order}
+use Rattle.history_check.specs.{Checking.{GoWell}, Marks.{is_marked, HasPlaces}}
+use Rattle.history_check.specs.{Orders.{turn_after}, Scripts.{is_of}, declared.lines.Order.{Order}}
 use Rattle.history_check.specs.declared.replay.Replay.{Replay}
-use Rattle.history_check.specs.Scripts.{is_of}
-use Rattle.history_check.specs.Marks.{is_marked, HasPlaces}
-use Rattle.history_check.specs.Orders.{turn_after}
-use Rattle.history_check.specs.Checking.{GoWell}
 
 -- Nothing is wrong with the entries, the auction holds the book after them, each request that
 -- stands in one has a mark, and each worker its turn.

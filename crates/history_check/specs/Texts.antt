@@ -1,8 +1,8 @@
 -- The lines of a text.
 use Rattle.std.specs.Prelude.{ℕ, ◌==◌, List, [], ◌∷◌, ⊤, map, if◌then◌else◌}
-use Rattle.auction_rows.specs.declared.{replies.Reply.Reply, rows.Entry.Entry}
-use Rattle.auction_rows.specs.declared.replies.Reply.TheVariants.{ItemStored, BidStored, CommentStored, Bought, ItemSeen, BidsSeen, CategorySeen, UserSeen, Refused}
 use Rattle.auction_rows.specs.Name.{IsName}
+use Rattle.auction_rows.specs.declared.replies.Reply.TheVariants.{ItemStored, BidStored, CommentStored, Bought, ItemSeen, BidsSeen, CategorySeen, UserSeen, Refused}
+use Rattle.auction_rows.specs.declared.{replies.Reply.Reply, rows.Entry.Entry}
 use Rattle.auction_text.specs.Replies.{history_line}
 
 -- a byte before the first of some lines

@@ -1,18 +1,16 @@
 //! The check of a whole history, line by line, and what holds of the lines of the product's
 //! histories.
+ghost use Rattle.std.specs.{Bool.{OnFalse, OnTrue}, Io.KnownBytes.{Keeps}, List.{AllByRecursion}};
 ghost use Rattle.std.specs.Prelude.{◌≡◌, ◌<◌, ◌≤◌, ◌+◌, [], true, length, IfOk, IfSome, IsErrOf, ℕ, List};
-ghost use Rattle.std.specs.Bool.{OnFalse, OnTrue};
-ghost use Rattle.std.specs.Io.KnownBytes.{Keeps};
-ghost use Rattle.std.specs.List.{AllByRecursion};
 ghost use Rattle.auction_rows.specs.declared.rows.Entry.{Entry};
 ghost use Rattle.item_shards.specs.OpeningBooks.{opening_of, rows_of_book};
 ghost use Rattle.auction_text.specs.Replies.{history_line, history_text, reply_text};
-ghost use Rattle.history_check.specs.declared.lines.CheckFault.TheVariants.{TooLong};
-ghost use Rattle.history_check.specs.declared.lines.Verdict.TheVariants.{Replays};
-ghost use Rattle.history_check.specs.Texts.{lines_of, ShowsName, history_lines};
-ghost use Rattle.history_check.specs.inner.Reading.{ReadsLine};
 ghost use Rattle.history_check.specs.Checking.{IsAccepted, IsVerdict};
 ghost use Rattle.history_check.specs.CommitIds.{line_at, commit_id_of};
+ghost use Rattle.history_check.specs.Texts.{lines_of, ShowsName, history_lines};
+ghost use Rattle.history_check.specs.declared.lines.CheckFault.TheVariants.{TooLong};
+ghost use Rattle.history_check.specs.declared.lines.Verdict.TheVariants.{Replays};
+ghost use Rattle.history_check.specs.inner.Reading.{ReadsLine};
 
 use crate::lines::{CheckFault, Order, Verdict};
 use crate::replay::Replay;

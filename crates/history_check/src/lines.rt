@@ -1,10 +1,10 @@
 //! The id of a commit, which a line of a history begins with, the text after it, and what is
 //! found of the lines.
-ghost use Rattle.std.specs.Prelude.{◌≡◌, ◌++◌, ◌∷◌, [], ◌<◌, ◌^◌, ℕ, List, decimal, length, IfSome, IfNone, IsSomeAnd};
 ghost use Rattle.std.specs.List.{position};
-ghost use Rattle.history_check.specs.declared.lines.CommitId.{CommitId as CommitIdValue};
+ghost use Rattle.std.specs.Prelude.{◌≡◌, ◌++◌, ◌∷◌, [], ◌<◌, ◌^◌, ℕ, List, decimal, length, IfSome, IfNone, IsSomeAnd};
 ghost use Rattle.history_check.specs.CommitIds.{with_commit_id, Fits, IsLineOf};
 ghost use Rattle.history_check.specs.inner.Reading.{is_space};
+ghost use Rattle.history_check.specs.declared.lines.CommitId.{CommitId as CommitIdValue};
 
 use auction_rows::Reply;
 use auction_text::read_u64;

@@ -1,23 +1,18 @@
 //! Which requests of the scripts have stood in a line, how far each worker's entries have come in
 //! its script, and an auction of one thread on which a history is replayed.
-ghost use Rattle.std.specs.Prelude.{◌≡◌, ◌<◌, ◌≤◌, ℕ, true, false, length, IfOk, IfNone, IfSome, ◌==◌, ◌&&◌, if◌then◌else◌, Some, suc, max, nat_lt, get_or, ◌++◌, ◌∷◌, [], List, IsErrOf, IsSome, IsSomeAnd, OnOk};
 ghost use Rattle.std.specs.Bool.{OnFalse, OnTrue};
+ghost use Rattle.std.specs.Prelude.{◌≡◌, ◌<◌, ◌≤◌, ℕ, true, false, length, IfOk, IfNone, IfSome, ◌==◌, ◌&&◌, if◌then◌else◌, Some, suc, max, nat_lt, get_or, ◌++◌, ◌∷◌, [], List, IsErrOf, IsSome, IsSomeAnd, OnOk};
 ghost use Rattle.run_laws.specs.Serving.{script_of};
+ghost use Rattle.auction_rows.specs.{Book.{Book}, Replies.{next, reply}, StoreReplies.{reply_of}};
 ghost use Rattle.auction_rows.specs.declared.rows.Entry.{Entry};
-ghost use Rattle.auction_rows.specs.Book.{Book};
-ghost use Rattle.auction_rows.specs.Replies.{next, reply};
-ghost use Rattle.auction_rows.specs.StoreReplies.{reply_of};
 ghost use Rattle.item_shards.specs.OpeningBooks.{opening_of, rows_of_book};
 ghost use Rattle.item_shards.specs.Serial.{CanGrow, HoldsBook, IsNotFull, serial_opening};
 ghost use Rattle.auction_text.specs.Replies.{reply_text, history_line};
+ghost use Rattle.history_check.specs.{Checking.{IsWrong}, CommitIds.{Fits, IsLineOf, commit_id_of}};
+ghost use Rattle.history_check.specs.{Marks.{is_marked, HasPlaces}, Orders.{is_bound}};
 ghost use Rattle.history_check.specs.Scripts.{request_at};
-ghost use Rattle.history_check.specs.Marks.{is_marked, HasPlaces};
-ghost use Rattle.history_check.specs.inner.MarkRows.{AreWide};
-ghost use Rattle.history_check.specs.Orders.{is_bound};
-ghost use Rattle.history_check.specs.inner.Replaying.{is_late};
 ghost use Rattle.history_check.specs.declared.lines.CheckFault.TheVariants.{TooLong};
-ghost use Rattle.history_check.specs.CommitIds.{Fits, IsLineOf, commit_id_of};
-ghost use Rattle.history_check.specs.Checking.{IsWrong};
+ghost use Rattle.history_check.specs.inner.{MarkRows.{AreWide}, Replaying.{is_late}};
 
 use crate::lines::{CheckFault, CommitId, Order, Wrong, read_line};
 use auction_rows::{MOST_ROWS, MOST_WORKERS, Reply, Request, StoreReply, is_splittable};

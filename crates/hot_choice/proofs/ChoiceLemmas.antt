@@ -1,14 +1,11 @@
 -- Candidates as they are gathered, ranked, and taken from the front.
 use Rattle.std.proofs.Common.{◌≡◌, ℕ, zero, suc, ◌+◌, ◌<◌, ◌≤◌, ◌||◌, min, false, cond, if◌then◌else◌, List, [], ◌∷◌, ◌++◌, map, filter, take, length, get_or, refl, sym, ap, ◌∙◌, arith, add-one}
-use Rattle.std.specs.Prelude.{nat_le}
-use Rattle.std.specs.List.{IsDistinct, AllByRecursion, list_any}
-use Rattle.std.proofs.Math.Seq.{take-suc}
-use Rattle.std.proofs.lemmas.Bool.{lt-leb}
+use Rattle.std.proofs.{Math.Seq.{take-suc}, lemmas.Bool.{lt-leb}}
 use Rattle.std.proofs.lemmas.List.{get_or-take, get_or-map, length-take, length-map, map-append, take-map, take_min}
-use Rattle.auction_rows.specs.contracts.requests.ObjectPartialEq.TheImpl.{eq-value as object_eq}
-use Rattle.auction_rows.specs.declared.requests.Object.{Object}
-use Rattle.auction_rows.specs.Requests.{same_object}
+use Rattle.std.specs.{List.{IsDistinct, AllByRecursion, list_any}, Prelude.{nat_le}}
 use Rattle.auction_rows.proofs.RequestLemmas.{eq_is_same, same_either_way}
+use Rattle.auction_rows.specs.{Requests.{same_object}, declared.requests.Object.{Object}}
+use Rattle.auction_rows.specs.contracts.requests.ObjectPartialEq.TheImpl.{eq-value as object_eq}
 use Rattle.hot_choice.specs.declared.choice.Candidate.{Candidate}
 use Rattle.hot_choice.specs.inner.Ranking.{candidate, hot_ones}
 

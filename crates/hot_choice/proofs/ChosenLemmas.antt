@@ -1,34 +1,27 @@
 -- The ranked candidates are the objects to be chosen, in their order.
 use Rattle.std.proofs.Common.{◌≡◌, ◌↔◌, ℕ, zero, suc, ◌+◌, ◌<◌, Bool, true, false, cond, List, [], ◌∷◌, map, filter, take, length, get_or, Some, None, IsSome, Contains, inl, inr, refl, sym, ap, subst, ◌∙◌, arith, Option}
-use Rattle.std.specs.Prelude.{nat_le, IsPermutation}
-use Rattle.std.specs.Cmp.{IsEquivalence}
-use Rattle.std.specs.List.{IsDistinct, AllByRecursion}
-use Rattle.std.specs.List.Sorted.{IsStrictlySortedBy}
-use Rattle.std.specs.Map.{keys_of, lookup}
-use Rattle.std.specs.Ordering.{nat_cmp, is_lt, ordering_then, ordering_reverse, flip_args}
-use Rattle.std.specs.declared.cmp.Ordering.{Ordering}
-use Rattle.std.specs.declared.cmp.Ordering.TheVariants.{Less, Equal, Greater}
-use Rattle.std.proofs.lemmas.Bool.{false≢true}
-use Rattle.std.proofs.lemmas.Cmp.{back_total}
-use Rattle.std.proofs.lemmas.List.{get_or-map, length-map, take-map}
-use Rattle.std.proofs.lemmas.List.Elements.{Contains-get_or}
+use Rattle.std.proofs.lemmas.{Bool.{false≢true}, Cmp.{back_total}}
+use Rattle.std.proofs.lemmas.List.{Elements.{Contains-get_or}, get_or-map, length-map, take-map}
 use Rattle.std.proofs.lemmas.List.Sorted.{IsPermutation-map}
 use Rattle.std.proofs.lemmas.Map.Entries.{lookup-filter-values, option_filter}
 use Rattle.std.proofs.lemmas.Map.Keys.{IsDistinct-IsPermutation, apart_from_distinct, sorted_from_all_adjacent}
 use Rattle.std.proofs.lemmas.Map.Made.{IsDistinct-keys_filter}
 use Rattle.std.proofs.lemmas.Map.Views.{IsSome-lookup_from_Contains, Contains-keys_from_lookup, lookup-from_Contains}
-use Rattle.phase_laws.specs.Ranking.{IsDescending}
+use Rattle.std.specs.{Cmp.{IsEquivalence}, List.{IsDistinct, AllByRecursion}}
+use Rattle.std.specs.{List.Sorted.{IsStrictlySortedBy}, Map.{keys_of, lookup}}
+use Rattle.std.specs.Ordering.{nat_cmp, is_lt, ordering_then, ordering_reverse, flip_args}
+use Rattle.std.specs.{Prelude.{nat_le, IsPermutation}, declared.cmp.Ordering.{Ordering}}
+use Rattle.std.specs.declared.cmp.Ordering.TheVariants.{Less, Equal, Greater}
 use Rattle.phase_laws.proofs.DescendingLemmas.{descending_same}
 use Rattle.phase_laws.proofs.MemberLemmas.{Contains-first, Contains-later, Contains-cases, Contains-nothing, all-member, filter-member, permuted_members}
-use Rattle.phase_laws.proofs.OrderLemmas.{all-map}
-use Rattle.phase_laws.proofs.TopLemmas.{top_first, top_same_members}
-use Rattle.auction_rows.specs.declared.{requests.Object.Object, rows.Entry.Entry}
-use Rattle.auction_rows.specs.declared.requests.Object.TheVariants.{User}
-use Rattle.auction_rows.specs.Choosing.{objects_written, heat, heat_cmp, choose}
-use Rattle.auction_rows.specs.Orders.{object_cmp}
-use Rattle.auction_rows.specs.Requests.{same_object}
+use Rattle.phase_laws.proofs.{OrderLemmas.{all-map}, TopLemmas.{top_first, top_same_members}}
+use Rattle.phase_laws.specs.Ranking.{IsDescending}
 use Rattle.auction_rows.proofs.OrderLemmas.{heat_total, heat_same}
 use Rattle.auction_rows.proofs.RequestLemmas.{same_object-true, same_objects, same_either_way}
+use Rattle.auction_rows.specs.Choosing.{objects_written, heat, heat_cmp, choose}
+use Rattle.auction_rows.specs.{Orders.{object_cmp}, Requests.{same_object}}
+use Rattle.auction_rows.specs.declared.requests.Object.TheVariants.{User}
+use Rattle.auction_rows.specs.declared.{requests.Object.Object, rows.Entry.Entry}
 use Rattle.run_laws.proofs.CountLemmas.{how_many, how_many-is}
 use Rattle.hot_choice.specs.declared.choice.Candidate.{Candidate}
 use Rattle.hot_choice.specs.inner.Ranking.{heat_shown, if_enough, HasHeats, candidate, candidate_cmp, hot_ones, IsRanking}

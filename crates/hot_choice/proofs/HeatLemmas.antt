@@ -1,20 +1,16 @@
 -- Heats of objects in a list, and in a table of those whose buckets have enough.
 use Rattle.std.proofs.Common.{◌≡◌, ℕ, zero, suc, ◌+◌, ◌<◌, ◌≤◌, ◌==◌, Bool, true, false, cond, if◌then◌else◌, List, [], ◌∷◌, ◌++◌, Some, None, count_by, get_or, inl, inr, length, refl, replicate, set, sym, take, ap, subst, ◌∙◌, arith, eq-eqb}
-use Rattle.std.specs.Prelude.{nat_le, unwrap_or, slice_index}
-use Rattle.std.specs.List.{IsDistinct}
-use Rattle.std.specs.Map.{keys_of, lookup}
 use Rattle.std.proofs.lemmas.Bool.{cases_eq, false≢true, leb-false, lt-leb, ne_eqb}
-use Rattle.std.proofs.lemmas.List.{get_or-set_other, get_or-set_same}
-use Rattle.std.proofs.lemmas.Nat.{mod_below}
-use Rattle.auction_rows.specs.contracts.requests.ObjectPartialEq.TheImpl.{eq-value as object_eq}
-use Rattle.auction_rows.specs.declared.requests.Object.{Object}
-use Rattle.auction_rows.specs.Requests.{same_object, number_of}
+use Rattle.std.proofs.lemmas.{List.{get_or-set_other, get_or-set_same}, Nat.{mod_below}}
+use Rattle.std.specs.{List.{IsDistinct}, Map.{keys_of, lookup}}
+use Rattle.std.specs.Prelude.{nat_le, unwrap_or, slice_index}
 use Rattle.auction_rows.proofs.RequestLemmas.{distinct_objects, eq_is_same, same_object-true}
+use Rattle.auction_rows.specs.{Requests.{same_object, number_of}, declared.requests.Object.{Object}}
+use Rattle.auction_rows.specs.contracts.requests.ObjectPartialEq.TheImpl.{eq-value as object_eq}
 use Rattle.run_laws.proofs.CountLemmas.{how_many, how_many-is, count-append}
-use Rattle.hot_choice.specs.declared.runs.Run.{Run}
+use Rattle.hot_choice.{proofs.RunLemmas.{runs_taken}, specs.declared.runs.Run.{Run}}
 use Rattle.hot_choice.specs.inner.Ranking.{HasHeats, bucket_of, heat_shown, if_enough, in_bucket}
 use Rattle.hot_choice.specs.inner.Runs.{how_often, objects_of, run_objects}
-use Rattle.hot_choice.proofs.RunLemmas.{runs_taken}
 
 -- ---- the objects of a run, counted
 

@@ -1,16 +1,12 @@
 -- The order of candidates in the code is that of the definitions.
 use Rattle.std.proofs.Common.{◌≡◌, ◌+◌, List, get_or, refl, sym, ap, ◌∙◌}
-use Rattle.std.specs.Prelude.{IsSorted}
-use Rattle.std.specs.Ordering.{is_lt, ordering_then, nat_cmp}
-use Rattle.std.specs.declared.cmp.Ordering.{Ordering}
-use Rattle.std.specs.declared.cmp.Ordering.TheVariants.{Less, Equal, Greater}
-use Rattle.auction_rows.specs.contracts.requests.ObjectOrd.TheImpl.{cmp-value as object_order}
-use Rattle.auction_rows.specs.declared.requests.Object.{Object}
+use Rattle.std.specs.{Ordering.{is_lt, ordering_then, nat_cmp}, Prelude.{IsSorted}}
+use Rattle.std.specs.declared.cmp.Ordering.{TheVariants.{Less, Equal, Greater}, Ordering}
+use Rattle.auction_rows.specs.{Orders.{object_cmp}, declared.requests.Object.{Object}}
 use Rattle.auction_rows.specs.declared.requests.Object.TheVariants.{Item, User, Category}
-use Rattle.auction_rows.specs.Orders.{object_cmp}
+use Rattle.auction_rows.specs.contracts.requests.ObjectOrd.TheImpl.{cmp-value as object_order}
+use Rattle.hot_choice.specs.{declared.choice.Candidate.{Candidate}, inner.Ranking.{candidate_cmp}}
 use Rattle.hot_choice.specs.contracts.choice.CandidateOrd.TheImpl.{cmp-value as candidate_order}
-use Rattle.hot_choice.specs.declared.choice.Candidate.{Candidate}
-use Rattle.hot_choice.specs.inner.Ranking.{candidate_cmp}
 
 and_then_equal : (r : Ordering) → r ≡ ordering_then r Equal
 and_then_equal Less = refl

@@ -1,21 +1,15 @@
 -- The objects that entries write, and runs of them.
 use Rattle.std.proofs.Common.{◌≡◌, ℕ, ◌+◌, ◌<◌, Bool, List, [], ◌∷◌, ◌++◌, Option, Some, None, count_by, get_or, length, refl, replicate, sym, take, ap, ◌∙◌, append_assoc}
-use Rattle.std.specs.Prelude.{option_to_list}
-use Rattle.std.specs.List.{sum_by}
-use Rattle.std.proofs.lemmas.Grind.{flat_map-append}
-use Rattle.std.proofs.lemmas.List.{append-nil, replicate_more, take_more}
-use Rattle.std.proofs.lemmas.List.Concat.{flat_map-cons}
-use Rattle.std.proofs.lemmas.List.Elements.{filter_map-append}
-use Rattle.std.proofs.lemmas.List.Sorted.{sum_by-IsPermutation}
-use Rattle.std.proofs.lemmas.List.Sums.{sum_by-cons}
-use Rattle.auction_rows.specs.declared.{requests.Object.Object, rows.Entry.Entry}
-use Rattle.auction_rows.specs.Choosing.{written_by, objects_written, heat}
-use Rattle.auction_rows.specs.Requests.{same_object}
+use Rattle.std.proofs.lemmas.{Grind.{flat_map-append}, List.{append-nil, replicate_more, take_more}}
+use Rattle.std.proofs.lemmas.List.{Concat.{flat_map-cons}, Elements.{filter_map-append}}
+use Rattle.std.proofs.lemmas.List.{Sorted.{sum_by-IsPermutation}, Sums.{sum_by-cons}}
+use Rattle.std.specs.{List.{sum_by}, Prelude.{option_to_list}}
 use Rattle.auction_rows.proofs.HistoryLemmas.{filter_map-one}
+use Rattle.auction_rows.specs.{Choosing.{written_by, objects_written, heat}, Requests.{same_object}}
+use Rattle.auction_rows.specs.declared.{requests.Object.Object, rows.Entry.Entry}
 use Rattle.run_laws.proofs.CountLemmas.{how_many, how_many-is, count-append}
-use Rattle.worker_journals.specs.Journals.{JournalView}
-use Rattle.worker_journals.specs.Merged.{merged}
 use Rattle.worker_journals.proofs.MergedLemmas.{all_entries, merged_permutes}
+use Rattle.worker_journals.specs.{Journals.{JournalView}, Merged.{merged}}
 use Rattle.hot_choice.specs.declared.runs.Run.{Run}
 use Rattle.hot_choice.specs.inner.Runs.{AreWritten, objects_of, open_objects, run_objects}
 

@@ -1,10 +1,9 @@
 //! The choice of the objects that the next split phase splits.
-ghost use Rattle.std.specs.Prelude.{◌≡◌, ℕ, suc, ◌+◌, ◌<◌, List, Some, IfOk, OnOk, map, slice_index, take, unwrap_or};
 ghost use Rattle.std.specs.List.{IsDistinct};
+ghost use Rattle.std.specs.Prelude.{◌≡◌, ℕ, suc, ◌+◌, ◌<◌, List, Some, IfOk, OnOk, map, slice_index, take, unwrap_or};
 ghost use Rattle.indexmap.specs.IndexMap.{get, IsUnique, Updates};
+ghost use Rattle.auction_rows.specs.{Choosing.{choose}, Requests.{same_object}};
 ghost use Rattle.auction_rows.specs.declared.rows.Entry.{Entry as Committed};
-ghost use Rattle.auction_rows.specs.Requests.{same_object};
-ghost use Rattle.auction_rows.specs.Choosing.{choose};
 ghost use Rattle.worker_journals.specs.Merged.{merged};
 ghost use Rattle.hot_choice.specs.inner.Ranking.{HasHeats, IsRanking, bucket_of, in_bucket};
 ghost use Rattle.hot_choice.specs.inner.Runs.{AreWritten, objects_of};

@@ -1,12 +1,8 @@
 -- Bids of which the amounts tell which one is greater.
 use Rattle.std.proofs.Common.{◌≡◌, ◌<◌, Bool, true, false, cond, Option, Some, None, ap, subst}
-use Rattle.std.specs.Bool.{OnTrue}
-use Rattle.std.specs.Cmp.{nat_cmp_is}
-use Rattle.std.specs.Option.{option_cmp}
-use Rattle.std.specs.Ordering.{is_lt, ord_max}
-use Rattle.std.specs.declared.cmp.Ordering.TheVariants.{Less, Greater}
-use Rattle.auction_rows.specs.Orders.{bid_cmp}
-use Rattle.auction_rows.specs.declared.requests.BidEntry.{BidEntry}
+use Rattle.std.specs.{Bool.{OnTrue}, Cmp.{nat_cmp_is}, Option.{option_cmp}}
+use Rattle.std.specs.{Ordering.{is_lt, ord_max}, declared.cmp.Ordering.TheVariants.{Less, Greater}}
+use Rattle.auction_rows.specs.{Orders.{bid_cmp}, declared.requests.BidEntry.{BidEntry}}
 use Rattle.top_records.specs.TopLaws.{IsPast}
 use Rattle.item_shards.specs.Slices.{IsOutbid}
 

@@ -1,27 +1,21 @@
 -- Bids of the auction of one thread: by what its shard has, with the book that it holds.
 use Rattle.std.proofs.Common.{◌≡◌, ℕ, ◌+◌, ◌<◌, ◌^◌, [], ◌∷◌, ◌++◌, Option, Some, None, option_to_list, length, get_or, refl, sym, ap, subst, ◌∙◌, arith}
+use Rattle.std.{proofs.lemmas.{Bool.{eq-eqb}, List.{append-nil}}, specs.Option.{option_or}}
 use Rattle.std.specs.Prelude.{IfSome, slice_get}
-use Rattle.std.specs.Option.{option_or}
-use Rattle.std.proofs.lemmas.Bool.{eq-eqb}
-use Rattle.std.proofs.lemmas.List.{append-nil}
-use Rattle.auction_rows.specs.declared.{values.Opening.Opening, requests.ItemId.ItemId, requests.BidEntry.BidEntry, requests.Request.Request, replies.Refusal.Refusal, rows.Row.Row}
-use Rattle.auction_rows.specs.declared.requests.Object.TheVariants.{Item}
-use Rattle.auction_rows.specs.declared.replies.Reply.TheVariants.{BidStored, Refused}
-use Rattle.auction_rows.specs.declared.rows.Row.TheVariants as row
-use Rattle.auction_rows.specs.Book.{Book, bids_stored}
+use Rattle.auction_rows.{proofs.RefusalLemmas.{refusal-split}, specs.Book.{Book, bids_stored}}
 use Rattle.auction_rows.specs.Refusals.{facts_for, item_refusal, left_for, number_refusal, refusal}
 use Rattle.auction_rows.specs.Replies.{answer, answer_unless, next, reply, row_if, row_of}
-use Rattle.auction_rows.proofs.RefusalLemmas.{refusal-split}
-use Rattle.item_shards.specs.Answering.{bid_request, refusal_with}
-use Rattle.item_shards.specs.Serial.{HoldsBook, serial_opening}
-use Rattle.item_shards.specs.ShardContents.{LiesIn, contents}
-use Rattle.item_shards.specs.Values.{Value, stock}
-use Rattle.item_shards.specs.declared.serial.StoreCounts.{StoreCounts}
-use Rattle.item_shards.specs.declared.serial.SerialAuction.{SerialAuction}
-use Rattle.item_shards.specs.declared.shard.ShardRecords.{ShardRecords}
-use Rattle.item_shards.proofs.AnswerLemmas.{stock_is}
-use Rattle.item_shards.proofs.CountLemmas.{bids_at_most}
+use Rattle.auction_rows.specs.declared.replies.Reply.TheVariants.{BidStored, Refused}
+use Rattle.auction_rows.specs.declared.requests.Object.TheVariants.{Item}
+use Rattle.auction_rows.specs.declared.{values.Opening.Opening, requests.ItemId.ItemId, requests.BidEntry.BidEntry, requests.Request.Request, replies.Refusal.Refusal, rows.Row.Row}
+use Rattle.auction_rows.specs.declared.rows.Row.TheVariants as row
+use Rattle.item_shards.proofs.{AnswerLemmas.{stock_is}, CountLemmas.{bids_at_most}}
 use Rattle.item_shards.proofs.SerialLemmas.{counted_in, none_counted, refused_by_item, refused_by_stock}
+use Rattle.item_shards.specs.Answering.{bid_request, refusal_with}
+use Rattle.item_shards.specs.{Serial.{HoldsBook, serial_opening}, ShardContents.{LiesIn, contents}}
+use Rattle.item_shards.specs.{Values.{Value, stock}, declared.serial.SerialAuction.{SerialAuction}}
+use Rattle.item_shards.specs.declared.serial.StoreCounts.{StoreCounts}
+use Rattle.item_shards.specs.declared.shard.ShardRecords.{ShardRecords}
 
 -- the row of a bid
 abbrev pub bid_row : ItemId → BidEntry → Row

@@ -1,34 +1,27 @@
 -- The acts of an entry can be done.
 use Rattle.std.proofs.Common.{◌≡◌, ℕ, ◌+◌, ◌-◌, ◌*◌, ◌<◌, ◌≤◌, ◌^◌, ◌==◌, ℤ, ◌+ℤ◌, FitsSigned, Bool, true, false, cond, List, [], ◌++◌, Option, Some, None, IsTrue, option_to_list, length, unsigned_abs, Contains, refl, sym, ap, subst, ◌∙◌, arith}
-use Rattle.std.specs.Prelude.{is_some, is_none, option_map, unwrap_or, nat_le, nat_lt, IsSome}
-use Rattle.std.specs.Int.{w64}
-use Rattle.std.specs.List.{AllByRecursion}
 use Rattle.std.proofs.lemmas.Bool.{false≢true, leb-false, ltb-false, or_parts}
-use Rattle.std.proofs.lemmas.Int.{ints, fits_signed_from_abs}
-use Rattle.std.proofs.lemmas.List.{length-append}
+use Rattle.std.proofs.lemmas.{Int.{ints, fits_signed_from_abs}, List.{length-append}}
+use Rattle.std.specs.{Int.{w64}, List.{AllByRecursion}}
+use Rattle.std.specs.Prelude.{is_some, is_none, option_map, unwrap_or, nat_le, nat_lt, IsSome}
+use Rattle.phase_laws.proofs.{ListLemmas.{all-append}, MemberLemmas.{all-member}}
 use Rattle.phase_laws.specs.Replay.{SawInTurn}
-use Rattle.phase_laws.proofs.MemberLemmas.{all-member}
-use Rattle.phase_laws.proofs.ListLemmas.{all-append}
-use Rattle.auction_rows.specs.declared.{values.Opening.Opening, values.Stars.Stars, requests.ItemId.ItemId, requests.Facts.Facts, requests.Object.Object, requests.Request.Request, replies.Refusal.Refusal, replies.Reply.Reply, rows.Row.Row, rows.Entry.Entry}
-use Rattle.auction_rows.specs.declared.requests.Object.TheVariants.{Item, User, Category}
-use Rattle.auction_rows.specs.declared.requests.Request.TheVariants.{StoreItem, StoreBid, StoreComment, BuyNow, ViewItem, ViewBids, ViewCategory, ViewUser}
-use Rattle.auction_rows.specs.declared.replies.Reply.TheVariants.{ItemStored, Refused}
-use Rattle.auction_rows.specs.Book.{Book, facts_of, left as left_of, bought}
+use Rattle.auction_rows.proofs.RefusalLemmas.{enough, in_range, not_by_number, is_stored}
 use Rattle.auction_rows.specs.History.{IsRight, after_entry, row_of_entry}
 use Rattle.auction_rows.specs.Refusals.{of_stored, number_refusal, refusal}
 use Rattle.auction_rows.specs.Replies.{answer, answer_unless, reply, row_of, row_if}
 use Rattle.auction_rows.specs.Requests.{shard_of}
-use Rattle.auction_rows.proofs.RefusalLemmas.{enough, in_range, not_by_number, is_stored}
-use Rattle.item_shards.specs.Events.{Event}
-use Rattle.item_shards.specs.Values.{Value, value, HasInStock}
-use Rattle.item_shards.specs.Contents.{Contents, after_act}
-use Rattle.item_shards.specs.Standing.{ContentsStandsFor}
-use Rattle.item_shards.specs.Writing.{looks_of, writes_of, writes_if, acts_of, is_cold_in, is_done_on, acts_owed}
-use Rattle.item_shards.specs.Acting.{CanActOn, HasRoomFor}
-use Rattle.item_shards.specs.Limits.{IsWithinLimits}
-use Rattle.item_shards.proofs.StandingLemmas.{stands_at, lies_here}
+use Rattle.auction_rows.specs.declared.replies.Reply.TheVariants.{ItemStored, Refused}
+use Rattle.auction_rows.specs.declared.requests.Object.TheVariants.{Item, User, Category}
+use Rattle.auction_rows.specs.declared.requests.Request.TheVariants.{StoreItem, StoreBid, StoreComment, BuyNow, ViewItem, ViewBids, ViewCategory, ViewUser}
+use Rattle.auction_rows.specs.declared.{values.Opening.Opening, values.Stars.Stars, requests.ItemId.ItemId, requests.Facts.Facts, requests.Object.Object, requests.Request.Request, replies.Refusal.Refusal, replies.Reply.Reply, rows.Row.Row, rows.Entry.Entry}
+use Rattle.auction_rows.specs.Book.{Book, facts_of, left as left_of, bought}
 use Rattle.item_shards.proofs.CountLemmas.{bids_at_most, comments_at_most, rating_at_most}
-use Rattle.item_shards.proofs.TurnLemmas.{owed_in_turn}
+use Rattle.item_shards.proofs.{StandingLemmas.{stands_at, lies_here}, TurnLemmas.{owed_in_turn}}
+use Rattle.item_shards.specs.{Acting.{CanActOn, HasRoomFor}, Contents.{Contents, after_act}}
+use Rattle.item_shards.specs.{Events.{Event}, Limits.{IsWithinLimits}, Standing.{ContentsStandsFor}}
+use Rattle.item_shards.specs.Values.{Value, value, HasInStock}
+use Rattle.item_shards.specs.Writing.{looks_of, writes_of, writes_if, acts_of, is_cold_in, is_done_on, acts_owed}
 
 -- where a purchase isn't refused, as many are left as are bought
 enough_left : (book : Book) (item : ItemId) (quantity : ℕ) → is_none (facts_of book item) ≡ false → of_stored (facts_of book item) (λ facts. nat_lt (left_of book item) quantity) ≡ false

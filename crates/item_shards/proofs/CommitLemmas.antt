@@ -1,12 +1,10 @@
 -- Two acts in turn.
 use Rattle.std.proofs.Common.{◌≡◌, ℕ, Bool, List, [], ◌∷◌, length, get_or, refl, sym, subst, ◌∙◌, arith}
 use Rattle.auction_rows.specs.declared.{values.Opening.Opening, requests.ItemId.ItemId}
-use Rattle.item_shards.specs.declared.shard.acts.Act.{Act}
+use Rattle.item_shards.specs.{Acting.{CanActOn, CanActIn}, Contents.{Contents, after_act}}
 use Rattle.item_shards.specs.Events.{Event}
-use Rattle.item_shards.specs.declared.shard.Shard.{Shard}
-use Rattle.item_shards.specs.Acting.{CanActOn, CanActIn}
-use Rattle.item_shards.specs.Contents.{Contents, after_act}
 use Rattle.item_shards.specs.ShardContents.{shard_number, shard_count, contents, opening, rooms, IsSameShard}
+use Rattle.item_shards.specs.declared.shard.{Shard.{Shard}, acts.Act.{Act}}
 
 -- a list of two is its two elements
 pub two_of : (acts : List Act) (a b : Act) → length acts ≡ 2 → acts ≡ get_or acts 0 a ∷ get_or acts 1 b ∷ []

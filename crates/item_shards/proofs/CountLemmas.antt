@@ -1,12 +1,11 @@
 -- How many bids and comments an object of a book has, and how far a rating is from 0.
 use Rattle.std.proofs.Common.{◌≡◌, ℕ, ◌+◌, ◌*◌, ◌≤◌, ◌==◌, ℤ, pos, ◌+ℤ◌, Bool, true, false, cond, List, [], ◌∷◌, length, map, filter, fold, Option, Some, None, refl, sym, ap, ◌∙◌, subst, arith, unsigned_abs}
-use Rattle.std.specs.List.{filter_map, cons_option}
-use Rattle.std.proofs.lemmas.Int.{ints}
+use Rattle.std.{proofs.lemmas.Int.{ints}, specs.List.{filter_map, cons_option}}
 use Rattle.split_records.specs.Sums.{int_sum}
-use Rattle.auction_rows.specs.declared.{values.Stars.Stars, requests.ItemId.ItemId, rows.CommentRow.CommentRow, rows.Row.Row}
-use Rattle.auction_rows.specs.declared.requests.Object.TheVariants.{Item, User}
-use Rattle.auction_rows.specs.declared.rows.Row.TheVariants as row
 use Rattle.auction_rows.specs.Book.{Book, as_bid, as_comment, bid_entry, same_item, bid_rows, comment_rows, comments_about}
+use Rattle.auction_rows.specs.declared.requests.Object.TheVariants.{Item, User}
+use Rattle.auction_rows.specs.declared.{values.Stars.Stars, requests.ItemId.ItemId, rows.CommentRow.CommentRow, rows.Row.Row}
+use Rattle.auction_rows.specs.declared.rows.Row.TheVariants as row
 use Rattle.item_shards.specs.Values.{value}
 use Rattle.phase_laws.proofs.SumLemmas.{fold-int_sum}
 

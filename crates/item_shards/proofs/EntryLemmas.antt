@@ -1,30 +1,21 @@
 -- What contents stand for, after the acts that an entry owes.
 use Rattle.std.proofs.Common.{◌≡◌, ℕ, ◌+◌, ◌≤◌, ◌==◌, Bool, true, false, ◌&&◌, ◌||◌, cond, not, List, [], ◌∷◌, ◌++◌, map, filter, length, length-append, Option, Some, None, option_to_list, refl, sym, ap, subst, ◌∙◌, arith}
-use Rattle.std.specs.Prelude.{is_some, is_none}
-use Rattle.std.specs.List.{list_any}
-use Rattle.std.specs.Option.{option_or}
-use Rattle.std.proofs.lemmas.Bool.{false≢true, or_parts}
-use Rattle.std.proofs.lemmas.List.Elements.{filter-append}
-use Rattle.std.proofs.lemmas.List.Sums.{length-filter, count_by-le-length}
-use Rattle.auction_rows.specs.declared.{values.Opening.Opening, requests.Facts.Facts, requests.Object.Object, requests.Request.Request, replies.Refusal.Refusal, replies.Reply.Reply, rows.Row.Row, rows.Entry.Entry}
-use Rattle.auction_rows.specs.declared.requests.Object.TheVariants.{Item, User, Category}
-use Rattle.auction_rows.specs.declared.requests.Request.TheVariants.{StoreItem, StoreBid, StoreComment, BuyNow, ViewItem, ViewBids, ViewCategory, ViewUser}
-use Rattle.auction_rows.specs.declared.replies.Reply.TheVariants.{ItemStored, BidStored, CommentStored, Bought}
-use Rattle.auction_rows.specs.Book.{Book}
-use Rattle.auction_rows.specs.Footprint.{is_hot, objects_of, takes_shard}
+use Rattle.std.proofs.lemmas.{Bool.{false≢true, or_parts}, List.Elements.{filter-append}}
+use Rattle.std.{proofs.lemmas.List.Sums.{length-filter, count_by-le-length}, specs.List.{list_any}}
+use Rattle.std.specs.{Option.{option_or}, Prelude.{is_some, is_none}}
+use Rattle.auction_rows.proofs.{RefusalLemmas.{refusal-split}, RequestLemmas.{row_made}}
+use Rattle.auction_rows.specs.{Book.{Book}, Footprint.{is_hot, objects_of, takes_shard}}
 use Rattle.auction_rows.specs.History.{IsRight, after_entry, row_of_entry}
 use Rattle.auction_rows.specs.Refusals.{number_refusal, item_refusal, refusal, facts_for, left_for}
-use Rattle.auction_rows.specs.Replies.{reply, row_of, row_if}
-use Rattle.auction_rows.specs.Requests.{is_view, shard_of}
-use Rattle.auction_rows.proofs.RefusalLemmas.{refusal-split}
-use Rattle.auction_rows.proofs.RequestLemmas.{row_made}
-use Rattle.item_shards.specs.Events.{Event, Look}
-use Rattle.item_shards.specs.Shown.{Shown}
-use Rattle.item_shards.specs.Contents.{Contents, after_acts}
+use Rattle.auction_rows.specs.{Replies.{reply, row_of, row_if}, Requests.{is_view, shard_of}}
+use Rattle.auction_rows.specs.declared.replies.Reply.TheVariants.{ItemStored, BidStored, CommentStored, Bought}
+use Rattle.auction_rows.specs.declared.requests.Object.TheVariants.{Item, User, Category}
+use Rattle.auction_rows.specs.declared.requests.Request.TheVariants.{StoreItem, StoreBid, StoreComment, BuyNow, ViewItem, ViewBids, ViewCategory, ViewUser}
+use Rattle.auction_rows.specs.declared.{values.Opening.Opening, requests.Facts.Facts, requests.Object.Object, requests.Request.Request, replies.Refusal.Refusal, replies.Reply.Reply, rows.Row.Row, rows.Entry.Entry}
+use Rattle.item_shards.proofs.{StandingLemmas.{rows_stand}, Stored.{none_from}}
+use Rattle.item_shards.specs.{Contents.{Contents, after_acts}, Events.{Event, Look}, Shown.{Shown}}
 use Rattle.item_shards.specs.Standing.{ContentsStandsFor}
 use Rattle.item_shards.specs.Writing.{looks_of, writes_of, writes_if, acts_of, is_cold_in, is_done_on, done_on, padded, acts_owed}
-use Rattle.item_shards.proofs.StandingLemmas.{rows_stand}
-use Rattle.item_shards.proofs.Stored.{none_from}
 
 -- the looks at nothing leave the contents
 pub padded_leaves : (contents : Contents) (acts : List Event) → length acts ≤ 2 → after_acts contents (padded acts) ≡ after_acts contents acts

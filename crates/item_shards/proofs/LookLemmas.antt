@@ -1,25 +1,21 @@
 -- What an entry's acts look at is true of the contents of a shard that stands for the book.
 use Rattle.std.proofs.Common.{◌≡◌, ℕ, Bool, true, List, Option, Some, None, refl, sym, ap, ◌∙◌}
-use Rattle.std.specs.Prelude.{option_map}
-use Rattle.std.specs.List.{AllByRecursion}
+use Rattle.std.specs.{List.{AllByRecursion}, Prelude.{option_map}}
 use Rattle.phase_laws.specs.Replay.{SawInTurn}
-use Rattle.auction_rows.specs.declared.{values.Opening.Opening, requests.ItemId.ItemId, requests.Facts.Facts, requests.Object.Object, requests.Request.Request, replies.Reply.Reply, rows.Row.Row, rows.Entry.Entry}
+use Rattle.auction_rows.specs.{History.{IsRight, row_of_entry}, Refusals.{number_refusal}}
+use Rattle.auction_rows.specs.Replies.{answer_unless, reply}
 use Rattle.auction_rows.specs.declared.requests.Object.TheVariants.{Item, User, Category}
 use Rattle.auction_rows.specs.declared.requests.Request.TheVariants.{StoreItem, StoreBid, StoreComment, BuyNow, ViewItem, ViewBids, ViewCategory, ViewUser}
+use Rattle.auction_rows.specs.declared.{values.Opening.Opening, requests.ItemId.ItemId, requests.Facts.Facts, requests.Object.Object, requests.Request.Request, replies.Reply.Reply, rows.Row.Row, rows.Entry.Entry}
 use Rattle.auction_rows.specs.declared.rows.Row.TheVariants as row
 use Rattle.auction_rows.specs.Book.{Book, facts_of, left as left_of}
-use Rattle.auction_rows.specs.History.{IsRight, row_of_entry}
-use Rattle.auction_rows.specs.Refusals.{number_refusal}
-use Rattle.auction_rows.specs.Replies.{answer_unless, reply}
+use Rattle.item_shards.proofs.AnswerLemmas.{item_reply, bids_reply, category_reply_is, user_reply_is, stock_is}
+use Rattle.item_shards.proofs.{StandingLemmas.{stands_at}, TurnLemmas.{owed_in_turn}}
+use Rattle.item_shards.specs.{Contents.{Contents, after_act}, Looking.{IsTrueAct}}
+use Rattle.item_shards.specs.Standing.{ContentsStandsFor}
 use Rattle.item_shards.specs.Values.{Value, value, stock, stock_in, stock_for}
 use Rattle.item_shards.specs.Views.{item_view, bids_view, category_view, user_view, category_reply, user_reply}
-use Rattle.item_shards.specs.Contents.{Contents, after_act}
-use Rattle.item_shards.specs.Standing.{ContentsStandsFor}
 use Rattle.item_shards.specs.Writing.{looks_of, writes_if, is_cold_in, is_done_on, acts_owed}
-use Rattle.item_shards.specs.Looking.{IsTrueAct}
-use Rattle.item_shards.proofs.StandingLemmas.{stands_at}
-use Rattle.item_shards.proofs.TurnLemmas.{owed_in_turn}
-use Rattle.item_shards.proofs.AnswerLemmas.{item_reply, bids_reply, category_reply_is, user_reply_is, stock_is}
 
 -- where no number refuses it
 as_category : (opening : Opening) (category : ℕ) (v : Value) → number_refusal opening (ViewCategory category) ≡ None → category_reply opening category v ≡ category_view v

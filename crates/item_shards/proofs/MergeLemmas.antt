@@ -2,10 +2,8 @@
 use Rattle.std.proofs.Common.{◌≡◌, List, sym, ap, ◌∙◌}
 use Rattle.split_records.specs.Laws.{ValueLaws}
 use Rattle.auction_rows.specs.declared.requests.Object.{Object}
-use Rattle.item_shards.specs.Slices.{IsOfBoth}
-use Rattle.item_shards.specs.Values.{Value}
-use Rattle.item_shards.specs.Contents.{Contents, changed}
-use Rattle.item_shards.proofs.Changes.{changed_itself}
+use Rattle.item_shards.{proofs.Changes.{changed_itself}, specs.Contents.{Contents, changed}}
+use Rattle.item_shards.specs.{Slices.{IsOfBoth}, Values.{Value}}
 
 -- where a change of an object merges a slice into one part of its value
 module _ {Op Rec : Type 0} {value_of : List Op → Rec} {none : Rec} {apply : Rec → Op → Rec} {merge : Rec → Rec → Rec} (laws : ValueLaws value_of none apply merge) where

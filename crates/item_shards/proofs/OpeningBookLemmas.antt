@@ -1,25 +1,22 @@
 -- The rows that an auction is opened with: what many requests leave.
 use Rattle.std.proofs.Common.{◌≡◌, ℕ, zero, suc, ◌+◌, ◌*◌, ◌<◌, ◌≤◌, ◌==◌, Bool, true, false, cond, not, ◌&&◌, List, [], ◌∷◌, ◌++◌, All, map, Option, Some, None, option_to_list, is_some, is_none, length, take, drop, fold, get_or, refl, sym, ap, subst, ◌∙◌, arith, append_assoc}
-use Rattle.std.specs.Prelude.{◌↔◌, Result, Ok, Err, IfOk, OnOk, IsOkUnless, IsErrOf, IsErrAnd, IsTrue}
-use Rattle.std.specs.List.{AllByRecursion, cons_option}
 use Rattle.std.proofs.lemmas.Bool.{eqb-true, eq-eqb, false≢true}
 use Rattle.std.proofs.lemmas.List.{length-append, take-append-drop, length-take-le, append-nil}
 use Rattle.std.proofs.lemmas.List.Elements.{All-push}
 use Rattle.std.proofs.lemmas.List.Sums.{fold_push, sum_by-append, sum_by-cons, sum_by_push}
+use Rattle.std.specs.List.{AllByRecursion, cons_option}
+use Rattle.std.specs.Prelude.{◌↔◌, Result, Ok, Err, IfOk, OnOk, IsOkUnless, IsErrOf, IsErrAnd, IsTrue}
+use Rattle.phase_laws.proofs.{OrderLemmas.{all_push}, ReplayLemmas.{replays_append}}
 use Rattle.phase_laws.specs.Replay.{Replays}
-use Rattle.phase_laws.proofs.ReplayLemmas.{replays_append}
-use Rattle.phase_laws.proofs.OrderLemmas.{all_push}
+use Rattle.auction_rows.{proofs.HistoryLemmas.{longer_book, own_row, rows_go_on}, specs.Book.{Book}}
+use Rattle.auction_rows.specs.{History.{commit, commit_of, GoOn, IsBook}, Replies.{reply, row_of}}
 use Rattle.auction_rows.specs.declared.{values.Opening.Opening, requests.Opened.Opened, rows.Row.Row}
-use Rattle.auction_rows.specs.Book.{Book}
-use Rattle.auction_rows.specs.History.{commit, commit_of, GoOn, IsBook}
-use Rattle.auction_rows.specs.Replies.{reply, row_of}
-use Rattle.auction_rows.proofs.HistoryLemmas.{longer_book, own_row, rows_go_on}
-use Rattle.item_shards.specs.declared.openings.ResumeFault.{ResumeFault}
-use Rattle.item_shards.specs.declared.openings.ResumeFault.TheVariants.{TooLong, BadRow, Memory}
+use Rattle.item_shards.proofs.OpeningLemmas.{row_at, made, row_added, one_more}
+use Rattle.item_shards.proofs.SerialLemmas.{worker_is, worker_of_added}
 use Rattle.item_shards.specs.Counting.{worker_of}
 use Rattle.item_shards.specs.OpeningRows.{with_opened, opening_rows, IsRow, AreRows, IsFirstBad, opened_of, asked_by, IsTooLong, rows_by}
-use Rattle.item_shards.proofs.SerialLemmas.{worker_is, worker_of_added}
-use Rattle.item_shards.proofs.OpeningLemmas.{row_at, made, row_added, one_more}
+use Rattle.item_shards.specs.declared.openings.ResumeFault.{ResumeFault}
+use Rattle.item_shards.specs.declared.openings.ResumeFault.TheVariants.{TooLong, BadRow, Memory}
 
 -- ---- one row more
 

@@ -1,15 +1,11 @@
 -- The rows that an auction is opened with: what one request adds, and what many leave.
 use Rattle.std.proofs.Common.{◌≡◌, ℕ, ◌+◌, ◌<◌, ◌≤◌, ◌==◌, Bool, true, false, cond, not, ◌&&◌, List, [], ◌∷◌, ◌++◌, Option, Some, None, option_to_list, is_some, is_none, length, take, get_or, set, refl, sym, ap, ◌∙◌, arith}
-use Rattle.std.specs.Prelude.{IfSome, IfNone}
 use Rattle.std.proofs.lemmas.Bool.{eqb-true, eq-eqb, false≢true}
-use Rattle.std.proofs.lemmas.List.{take_more, get_or-set_same, get_or-set_other}
-use Rattle.std.proofs.lemmas.List.Sums.{sum_by_push}
+use Rattle.std.proofs.lemmas.List.{Sums.{sum_by_push}, take_more, get_or-set_same, get_or-set_other}
+use Rattle.std.specs.Prelude.{IfSome, IfNone}
+use Rattle.auction_rows.{proofs.RequestLemmas.{row_made}, specs.{Book.{Book}, Refusals.{refusal}}}
+use Rattle.auction_rows.specs.{Replies.{reply, row_of}, Requests.{is_view}}
 use Rattle.auction_rows.specs.declared.{values.Opening.Opening, requests.Opened.Opened, replies.Refusal.Refusal, rows.Row.Row}
-use Rattle.auction_rows.specs.Book.{Book}
-use Rattle.auction_rows.specs.Refusals.{refusal}
-use Rattle.auction_rows.specs.Replies.{reply, row_of}
-use Rattle.auction_rows.specs.Requests.{is_view}
-use Rattle.auction_rows.proofs.RequestLemmas.{row_made}
 use Rattle.item_shards.specs.OpeningRows.{with_opened, IsRow, asked_by}
 
 -- ---- options

@@ -1,40 +1,34 @@
 -- The auction of one thread: what it answers and stores, by the book that it holds.
 use Rattle.std.proofs.Common.{◌≡◌, ℕ, ◌+◌, ◌<◌, ◌≤◌, ◌==◌, Bool, true, false, cond, List, [], ◌∷◌, ◌++◌, Option, Some, None, option_to_list, length, refl, sym, ap, subst, ◌∙◌, arith, append_assoc, set, get_or, take, drop}
-use Rattle.std.specs.Prelude.{option_map, option_and_then, unwrap_or, count_by, slice_get, Result, Ok, Err, OnErr, replicate}
-use Rattle.std.specs.List.{AllByRecursion, cons_option}
-use Rattle.std.specs.Option.{option_or}
-use Rattle.std.proofs.Math.ListN.{length-set}
-use Rattle.std.proofs.lemmas.Bool.{eqb-true, eq-eqb, false≢true}
+use Rattle.std.proofs.{Math.ListN.{length-set}, lemmas.Bool.{eqb-true, eq-eqb, false≢true}}
 use Rattle.std.proofs.lemmas.List.{length-append, length-replicate, get_or-replicate, get_or-set_same, get_or-set_other, take_more, take-append-drop, length-take-le}
-use Rattle.std.proofs.lemmas.Option.{slice_get-get_or, slice_get_within, get_or_from_slice_get}
 use Rattle.std.proofs.lemmas.List.Sums.{sum_by-append, count_by-le-length}
-use Rattle.auction_rows.specs.declared.{values.Opening.Opening, requests.ItemId.ItemId, requests.Facts.Facts, requests.Object.Object, requests.Request.Request, replies.Reply.Reply, rows.Row.Row}
-use Rattle.auction_rows.specs.declared.requests.Object.TheVariants.{Item, User, Category}
-use Rattle.auction_rows.specs.declared.requests.Request.TheVariants.{StoreItem, StoreBid, StoreComment, BuyNow, ViewItem, ViewBids, ViewCategory, ViewUser}
-use Rattle.auction_rows.specs.declared.rows.Row.TheVariants as row
+use Rattle.std.proofs.lemmas.Option.{slice_get-get_or, slice_get_within, get_or_from_slice_get}
+use Rattle.std.specs.{List.{AllByRecursion, cons_option}, Option.{option_or}}
+use Rattle.std.specs.Prelude.{option_map, option_and_then, unwrap_or, count_by, slice_get, Result, Ok, Err, OnErr, replicate}
+use Rattle.auction_rows.proofs.RefusalLemmas.{refusal-split}
 use Rattle.auction_rows.specs.Book.{Book, as_item, as_bid, as_comment, as_buy, facts_of, item_entry}
-use Rattle.auction_rows.specs.Book as book
 use Rattle.auction_rows.specs.History.{commit, commit_of, after_entry, GoOn, IsBook}
+use Rattle.auction_rows.specs.Refusals.{number_refusal, item_refusal, refusal, facts_for, left_for}
 use Rattle.auction_rows.specs.Replies.{answer, answer_unless, reply, row_of}
 use Rattle.auction_rows.specs.Requests.{is_view, item_of, shard_of}
-use Rattle.auction_rows.specs.Refusals.{number_refusal, item_refusal, refusal, facts_for, left_for}
+use Rattle.auction_rows.specs.declared.requests.Object.TheVariants.{Item, User, Category}
+use Rattle.auction_rows.specs.declared.requests.Request.TheVariants.{StoreItem, StoreBid, StoreComment, BuyNow, ViewItem, ViewBids, ViewCategory, ViewUser}
+use Rattle.auction_rows.specs.declared.{values.Opening.Opening, requests.ItemId.ItemId, requests.Facts.Facts, requests.Object.Object, requests.Request.Request, replies.Reply.Reply, rows.Row.Row}
+use Rattle.auction_rows.specs.declared.rows.Row.TheVariants as row
+use Rattle.auction_rows.specs.Book as book
 use Rattle.auction_rows.proofs.HistoryLemmas.{own_row, stored_by as commit_is, rows_go_on, book_parts}
-use Rattle.auction_rows.proofs.RefusalLemmas.{refusal-split}
-use Rattle.item_shards.specs.declared.serial.StoreCounts.{StoreCounts}
-use Rattle.item_shards.specs.Values.{stock_in}
-use Rattle.item_shards.specs.Events.{AddItem, ListItem}
-use Rattle.item_shards.specs.declared.serial.SerialAuction.{SerialAuction}
-use Rattle.item_shards.specs.Serial.{HoldsBook, serial_opening}
-use Rattle.item_shards.specs.Contents.{Contents, after_acts}
-use Rattle.item_shards.specs.Standing.{ContentsStandsFor}
-use Rattle.item_shards.specs.Acting.{CanActOn, HasRoomFor}
-use Rattle.item_shards.specs.Counting.{stored_by, worker_of, counted, AreFew}
-use Rattle.item_shards.specs.Limits.{IsWithinLimits}
-use Rattle.item_shards.specs.Writing.{writes_of, writes_if, is_done_on, done_on}
-use Rattle.item_shards.proofs.CanActLemmas.{row_can}
+use Rattle.item_shards.proofs.{CanActLemmas.{row_can}, CountLemmas.{of_kind}}
 use Rattle.item_shards.proofs.RowLemmas.{this_kind, other_kind, through}
 use Rattle.item_shards.proofs.StandingLemmas.{cold_here, row_stands}
-use Rattle.item_shards.proofs.CountLemmas.{of_kind}
+use Rattle.item_shards.specs.{Acting.{CanActOn, HasRoomFor}, Contents.{Contents, after_acts}}
+use Rattle.item_shards.specs.Counting.{stored_by, worker_of, counted, AreFew}
+use Rattle.item_shards.specs.{Events.{AddItem, ListItem}, Limits.{IsWithinLimits}}
+use Rattle.item_shards.specs.{Serial.{HoldsBook, serial_opening}, Standing.{ContentsStandsFor}}
+use Rattle.item_shards.specs.Values.{stock_in}
+use Rattle.item_shards.specs.Writing.{writes_of, writes_if, is_done_on, done_on}
+use Rattle.item_shards.specs.declared.serial.SerialAuction.{SerialAuction}
+use Rattle.item_shards.specs.declared.serial.StoreCounts.{StoreCounts}
 
 -- ---- refusals
 

@@ -1,20 +1,17 @@
 -- What holds of each act of an entry on the contents as it was holds of the acts that it owes, in turn.
 use Rattle.std.proofs.Common.{◌≡◌, ℕ, Bool, true, false, cond, List, [], ◌∷◌, ◌++◌, Option, Some, None, refl, sym, subst}
+use Rattle.std.{proofs.lemmas.List.Elements.{filter-append}, specs.List.{AllByRecursion}}
 use Rattle.std.specs.Prelude.{is_some}
-use Rattle.std.specs.List.{AllByRecursion}
-use Rattle.std.proofs.lemmas.List.Elements.{filter-append}
 use Rattle.phase_laws.specs.Replay.{SawInTurn}
-use Rattle.auction_rows.specs.declared.{values.Opening.Opening, requests.ItemId.ItemId, requests.Facts.Facts, requests.ItemEntry.ItemEntry, requests.Object.Object, requests.Request.Request, replies.Refusal.Refusal, replies.Reply.Reply, rows.Row.Row, rows.Entry.Entry}
+use Rattle.auction_rows.specs.{History.{row_of_entry}, Refusals.{number_refusal}}
 use Rattle.auction_rows.specs.declared.requests.Object.TheVariants.{Item, User, Category}
 use Rattle.auction_rows.specs.declared.requests.Request.TheVariants.{StoreItem, StoreBid, StoreComment, BuyNow, ViewItem, ViewBids, ViewCategory, ViewUser}
+use Rattle.auction_rows.specs.declared.{values.Opening.Opening, requests.ItemId.ItemId, requests.Facts.Facts, requests.ItemEntry.ItemEntry, requests.Object.Object, requests.Request.Request, replies.Refusal.Refusal, replies.Reply.Reply, rows.Row.Row, rows.Entry.Entry}
 use Rattle.auction_rows.specs.declared.rows.Row.TheVariants as row
-use Rattle.auction_rows.specs.History.{row_of_entry}
-use Rattle.auction_rows.specs.Refusals.{number_refusal}
-use Rattle.item_shards.specs.Events.{Event, AddItem, ListItem, Look}
-use Rattle.item_shards.specs.Shown.{Shown}
-use Rattle.item_shards.specs.Shown as shown
 use Rattle.item_shards.specs.Contents.{Contents, after_act}
+use Rattle.item_shards.specs.{Events.{Event, AddItem, ListItem, Look}, Shown.{Shown}}
 use Rattle.item_shards.specs.Writing.{looks_of, writes_if, is_cold_in, is_done_on, done_on, padded, acts_owed}
+use Rattle.item_shards.specs.Shown as shown
 
 -- a fact of acts that looks at nothing have, and that listing an item has after the item is added, if it had it before
 module _ (P : Contents → Event → Type 0) (nothing : (contents : Contents) → P contents (Look shown.Nothing))

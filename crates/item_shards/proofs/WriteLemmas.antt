@@ -1,18 +1,16 @@
 -- The two acts that write a row: room for them, where they can be done, and what they do.
 use Rattle.std.proofs.Common.{◌≡◌, ℕ, Bool, true, ◌&&◌, ◌||◌, refl, sym, ap, subst, ◌∙◌}
-use Rattle.std.specs.List.{AllByRecursion}
-use Rattle.std.proofs.lemmas.Bool.{eq-eqb}
-use Rattle.auction_rows.specs.declared.{values.Opening.Opening, requests.ItemId.ItemId, rows.ItemRow.ItemRow, rows.Row.Row}
-use Rattle.auction_rows.specs.declared.requests.Object.TheVariants.{Item}
+use Rattle.std.{proofs.lemmas.Bool.{eq-eqb}, specs.List.{AllByRecursion}}
+use Rattle.auction_rows.specs.{History.{commit_of}, Requests.{shard_of}}
 use Rattle.auction_rows.specs.declared.replies.Reply.TheVariants.{ItemStored, BidStored, CommentStored, Bought}
+use Rattle.auction_rows.specs.declared.requests.Object.TheVariants.{Item}
+use Rattle.auction_rows.specs.declared.{values.Opening.Opening, requests.ItemId.ItemId, rows.ItemRow.ItemRow, rows.Row.Row}
 use Rattle.auction_rows.specs.declared.rows.Row.TheVariants as row
-use Rattle.auction_rows.specs.History.{commit_of}
-use Rattle.auction_rows.specs.Requests.{shard_of}
-use Rattle.item_shards.specs.declared.shard.Shard.{Shard}
 use Rattle.item_shards.specs.Acting.{CanActOn, CanActIn, CanWrite, HasRoomFor}
 use Rattle.item_shards.specs.Contents.{Contents, after_act, after_acts}
-use Rattle.item_shards.specs.ShardContents.{contents as contents_of, opening, rooms as rooms_of, shard_count, shard_number, with_room, IsSameShard}
 use Rattle.item_shards.specs.Writing.{writes_of, first_act, second_act}
+use Rattle.item_shards.specs.declared.shard.Shard.{Shard}
+use Rattle.item_shards.specs.ShardContents.{contents as contents_of, opening, rooms as rooms_of, shard_count, shard_number, with_room, IsSameShard}
 
 -- ---- room
 

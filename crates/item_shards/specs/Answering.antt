@@ -1,14 +1,11 @@
 -- Why an item refuses a request.
 use Rattle.std.specs.Prelude.{◌≡◌, ℕ, Option, Some, option_map, option_and_then, unwrap_or}
-use Rattle.auction_rows.specs.declared.{requests.ItemId.ItemId, requests.Facts.Facts, requests.BidEntry.BidEntry, requests.Request.Request, replies.Refusal.Refusal}
+use Rattle.auction_rows.specs.{Refusals.{item_refusal}, Requests.{item_of}}
 use Rattle.auction_rows.specs.declared.requests.Object.TheVariants.{Item}
 use Rattle.auction_rows.specs.declared.requests.Request.TheVariants.{StoreBid}
-use Rattle.auction_rows.specs.Refusals.{item_refusal}
-use Rattle.auction_rows.specs.Requests.{item_of}
-use Rattle.item_shards.specs.declared.shard.Shard.{Shard}
-use Rattle.item_shards.specs.Contents.{Contents}
-use Rattle.item_shards.specs.ShardContents.{LiesIn}
-use Rattle.item_shards.specs.Values.{stock, stock_facts, stock_left}
+use Rattle.auction_rows.specs.declared.{requests.ItemId.ItemId, requests.Facts.Facts, requests.BidEntry.BidEntry, requests.Request.Request, replies.Refusal.Refusal}
+use Rattle.item_shards.specs.{Contents.{Contents}, ShardContents.{LiesIn}}
+use Rattle.item_shards.specs.{Values.{stock, stock_facts, stock_left}, declared.shard.Shard.{Shard}}
 
 -- the first reason for which an item refuses a request, by its facts and how many are left, if it is stored
 abbrev pub refusal_with : Option (Facts × ℕ) → Request → Option Refusal

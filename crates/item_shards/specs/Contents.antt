@@ -1,15 +1,13 @@
 -- A contents: objects by their values, and what acts and merges do to it.
 use Rattle.std.specs.Prelude.{ℕ, ◌+◌, List, fold, if◌then◌else◌, is_some, Option, Some, None}
-use Rattle.auction_rows.specs.declared.{values.Stars.Stars, requests.ItemId.ItemId, requests.Facts.Facts, requests.BidEntry.BidEntry, requests.ItemEntry.ItemEntry, requests.Object.Object, replies.Refusal.Refusal}
-use Rattle.auction_rows.specs.declared.requests.Object.TheVariants.{Item, User, Category}
 use Rattle.auction_rows.specs.Requests.{same_object}
+use Rattle.auction_rows.specs.declared.requests.Object.TheVariants.{Item, User, Category}
+use Rattle.auction_rows.specs.declared.{values.Stars.Stars, requests.ItemId.ItemId, requests.Facts.Facts, requests.BidEntry.BidEntry, requests.ItemEntry.ItemEntry, requests.Object.Object, replies.Refusal.Refusal}
 use Rattle.item_shards.specs.Events.{Event, AddItem, ListItem, Bid, Comment, Buy, Look}
-use Rattle.item_shards.specs.Shown as shown
-use Rattle.item_shards.specs.declared.shard.slices.ItemSlice.{ItemSlice}
-use Rattle.item_shards.specs.declared.shard.slices.UserSlice.{UserSlice}
-use Rattle.item_shards.specs.declared.shard.slices.CategorySlice.{CategorySlice}
 use Rattle.item_shards.specs.Slices.{with_bid, with_bids, with_comment, with_comments, with_item, with_items}
-use Rattle.item_shards.specs.Values.{Value}
+use Rattle.item_shards.specs.{Values.{Value}, declared.shard.slices.CategorySlice.{CategorySlice}}
+use Rattle.item_shards.specs.declared.shard.slices.{ItemSlice.{ItemSlice}, UserSlice.{UserSlice}}
+use Rattle.item_shards.specs.Shown as shown
 
 abbrev pub Contents : Type 0
 Contents = Object → Value

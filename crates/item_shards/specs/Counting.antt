@@ -1,9 +1,8 @@
 -- How many stores of each kind a worker has.
 use Rattle.std.specs.Prelude.{ℕ, ◌+◌, ◌<◌}
-use Rattle.auction_rows.specs.declared.limits.TheConstants.{MOST_ROWS}
-use Rattle.auction_rows.specs.declared.rows.Row.{Row}
-use Rattle.auction_rows.specs.declared.rows.Row.TheVariants as row
 use Rattle.auction_rows.specs.Book.{Book, items_stored, bids_stored, comments_stored, buys_stored}
+use Rattle.auction_rows.specs.declared.{limits.TheConstants.{MOST_ROWS}, rows.Row.{Row}}
+use Rattle.auction_rows.specs.declared.rows.Row.TheVariants as row
 pub use Rattle.auction_rows.specs.Book.{worker_of}
 use Rattle.item_shards.specs.declared.serial.StoreCounts.{StoreCounts}
 

@@ -1,7 +1,6 @@
 -- How large a book may be: then each count and rating fits.
 use Rattle.std.specs.Prelude.{◌≤◌, length}
-use Rattle.auction_rows.specs.declared.limits.TheConstants.{MOST_ROWS}
-use Rattle.auction_rows.specs.Book.{Book}
+use Rattle.auction_rows.specs.{Book.{Book}, declared.limits.TheConstants.{MOST_ROWS}}
 
 -- a book of no more rows than an auction may have
 pub record IsWithinLimits (book : Book) : Type 0 where

@@ -1,17 +1,15 @@
 -- What looks show of contents, and when it is true of contents.
 use Rattle.std.specs.Prelude.{◌≡◌, List, [], ◌∷◌, ⊤}
 use Rattle.auction_rows.specs.declared.requests.Object.TheVariants.{Item, User, Category}
+use Rattle.item_shards.specs.{Contents.{Contents, after_act}, Events.{Event}, Shown.{Shown}}
+use Rattle.item_shards.specs.Values.{stock}
+use Rattle.item_shards.specs.Views.{item_view, bids_view, category_view, user_view}
 use Rattle.item_shards.specs.declared.shard.acts.Act.{Act}
 use Rattle.item_shards.specs.declared.shard.acts.Act.TheVariants.{AddItem, ListItem, Bid, Comment, Buy, Look}
 use Rattle.item_shards.specs.declared.shard.acts.Look.{Look as LookedAt}
 use Rattle.item_shards.specs.declared.shard.acts.Look.TheVariants as look
-use Rattle.item_shards.specs.Events.{Event}
 use Rattle.item_shards.specs.Events as event
-use Rattle.item_shards.specs.Shown.{Shown}
 use Rattle.item_shards.specs.Shown as shown
-use Rattle.item_shards.specs.Values.{stock}
-use Rattle.item_shards.specs.Contents.{Contents, after_act}
-use Rattle.item_shards.specs.Views.{item_view, bids_view, category_view, user_view}
 
 -- what a look shows of contents
 abbrev pub shown_in : Contents → LookedAt → Shown

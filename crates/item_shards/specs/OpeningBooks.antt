@@ -1,8 +1,6 @@
 -- A book that an auction is opened with, as contracts see it.
-use Rattle.auction_rows.specs.declared.values.Opening.{Opening}
-use Rattle.auction_rows.specs.Book.{Book}
-use Rattle.item_shards.specs.declared.openings.OpeningBook.{OpeningBook}
-use Rattle.item_shards.specs.OpeningRows.{rows_in}
+use Rattle.auction_rows.specs.{Book.{Book}, declared.values.Opening.{Opening}}
+use Rattle.item_shards.specs.{OpeningRows.{rows_in}, declared.openings.OpeningBook.{OpeningBook}}
 
 -- the users and categories of the auction
 abbrev pub opening_of : OpeningBook → Opening

@@ -2,13 +2,10 @@
 use Rattle.std.specs.Prelude.{ℕ, ◌≡◌, ◌==◌, ◌<◌, ◌≤◌, ◌+◌, false, List, [], ◌∷◌, ◌++◌, Option, Some, None, fold, length, count_by}
 use Rattle.std.specs.declared.vec.Vec.{Vec}
 use Rattle.phase_laws.specs.Replay.{Replays}
+use Rattle.auction_rows.specs.{Book.{Book}, History.{commit_of}, Refusals.{refusal}, Replies.{next}}
+use Rattle.auction_rows.specs.Requests.{is_view}
 use Rattle.auction_rows.specs.declared.limits.TheConstants.{MOST_OF_A_WORKER, MOST_WORKERS}
 use Rattle.auction_rows.specs.declared.{values.Opening.Opening, requests.Opened.Opened, rows.Row.Row}
-use Rattle.auction_rows.specs.Book.{Book}
-use Rattle.auction_rows.specs.History.{commit_of}
-use Rattle.auction_rows.specs.Refusals.{refusal}
-use Rattle.auction_rows.specs.Replies.{next}
-use Rattle.auction_rows.specs.Requests.{is_view}
 use Rattle.item_shards.specs.Counting.{worker_of}
 
 -- the book after a request that is handed in

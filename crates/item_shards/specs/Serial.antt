@@ -1,13 +1,11 @@
 -- The auction of one thread: what it holds, and which rows it can store.
 use Rattle.std.specs.Prelude.{ℕ, ◌≡◌, ◌<◌, ◌≤◌, ◌+◌, List, [], ◌∷◌, ◌++◌, Some, slice_get, length, take, All}
+use Rattle.auction_rows.specs.{Book.{Book}, History.{GoOn, IsBook}}
 use Rattle.auction_rows.specs.declared.limits.TheConstants.{MOST_ROWS, MOST_WORKERS}
 use Rattle.auction_rows.specs.declared.{values.Opening.Opening, rows.Row.Row}
-use Rattle.auction_rows.specs.Book.{Book}
-use Rattle.auction_rows.specs.History.{GoOn, IsBook}
-use Rattle.item_shards.specs.declared.serial.SerialAuction.{SerialAuction}
-use Rattle.item_shards.specs.Counting.{stored_by, worker_of}
-use Rattle.item_shards.specs.Limits.{IsWithinLimits}
+use Rattle.item_shards.specs.{Counting.{stored_by, worker_of}, Limits.{IsWithinLimits}}
 use Rattle.item_shards.specs.ShardContents.{opening, ShardStandsFor}
+use Rattle.item_shards.specs.declared.serial.SerialAuction.{SerialAuction}
 
 -- the users and categories of the auction
 abbrev pub serial_opening : SerialAuction → Opening

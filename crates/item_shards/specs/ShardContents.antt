@@ -1,19 +1,15 @@
 -- A shard by its contents.
 use Rattle.std.specs.Prelude.{ℕ, ◌≡◌, ◌==◌, ◌/◌, if◌then◌else◌, Bool, false, ◌||◌, List, [], slice_get, Option, is_some, IsTrue, MatchOption}
 use Rattle.indexmap.specs.IndexMap.{IndexMap, get}
-use Rattle.auction_rows.specs.declared.{values.Opening.Opening, requests.ItemId.ItemId, requests.Object.Object}
+use Rattle.auction_rows.specs.{Book.{Book, same_item}, Footprint.{is_hot}, Requests.{shard_of}}
 use Rattle.auction_rows.specs.declared.requests.Object.TheVariants.{Item, User, Category}
-use Rattle.auction_rows.specs.Book.{Book, same_item}
-use Rattle.auction_rows.specs.Footprint.{is_hot}
-use Rattle.auction_rows.specs.Requests.{shard_of}
-use Rattle.item_shards.specs.declared.shard.Shard.{Shard}
-use Rattle.item_shards.specs.declared.shard.slices.UserSlice.{UserSlice}
-use Rattle.item_shards.specs.declared.shard.slices.CategorySlice.{CategorySlice}
-use Rattle.item_shards.specs.declared.shard.records.ItemRecord.{ItemRecord}
-use Rattle.item_shards.specs.Values.{Value, blank}
-use Rattle.item_shards.specs.Records.{item_value, user_value, category_value}
+use Rattle.auction_rows.specs.declared.{values.Opening.Opening, requests.ItemId.ItemId, requests.Object.Object}
 use Rattle.item_shards.specs.Contents.{Contents, changed}
-use Rattle.item_shards.specs.Standing.{ContentsStandsFor}
+use Rattle.item_shards.specs.Records.{item_value, user_value, category_value}
+use Rattle.item_shards.specs.{Standing.{ContentsStandsFor}, Values.{Value, blank}}
+use Rattle.item_shards.specs.declared.shard.{Shard.{Shard}, records.ItemRecord.{ItemRecord}}
+use Rattle.item_shards.specs.declared.shard.slices.CategorySlice.{CategorySlice}
+use Rattle.item_shards.specs.declared.shard.slices.UserSlice.{UserSlice}
 
 -- what lies in one shard of several, blank elsewhere
 abbrev pub in_shard : ℕ → ℕ → Contents → Contents

@@ -1,10 +1,8 @@
 //! The rows that an auction is opened with.
 ghost use Rattle.std.specs.Prelude.{◌≡◌, ℕ, ◌<◌, ◌↔◌, [], ◌∷◌, ◌++◌, All, IsTrue, slice_index, IfSome, IfNone, OnSome, IfOk, OnOk, IsErrOf, IsOkUnless};
-ghost use Rattle.auction_rows.specs.History.{IsBook};
-ghost use Rattle.auction_rows.proofs.OneProof.{IsBook-prop};
+ghost use Rattle.auction_rows.{proofs.OneProof.{IsBook-prop}, specs.History.{IsBook}};
 ghost use Rattle.auction_rows.specs.declared.limits.TheConstants.{MOST_WORKERS};
-ghost use Rattle.item_shards.specs.Counting.{worker_of};
-ghost use Rattle.item_shards.specs.Limits.{IsWithinLimits};
+ghost use Rattle.item_shards.specs.{Counting.{worker_of}, Limits.{IsWithinLimits}};
 ghost use Rattle.item_shards.specs.OpeningRows.{asked_by, IsTooLong, AreFewOfEach, rows_in};
 
 use crate::serial::SerialAuction;
@@ -61,9 +59,9 @@ pub struct OpeningBook {
 }
 
 impl OpeningBook {
-    ghost use Rattle.item_shards.specs.declared.openings.ResumeFault.TheVariants.{TooLong, BadRow, Memory};
-    ghost use Rattle.item_shards.specs.OpeningRows.{opening_rows, AreRows, IsFirstBad};
     ghost use Rattle.item_shards.specs.OpeningBooks.{opening_of, rows_of_book};
+    ghost use Rattle.item_shards.specs.OpeningRows.{opening_rows, AreRows, IsFirstBad};
+    ghost use Rattle.item_shards.specs.declared.openings.ResumeFault.TheVariants.{TooLong, BadRow, Memory};
 
     /// No rows. It takes no memory.
     pub fn empty(opening: Opening) -> OpeningBook
@@ -159,8 +157,8 @@ fn is_too_long(rows: &[Opened]) -> bool
 
 impl SerialAuction {
     ghost use Rattle.auction_rows.specs.Book.{Book};
-    ghost use Rattle.item_shards.specs.Serial.{HoldsBook, IsNotFull, CanGrow, serial_opening};
     ghost use Rattle.item_shards.specs.OpeningRows.{with_opened, IsRow};
+    ghost use Rattle.item_shards.specs.Serial.{HoldsBook, IsNotFull, CanGrow, serial_opening};
     ghost use Rattle.item_shards.specs.OpeningBooks as opened;
 
     /// The auction that holds a book. It costs in proportion to the rows, the users and the

@@ -1,10 +1,8 @@
 //! The auction of one thread: every object in one shard.
 ghost use Rattle.std.specs.Prelude.{◌≡◌, ◌+◌, ◌<◌, ◌++◌, ◌∷◌, [], false, IfOk, OnOk, OnErr, IfSome, IfNone, All, slice_get};
-ghost use Rattle.auction_rows.specs.Requests.{is_view};
-ghost use Rattle.auction_rows.specs.StoreReplies.{reply_of};
+ghost use Rattle.auction_rows.specs.{Requests.{is_view}, StoreReplies.{reply_of}};
 ghost use Rattle.auction_rows.specs.declared.requests.Object.{Object as Thing};
-ghost use Rattle.item_shards.specs.Answering.{bid_request};
-ghost use Rattle.item_shards.specs.ShardContents.{LiesIn};
+ghost use Rattle.item_shards.specs.{Answering.{bid_request}, ShardContents.{LiesIn}};
 
 use crate::shard::Shard;
 use crate::shard::items::refusal_with;
@@ -50,12 +48,9 @@ impl StoreCounts {
 }
 
 impl SerialAuction {
-    ghost use Rattle.auction_rows.specs.Book.{Book};
-    ghost use Rattle.auction_rows.specs.Refusals.{refusal};
+    ghost use Rattle.auction_rows.specs.{Book.{Book}, History.{IsBook}, Refusals.{refusal}};
     ghost use Rattle.auction_rows.specs.Replies.{reply, next};
-    ghost use Rattle.auction_rows.specs.History.{IsBook};
-    ghost use Rattle.item_shards.specs.Counting.{worker_of};
-    ghost use Rattle.item_shards.specs.Limits.{IsWithinLimits};
+    ghost use Rattle.item_shards.specs.{Counting.{worker_of}, Limits.{IsWithinLimits}};
     ghost use Rattle.item_shards.specs.Serial.{HoldsBook, IsNotFull, CanGrow, CanStore, CanFollow, CanAdd, HoldsFirst, serial_opening};
 
     /// An auction in which nothing is stored. It errs if the shard can't be made for want of

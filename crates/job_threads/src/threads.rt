@@ -1,8 +1,7 @@
 //! Jobs done side by side by threads.
-ghost use Rattle.std.specs.Prelude.{◌≡◌, ◌≤◌, ◌+◌, ◌++◌, List, length, map, vec_len, vec_capacity, IfOk, IfErr};
 ghost use Rattle.std.specs.List.{AllByRecursion, AllZip};
-ghost use Rattle.job_threads.specs.Threads.{IsUnstarted};
-ghost use Rattle.job_threads.specs.inner.Handles.{job_of};
+ghost use Rattle.std.specs.Prelude.{◌≡◌, ◌≤◌, ◌+◌, ◌++◌, List, length, map, vec_len, vec_capacity, IfOk, IfErr};
+ghost use Rattle.job_threads.specs.{Threads.{IsUnstarted}, inner.Handles.{job_of}};
 
 use crate::fault::JobFault;
 use std::alloc::Global;

@@ -1,7 +1,6 @@
 -- What a buffer of lines holds, and has left.
 use Rattle.std.proofs.Common.{arith, ◌≡◌, ◌≤◌, ◌+◌, ◌-◌, ◌++◌, ◌∙◌, [], ℕ, List, Option, Some, None, drop, length, take, refl, sym, ap, ap₂}
-use Rattle.std.proofs.lemmas.Grind.{common_steps}
-use Rattle.std.proofs.lemmas.List.{append-nil, drop-drop, drop-take}
+use Rattle.std.proofs.lemmas.{Grind.{common_steps}, List.{append-nil, drop-drop, drop-take}}
 use Rattle.std.specs.Io.KnownBytes.{IsAtEnd, prepend_known}
 
 -- after so many bytes were taken

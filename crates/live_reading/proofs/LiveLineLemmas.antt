@@ -1,32 +1,25 @@
 -- The lines of a text, and what they say.
 use Rattle.std.proofs.Common.{arith, ◌≡◌, ◌==◌, ◌&&◌, ◌<◌, ◌≤◌, ◌+◌, ◌-◌, ◌∷◌, ◌++◌, ◌∙◌, not, [], ℕ, zero, suc, Bool, List, Option, Some, None, Result, Ok, Err, IfOk, true, false, drop, get_or, length, take, refl, sym, ap, subst, append_assoc, eqb-true}
-use Rattle.std.specs.Fmt.{option_append}
-use Rattle.std.specs.List.{prefix_len}
-use Rattle.std.specs.Option.{option_map}
-use Rattle.std.proofs.lemmas.Bool.{and_parts, not-true}
-use Rattle.std.proofs.lemmas.Bool.Decides.{nat_tests}
-use Rattle.std.proofs.lemmas.List.{append-nil, drop-take, drop_all, length-append, length-drop, length-take-le}
 use Rattle.std.proofs.Math.Seq.{get_or-append_seam, take-append_seam}
+use Rattle.std.proofs.lemmas.Bool.{Decides.{nat_tests}, and_parts, not-true}
+use Rattle.std.proofs.lemmas.List.{append-nil, drop-take, drop_all, length-append, length-drop, length-take-le}
+use Rattle.std.specs.{Fmt.{option_append}, List.{prefix_len}, Option.{option_map}}
 use Rattle.csv.specs.Machine.{next_record}
 use Rattle.csv.specs.Reading.{ReadRecord, default_config, records, records_from, source_of, strip_bom}
-use Rattle.csv.specs.declared.parser.State.TheVariants as st
 use Rattle.csv.specs.declared.reader.Reader.{Reader}
-use Rattle.record_reading.specs.declared.inputs.Cause.TheVariants as cause
-use Rattle.record_reading.specs.declared.inputs.ReadFault.{ReadFault}
-use Rattle.record_reading.specs.declared.inputs.ReadFault.TheVariants as fault
-use Rattle.live_reading.specs.declared.live_lines.Said.{Said}
-use Rattle.live_reading.specs.declared.live_lines.Said.TheVariants as says
-use Rattle.record_reading.specs.declared.buffers.TheConstants.{ROOM_TO_READ}
-use Rattle.record_reading.specs.declared.record.Record.{Record}
-use Rattle.record_reading.specs.Lines.{EndsLine, IsLine, IsWhole, has_no_feed}
-use Rattle.live_reading.specs.LiveLines.{faulty_line, first_worker, in_front, is_long, line_says, lines_of, one_says, records_say}
-use Rattle.record_reading.specs.Records.{read_record, worker_of}
-use Rattle.live_reading.specs.inner.Lines.{HasLeft, IsOneOf}
-use Rattle.record_reading.specs.Reading.{IsPlain}
-use Rattle.record_reading.specs.RecordsLeft.{Left}
+use Rattle.csv.specs.declared.parser.State.TheVariants as st
 use Rattle.record_reading.proofs.LineLemmas.{feed_no_bom, none_in_none, records_after_feed}
 use Rattle.record_reading.proofs.RecordsLeft.{left_all, read_end, read_more}
 use Rattle.record_reading.proofs.WholeLineLemmas.{not_so}
+use Rattle.record_reading.specs.{Lines.{EndsLine, IsLine, IsWhole, has_no_feed}, Reading.{IsPlain}}
+use Rattle.record_reading.specs.{Records.{read_record, worker_of}, RecordsLeft.{Left}}
+use Rattle.record_reading.specs.declared.buffers.TheConstants.{ROOM_TO_READ}
+use Rattle.record_reading.specs.declared.{inputs.ReadFault.{ReadFault}, record.Record.{Record}}
+use Rattle.record_reading.specs.declared.inputs.Cause.TheVariants as cause
+use Rattle.record_reading.specs.declared.inputs.ReadFault.TheVariants as fault
+use Rattle.live_reading.specs.LiveLines.{faulty_line, first_worker, in_front, is_long, line_says, lines_of, one_says, records_say}
+use Rattle.live_reading.specs.{declared.live_lines.Said.{Said}, inner.Lines.{HasLeft, IsOneOf}}
+use Rattle.live_reading.specs.declared.live_lines.Said.TheVariants as says
 
 -- the first line of a text is what is in front of its first line feed, and that
 pub first_whole : (x rest : List ℕ) → has_no_feed x ≡ true → lines_of (x ++ (10 ∷ rest)) ≡ (x ++ (10 ∷ [])) ∷ lines_of rest

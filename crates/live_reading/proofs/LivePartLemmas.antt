@@ -1,27 +1,22 @@
 -- A part of an input that is read line by line, from what was taken for it.
 use Rattle.std.proofs.Common.{arith, ◌≡◌, ◌≤◌, ◌+◌, ◌∷◌, ◌∙◌, [], ℕ, Bool, List, Option, None, Some, Result, Ok, Err, true, false, length, vec_len, refl, sym, ap, subst, inl, inr}
-use Rattle.std.proofs.lemmas.Bool.{cases_Bool}
-use Rattle.std.proofs.lemmas.List.{append-nil}
+use Rattle.std.proofs.lemmas.{Bool.{cases_Bool}, List.{append-nil}}
 use Rattle.csv.specs.Reading.{default_config, records}
 use Rattle.auction_rows.specs.declared.requests.Opened.{Opened}
-use Rattle.record_reading.specs.declared.inputs.ReadFault.{ReadFault}
-use Rattle.live_reading.specs.declared.line_buffer.LineBuffer.{LineBuffer}
-use Rattle.live_reading.specs.declared.line_taking.LineStop.{LineStop}
-use Rattle.live_reading.specs.declared.line_taking.LineStop.TheVariants as stop
-use Rattle.live_reading.specs.declared.live_lines.Said.{Said}
-use Rattle.live_reading.specs.declared.live_lines.Said.TheVariants as says
-use Rattle.live_reading.specs.declared.live_parts.LivePart.{LivePart}
-use Rattle.live_reading.specs.declared.part_records.Taken.{Taken}
-use Rattle.record_reading.specs.declared.record.Record.{Record}
+use Rattle.record_reading.proofs.{AskingLemmas.{ask_is, ask_none}, LateRows.{request_after}}
+use Rattle.record_reading.specs.Asking.{AskFor, asked_of, nothing_asked, requests_in, rows}
+use Rattle.record_reading.specs.Records.{read_record, worker_of}
+use Rattle.record_reading.specs.declared.{inputs.ReadFault.{ReadFault}, record.Record.{Record}}
 use Rattle.live_reading.specs.LineBuffers.{lines_left}
 use Rattle.live_reading.specs.LiveLines.{begun_after, is_long, line_says, lines_of, lines_say, one_says, records_say, then_say}
-use Rattle.record_reading.specs.Records.{read_record, worker_of}
 use Rattle.live_reading.specs.LiveParts.{GoesOnWith, IsLivePart, KeepsLiveWorkers, MayEndEarly, row_said, rows_said}
 use Rattle.live_reading.specs.LiveReading.{records_said}
+use Rattle.live_reading.specs.declared.line_buffer.LineBuffer.{LineBuffer}
+use Rattle.live_reading.specs.declared.{line_taking.LineStop.{LineStop}, live_lines.Said.{Said}}
+use Rattle.live_reading.specs.declared.{live_parts.LivePart.{LivePart}, part_records.Taken.{Taken}}
 use Rattle.live_reading.specs.inner.Taking.{MayEnd, StopsAt, end_at, left_after, yet_said}
-use Rattle.record_reading.specs.Asking.{AskFor, asked_of, nothing_asked, requests_in, rows}
-use Rattle.record_reading.proofs.LateRows.{request_after}
-use Rattle.record_reading.proofs.AskingLemmas.{ask_is, ask_none}
+use Rattle.live_reading.specs.declared.line_taking.LineStop.TheVariants as stop
+use Rattle.live_reading.specs.declared.live_lines.Said.TheVariants as says
 
 -- what is said of one record that is no row
 no_row_in_one : (worker : Option ℕ) (r : Result Record ReadFault) (one : Said) → ((said : Record) → r ≡ Ok said → said.is_row ≡ false) → Some (one_says worker r) ≡ Some one → row_said one ≡ None

@@ -3,31 +3,28 @@ use Rattle.std.proofs.Common.{arith, ◌≡◌, ◌<◌, ◌≤◌, ◌+◌, ◌
 use Rattle.std.proofs.lemmas.List.{drop-append-le, drop-drop, length-append, length-drop, length-take-le, map-append}
 use Rattle.std.specs.Io.KnownBytes.{IsAtEnd, prepend_known}
 use Rattle.csv.specs.Reading.{default_config, records}
-use Rattle.record_reading.specs.declared.inputs.Cause.TheVariants as cause
+use Rattle.record_reading.proofs.{AskingLemmas.{ask_more}, WholeLineLemmas.{no_feed_both}}
+use Rattle.record_reading.specs.Asking.{AskFor, Asked, asked_of, with_record}
+use Rattle.record_reading.specs.Lines.{IsWhole, has_no_feed}
+use Rattle.record_reading.specs.declared.buffers.TheConstants.{ROOM_TO_READ}
 use Rattle.record_reading.specs.declared.inputs.CompactInput.{CompactInput}
+use Rattle.record_reading.specs.declared.record.Record.{Record}
+use Rattle.record_reading.specs.declared.inputs.Cause.TheVariants as cause
 use Rattle.record_reading.specs.declared.inputs.ReadFault.TheVariants as fault
+use Rattle.live_reading.proofs.LineBufferLemmas.{all_held, known_behind}
+use Rattle.live_reading.proofs.LiveLineLemmas.{begun_is_long, first_whole, last_is_long, last_line, nothing_says, short_says}
+use Rattle.live_reading.{proofs.TakingLemmas.{requests_more}, specs.LineBuffers.{held, lines_left}}
+use Rattle.live_reading.specs.LiveLines.{begun_after, faulty_line, first_worker, is_long, line_says, lines_of, lines_say, records_say, then_say}
+use Rattle.live_reading.specs.LiveReading.{records_said}
 use Rattle.live_reading.specs.declared.line_buffer.LineBuffer.{LineBuffer}
 use Rattle.live_reading.specs.declared.line_skipping.Front.TheVariants.{Line}
 use Rattle.live_reading.specs.declared.line_taking.LineStop.{LineStop}
-use Rattle.live_reading.specs.declared.line_taking.LineStop.TheVariants as stop
-use Rattle.live_reading.specs.declared.live_lines.LineFault.{LineFault}
-use Rattle.live_reading.specs.declared.live_lines.Said.{Said}
-use Rattle.live_reading.specs.declared.live_lines.Said.TheVariants as says
+use Rattle.live_reading.specs.declared.live_lines.{LineFault.{LineFault}, Said.{Said}}
 use Rattle.live_reading.specs.declared.part_records.Taken.{Taken}
-use Rattle.record_reading.specs.declared.buffers.TheConstants.{ROOM_TO_READ}
-use Rattle.record_reading.specs.declared.record.Record.{Record}
-use Rattle.live_reading.specs.LineBuffers.{held, lines_left}
-use Rattle.record_reading.specs.Lines.{IsWhole, has_no_feed}
-use Rattle.live_reading.specs.LiveLines.{begun_after, faulty_line, first_worker, is_long, line_says, lines_of, lines_say, records_say, then_say}
-use Rattle.live_reading.specs.LiveReading.{records_said}
 use Rattle.live_reading.specs.inner.Lines.{HasFirstLine, HasPassed, underneath}
 use Rattle.live_reading.specs.inner.Taking.{AreForOnePart, HasCounted, HasTaken, IsFront, StopsAt, TakesFrom, TakesSaid, TakesText, next_says, stop_at, yet_said}
-use Rattle.record_reading.specs.Asking.{AskFor, Asked, asked_of, with_record}
-use Rattle.live_reading.proofs.LineBufferLemmas.{all_held, known_behind}
-use Rattle.live_reading.proofs.LiveLineLemmas.{begun_is_long, first_whole, last_is_long, last_line, nothing_says, short_says}
-use Rattle.record_reading.proofs.WholeLineLemmas.{no_feed_both}
-use Rattle.record_reading.proofs.AskingLemmas.{ask_more}
-use Rattle.live_reading.proofs.TakingLemmas.{requests_more}
+use Rattle.live_reading.specs.declared.line_taking.LineStop.TheVariants as stop
+use Rattle.live_reading.specs.declared.live_lines.Said.TheVariants as says
 
 -- for one part
 pub one_part : (taken : Taken) → AreForOnePart taken taken

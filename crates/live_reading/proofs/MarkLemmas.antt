@@ -1,7 +1,6 @@
 -- The byte order mark that a text may begin with.
 use Rattle.std.proofs.Common.{arith, ◌≡◌, ◌≢◌, ◌==◌, ◌&&◌, ◌<◌, ◌∷◌, ◌++◌, [], ℕ, List, drop, get_or, length, refl, eq-eqb}
-use Rattle.std.proofs.Math.Bool.{and-false}
-use Rattle.std.proofs.lemmas.Bool.{ne_eqb}
+use Rattle.std.proofs.{Math.Bool.{and-false}, lemmas.Bool.{ne_eqb}}
 use Rattle.csv.specs.Reading.{strip_bom}
 
 -- a text whose first, second or third byte is not the mark's has none

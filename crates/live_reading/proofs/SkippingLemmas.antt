@@ -1,15 +1,13 @@
 -- What is passed over at the front of an input.
 use Rattle.std.proofs.Common.{arith, ◌≡◌, ◌++◌, ◌∷◌, ◌∙◌, ◌⊎◌, [], ℕ, Bool, List, Option, Some, true, false, drop, length, take, refl, sym, ap, ap₂, subst, append_assoc, take-append-drop, inl, inr}
-use Rattle.std.proofs.lemmas.List.{drop_all}
-use Rattle.std.specs.Io.KnownBytes.{IsAtEnd, prepend_known}
-use Rattle.record_reading.specs.Lines.{IsWhole, has_no_feed}
-use Rattle.live_reading.specs.LineBuffers.{held, lines_left}
-use Rattle.live_reading.specs.inner.Lines.{HasPassed, IsPast, Passes, underneath}
-use Rattle.live_reading.specs.declared.line_buffer.LineBuffer.{LineBuffer}
-use Rattle.live_reading.specs.declared.line_skipping.Front.{Front}
-use Rattle.live_reading.specs.declared.line_skipping.Front.TheVariants.{Line}
-use Rattle.live_reading.proofs.LineBufferLemmas.{all_held, known_behind}
+use Rattle.std.{proofs.lemmas.List.{drop_all}, specs.Io.KnownBytes.{IsAtEnd, prepend_known}}
 use Rattle.record_reading.proofs.WholeLineLemmas.{no_feed_both}
+use Rattle.record_reading.specs.Lines.{IsWhole, has_no_feed}
+use Rattle.live_reading.proofs.LineBufferLemmas.{all_held, known_behind}
+use Rattle.live_reading.specs.LineBuffers.{held, lines_left}
+use Rattle.live_reading.specs.declared.line_buffer.LineBuffer.{LineBuffer}
+use Rattle.live_reading.specs.declared.line_skipping.Front.{TheVariants.{Line}, Front}
+use Rattle.live_reading.specs.inner.Lines.{HasPassed, IsPast, Passes, underneath}
 
 -- a line that ends in a text is passed over
 pub line_ends : (text : List ℕ) (len : ℕ) → IsWhole (take len text) → Passes Line text (drop len text) true

@@ -1,10 +1,8 @@
 -- What is taken of an input, record by record.
 use Rattle.std.proofs.Common.{arith, ◌≡◌, ◌<◌, ◌≤◌, ◌||◌, ◌+◌, ◌∷◌, ◌++◌, [], not, ℕ, Bool, List, length, true, false, refl, if◌then◌else◌, inl, inr}
-use Rattle.std.proofs.lemmas.Bool.{cases_Bool}
-use Rattle.std.proofs.lemmas.List.{length-append}
-use Rattle.std.proofs.lemmas.List.Sums.{sum_by-append}
-use Rattle.record_reading.specs.declared.record.Record.{Record}
+use Rattle.std.proofs.lemmas.{Bool.{cases_Bool}, List.{Sums.{sum_by-append}, length-append}}
 use Rattle.record_reading.specs.Asking.{Asked, requests_in, with_record}
+use Rattle.record_reading.specs.declared.record.Record.{Record}
 
 pub requests_more : (said : List Record) (first : Record) → requests_in (said ++ (first ∷ [])) ≡ requests_in said + (if first.is_row then 0 else 1)
 requests_more said first = elim (cases_Bool first.is_row) [

@@ -1,6 +1,5 @@
 -- What a buffer of lines has left.
-use Rattle.std.specs.Prelude.{ℕ, ◌-◌, List, Option, drop, take}
-use Rattle.std.specs.Io.KnownBytes.{prepend_known}
+use Rattle.std.specs.{Io.KnownBytes.{prepend_known}, Prelude.{ℕ, ◌-◌, List, Option, drop, take}}
 use Rattle.live_reading.specs.declared.line_buffer.LineBuffer.{LineBuffer}
 
 -- what was read and not taken yet

@@ -1,16 +1,14 @@
 -- What an input says line by line, if each line is a text of its own.
-use Rattle.std.specs.Prelude.{ℕ, ◌==◌, ◌+◌, ◌||◌, not, Bool, false, List, [], ◌∷◌, nat_le, take, Option, Some, None, Result, Ok, Err, if◌then◌else◌}
 use Rattle.std.specs.List.{prefix_len}
+use Rattle.std.specs.Prelude.{ℕ, ◌==◌, ◌+◌, ◌||◌, not, Bool, false, List, [], ◌∷◌, nat_le, take, Option, Some, None, Result, Ok, Err, if◌then◌else◌}
 use Rattle.csv.specs.Reading.{default_config, records, strip_bom}
-use Rattle.record_reading.specs.Lines.{line_feed}
-use Rattle.record_reading.specs.Records.{read_record, worker_of}
+use Rattle.record_reading.specs.{Lines.{line_feed}, Records.{read_record, worker_of}}
+use Rattle.record_reading.specs.declared.buffers.TheConstants.{ROOM_TO_READ}
+use Rattle.record_reading.specs.declared.{inputs.ReadFault.{ReadFault}, record.Record.{Record}}
 use Rattle.record_reading.specs.declared.inputs.Cause.TheVariants as cause
-use Rattle.record_reading.specs.declared.inputs.ReadFault.{ReadFault}
 use Rattle.record_reading.specs.declared.inputs.ReadFault.TheVariants as fault
 use Rattle.live_reading.specs.declared.live_lines.Said.{Said}
 use Rattle.live_reading.specs.declared.live_lines.Said.TheVariants as says
-use Rattle.record_reading.specs.declared.buffers.TheConstants.{ROOM_TO_READ}
-use Rattle.record_reading.specs.declared.record.Record.{Record}
 
 -- the lines of a text that begins with this byte, if these are the lines behind it
 abbrev pub in_front : ℕ → List (List ℕ) → List (List ℕ)

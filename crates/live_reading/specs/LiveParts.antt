@@ -1,20 +1,16 @@
 -- The parts of an input that is read line by line.
-use Rattle.std.specs.Prelude.{ℕ, ◌≡◌, ◌≤◌, ◌+◌, ◌++◌, ◌⊎◌, List, [], ◌∷◌, length, Option, None, Some, if◌then◌else◌}
 use Rattle.std.specs.List.{filter_map}
+use Rattle.std.specs.Prelude.{ℕ, ◌≡◌, ◌≤◌, ◌+◌, ◌++◌, ◌⊎◌, List, [], ◌∷◌, length, Option, None, Some, if◌then◌else◌}
 use Rattle.csv.specs.Reading.{strip_bom}
 use Rattle.auction_rows.specs.declared.requests.Opened.{Opened}
-use Rattle.record_reading.specs.declared.inputs.TheConstants.{MOST_ROWS_OF_A_PART}
-use Rattle.live_reading.specs.declared.live_lines.Said.{Said}
-use Rattle.live_reading.specs.declared.live_lines.Said.TheVariants as says
-use Rattle.live_reading.specs.declared.live_parts.LiveEnd.{LiveEnd}
-use Rattle.live_reading.specs.declared.live_parts.LiveEnd.TheVariants.{More, Fault, All}
-use Rattle.live_reading.specs.declared.live_parts.LiveInput.{LiveInput}
-use Rattle.live_reading.specs.declared.live_parts.LivePart.{LivePart}
-use Rattle.record_reading.specs.declared.record.Record.{Record}
-use Rattle.live_reading.specs.LineBuffers.{lines_left}
-use Rattle.live_reading.specs.LiveLines.{lines_of, lines_say}
-use Rattle.live_reading.specs.LiveReading.{records_said}
 use Rattle.record_reading.specs.Asking.{asked_of, asked_in, requests_in, row_in, rows}
+use Rattle.record_reading.specs.declared.inputs.TheConstants.{MOST_ROWS_OF_A_PART}
+use Rattle.record_reading.specs.declared.record.Record.{Record}
+use Rattle.live_reading.specs.{LineBuffers.{lines_left}, LiveLines.{lines_of, lines_say}}
+use Rattle.live_reading.specs.{LiveReading.{records_said}, declared.live_lines.Said.{Said}}
+use Rattle.live_reading.specs.declared.live_parts.LiveEnd.{TheVariants.{More, Fault, All}, LiveEnd}
+use Rattle.live_reading.specs.declared.live_parts.{LiveInput.{LiveInput}, LivePart.{LivePart}}
+use Rattle.live_reading.specs.declared.live_lines.Said.TheVariants as says
 
 -- An input has yet to say all this.
 pub record HasToSay {R : Type 0} (remaining : R → Option (List ℕ)) (left : LiveInput R)

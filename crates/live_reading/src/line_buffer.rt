@@ -20,8 +20,7 @@ pub struct LineBuffer<R> {
 }
 
 impl<R> LineBuffer<R> {
-    ghost use Rattle.live_reading.specs.LineBuffers.{held};
-    ghost use Rattle.live_reading.specs.inner.Lines.{underneath};
+    ghost use Rattle.live_reading.specs.{LineBuffers.{held}, inner.Lines.{underneath}};
 
     /// What was read and not taken yet.
     pub(crate) fn held(&self) -> &[u8]
@@ -84,8 +83,7 @@ impl<R: Read + Drop> LineBuffer<R> {
 
 impl<R: Read> LineBuffer<R> {
     ghost use Rattle.std.specs.Io.KnownBytes.{IsAtEnd};
-    ghost use Rattle.live_reading.specs.LineBuffers.{held, lines_left};
-    ghost use Rattle.live_reading.specs.inner.Lines.{underneath};
+    ghost use Rattle.live_reading.specs.{LineBuffers.{held, lines_left}, inner.Lines.{underneath}};
 
     /// Reads more, and returns whether there was any, and room for it.
     pub(crate) fn read_on(&mut self) -> Result<bool, ReadFault>

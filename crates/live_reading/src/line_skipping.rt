@@ -2,8 +2,7 @@
 ghost use Rattle.std.specs.Prelude.{ℕ, ◌≡◌, ◌<◌, ◌≤◌, ◌++◌, drop, length, IfNone, IfSome, List, OnOk, Some};
 ghost use Rattle.csv.specs.Reading.{strip_bom};
 ghost use Rattle.record_reading.specs.Reading.{HasNoInputFault};
-ghost use Rattle.live_reading.specs.LineBuffers.{lines_left};
-ghost use Rattle.live_reading.specs.inner.Lines.{HasPassed, Passes};
+ghost use Rattle.live_reading.specs.{LineBuffers.{lines_left}, inner.Lines.{HasPassed, Passes}};
 
 use crate::line_buffer::LineBuffer;
 use crate::live_lines::line_len;

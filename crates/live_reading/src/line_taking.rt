@@ -1,14 +1,13 @@
 //! The lines of an input that are taken for a part of it, each a text of its own.
-ghost use Rattle.std.specs.Prelude.{◌≡◌, ◌<◌, ◌≤◌, drop, length, IfNone, IfOk, IsTrue, OnOk, true, false};
 ghost use Rattle.std.specs.Io.KnownBytes.{IsAtEnd};
+ghost use Rattle.std.specs.Prelude.{◌≡◌, ◌<◌, ◌≤◌, drop, length, IfNone, IfOk, IsTrue, OnOk, true, false};
 ghost use Rattle.record_reading.specs.Lines.{EndsLine, IsWhole, has_no_feed};
 ghost use Rattle.record_reading.specs.Reading.{HasNoInputFault};
 ghost use Rattle.record_reading.specs.declared.buffers.TheConstants.{ROOM_TO_READ};
-ghost use Rattle.live_reading.specs.LineBuffers.{held};
-ghost use Rattle.live_reading.specs.LiveLines.{is_long};
+ghost use Rattle.live_reading.specs.{LineBuffers.{held}, LiveLines.{is_long}};
+ghost use Rattle.live_reading.specs.declared.line_taking.LineStop.TheVariants.{Full};
 ghost use Rattle.live_reading.specs.inner.Lines.{underneath};
 ghost use Rattle.live_reading.specs.inner.Taking.{HasRoom, IsOpen, MayEnd, TakesFrom, TakesSaid, TakesText, next_says, stop_at};
-ghost use Rattle.live_reading.specs.declared.line_taking.LineStop.TheVariants.{Full};
 
 use crate::line_buffer::LineBuffer;
 use crate::line_skipping::{Front, skip};

@@ -1,14 +1,14 @@
 //! What one line says. It is a text of its own: whatever quotes are open at its end, the next line
 //! is no part of it. A quote that is open there takes the line feed into its field, which no field
 //! may have, so such a line has a fault.
-ghost use Rattle.std.specs.Prelude.{ℕ, ◌≡◌, ◌+◌, ◌<◌, ◌≤◌, List, Some, true, length, take, IfOk, IfSome, MatchOption};
 ghost use Rattle.std.specs.Io.Chain.{chain_remaining};
+ghost use Rattle.std.specs.Prelude.{ℕ, ◌≡◌, ◌+◌, ◌<◌, ◌≤◌, List, Some, true, length, take, IfOk, IfSome, MatchOption};
 ghost use Rattle.csv.specs.Reading.{default_config, records};
 ghost use Rattle.record_reading.specs.Lines.{IsLine, IsWhole, has_no_feed};
-ghost use Rattle.live_reading.specs.LiveLines.{first_worker, line_says, one_says, records_say};
-ghost use Rattle.live_reading.specs.inner.Lines.{HasLeft, IsOneOf};
 ghost use Rattle.record_reading.specs.Reading.{HasNoInputFault};
 ghost use Rattle.record_reading.specs.declared.buffers.TheConstants.{ROOM_TO_READ};
+ghost use Rattle.live_reading.specs.LiveLines.{first_worker, line_says, one_says, records_say};
+ghost use Rattle.live_reading.specs.inner.Lines.{HasLeft, IsOneOf};
 
 use csv::{ByteRecord, Reader, ReaderBuilder};
 use memchr::memchr;

@@ -2,12 +2,11 @@
 //! part, and not the input.
 ghost use Rattle.std.specs.Prelude.{ℕ, ◌≡◌, ◌≤◌, List, Some, vec_len, IfOk, IfSome, if◌then◌else◌};
 ghost use Rattle.csv.specs.Reading.{strip_bom};
-ghost use Rattle.live_reading.specs.LineBuffers.{lines_left};
-ghost use Rattle.live_reading.specs.LiveLines.{live_says};
+ghost use Rattle.live_reading.specs.{LineBuffers.{lines_left}, LiveLines.{live_says}};
 ghost use Rattle.live_reading.specs.LiveParts.{HasToSay, IsLivePart, KeepsLiveWorkers, live_workers};
 ghost use Rattle.live_reading.specs.inner.Taking.{end_at, left_after};
-ghost use Rattle.record_reading.specs.Reading.{HasNoInputFault};
 ghost use Rattle.live_reading.specs.declared.live_lines.Said.{Said as Says};
+ghost use Rattle.record_reading.specs.Reading.{HasNoInputFault};
 
 use crate::line_buffer::LineBuffer;
 use crate::line_skipping::{Front, skip};

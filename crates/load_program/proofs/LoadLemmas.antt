@@ -1,18 +1,13 @@
 -- Loads that grow by chunks.
 use Rattle.std.proofs.Common.{◌≡◌, ℕ, ◌+◌, List, [], ◌++◌, ◌∷◌, Option, length, append-nil, sym, subst, ◌∙◌, ap, refl, arith}
-use Rattle.std.proofs.KnownBytes.{Appends-nil, Appends-trans}
-use Rattle.std.proofs.lemmas.Grind.{flat_map-append}
-use Rattle.std.proofs.lemmas.List.{length-append}
+use Rattle.std.proofs.{KnownBytes.{Appends-nil, Appends-trans}, lemmas.Grind.{flat_map-append}}
+use Rattle.std.{proofs.lemmas.List.{length-append}, specs.Io.KnownBytes.{Appends}}
+use Rattle.std.specs.List.{flat_map}
 use Rattle.auction_rows.specs.declared.rows.Row.{Row}
 use Rattle.auction_text.specs.RowLines.{row_line, rows_text}
-use Rattle.std.specs.Io.KnownBytes.{Appends}
-use Rattle.std.specs.List.{flat_map}
-use Rattle.load_program.specs.declared.load.ScriptLine.{ScriptLine}
-use Rattle.load_program.specs.declared.plan.Counts.{Counts}
-use Rattle.load_program.specs.declared.plan.Plan.{Plan}
-use Rattle.load_program.specs.Lines.{line_text}
-use Rattle.load_program.specs.Loads.{EachFrom, WritesLines, WritesRows}
-use Rattle.load_program.specs.Stored.{IsLineAt, IsRowAt}
+use Rattle.load_program.specs.{Lines.{line_text}, Loads.{EachFrom, WritesLines, WritesRows}}
+use Rattle.load_program.specs.{Stored.{IsLineAt, IsRowAt}, declared.load.ScriptLine.{ScriptLine}}
+use Rattle.load_program.specs.declared.plan.{Counts.{Counts}, Plan.{Plan}}
 
 module _ {A : Type 0} (Holds : ℕ → A → Type 0) where
   -- two lists, one after the other

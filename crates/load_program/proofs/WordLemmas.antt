@@ -1,7 +1,6 @@
 -- The program's options are simple ones.
 use Rattle.std.proofs.Common.{◌≡◌, ◌∙◌, true, refl, ap}
-use Rattle.clap.specs.Faults.{is_simple_and_free}
-use Rattle.clap.specs.Simple.{App}
+use Rattle.clap.specs.{Faults.{is_simple_and_free}, Simple.{App}}
 use Rattle.load_program.specs.Words.{program}
 
 free : is_simple_and_free program ≡ true

@@ -1,14 +1,11 @@
 -- What a load is.
+use Rattle.std.specs.{Io.KnownBytes.{Appends}, List.{flat_map}}
 use Rattle.std.specs.Prelude.{◌≡◌, ℕ, ◌+◌, List, [], ◌∷◌, Option, length, ⊤}
-use Rattle.std.specs.Io.KnownBytes.{Appends}
-use Rattle.std.specs.List.{flat_map}
 use Rattle.auction_rows.specs.declared.rows.Row.{Row}
 use Rattle.auction_text.specs.RowLines.{rows_text}
-use Rattle.load_program.specs.declared.load.ScriptLine.{ScriptLine}
-use Rattle.load_program.specs.declared.plan.Counts.{Counts}
+use Rattle.load_program.specs.{Lines.{line_text}, Stored.{IsLineAt, IsRowAt}}
+use Rattle.load_program.specs.declared.{load.ScriptLine.{ScriptLine}, plan.Counts.{Counts}}
 use Rattle.load_program.specs.declared.plan.Plan.{Plan}
-use Rattle.load_program.specs.Lines.{line_text}
-use Rattle.load_program.specs.Stored.{IsLineAt, IsRowAt}
 
 -- this holds of each one and its place, where the first one's place is given
 abbrev pub EachFrom : {A : Type 0} → (ℕ → A → Type 0) → ℕ → List A → Type 0

@@ -1,13 +1,11 @@
 -- What rows and requests name.
 use Rattle.std.specs.Prelude.{ℕ, ◌≡◌, ◌<◌, ◌+◌, ◌%◌, ◌/◌, All, IfSome}
-use Rattle.auction_rows.specs.declared.{requests.ItemId.ItemId, requests.Request.Request, rows.ItemRow.ItemRow, rows.Row.Row}
+use Rattle.auction_rows.specs.Requests.{users_of, categories_of, item_of}
 use Rattle.auction_rows.specs.declared.requests.Request.TheVariants.{StoreItem, StoreBid, StoreComment, BuyNow, ViewItem, ViewBids, ViewCategory, ViewUser}
 use Rattle.auction_rows.specs.declared.rows.Row.TheVariants.{Item, Bid, Comment, Buy}
-use Rattle.auction_rows.specs.Requests.{users_of, categories_of, item_of}
-use Rattle.load_program.specs.declared.load.ScriptLine.{ScriptLine}
-use Rattle.load_program.specs.declared.plan.Counts.{Counts}
-use Rattle.load_program.specs.declared.plan.Mix.{Mix}
-use Rattle.load_program.specs.declared.plan.Plan.{Plan}
+use Rattle.auction_rows.specs.declared.{requests.ItemId.ItemId, requests.Request.Request, rows.ItemRow.ItemRow, rows.Row.Row}
+use Rattle.load_program.specs.declared.{load.ScriptLine.{ScriptLine}, plan.Counts.{Counts}}
+use Rattle.load_program.specs.declared.plan.{Mix.{Mix}, Plan.{Plan}}
 
 -- the id of the item at a place of the rows, which are dealt out to the workers in turn
 abbrev pub item_at : Counts → ℕ → ItemId

@@ -1,20 +1,17 @@
 -- What the program's words say of a plan, by the parser of words (`clap`).
-use Rattle.std.specs.Prelude.{◌≤◌, ◌<◌, ◌+◌, ℕ, List, [], ◌∷◌, Option, Some, fold, codes, ⊤}
 use Rattle.std.specs.Int.{div_ceil}
+use Rattle.std.specs.Prelude.{◌≤◌, ◌<◌, ◌+◌, ℕ, List, [], ◌∷◌, Option, Some, fold, codes, ⊤}
 use Rattle.auction_rows.specs.declared.limits.TheConstants.{MOST_OF_A_WORKER, MOST_WORKERS}
 use Rattle.auction_text.specs.InputLimits.{MOST_RECORDS}
+use Rattle.clap.specs.{Simple.{App, new_rule, with_rule}, Walk.{Rule}}
 use Rattle.clap.specs.declared.builder.action.ArgAction.TheVariants.{Set}
 use Rattle.clap.specs.declared.builder.value_parser.ValueParser.TheVariants.{Unsigned}
-use Rattle.clap.specs.Simple.{App, new_rule, with_rule}
-use Rattle.clap.specs.Walk.{Rule}
 use Rattle.program_options.specs.Options.{SaysNumber, named_rule, versioned_program}
 use Rattle.program_options.specs.declared.options.TheConstants.{MOST_ASKED}
 use Rattle.program_options.specs.declared.words.UsageFault.TheVariants as usage
-use Rattle.load_program.specs.declared.faults.PlanFault.{PlanFault}
+use Rattle.load_program.specs.declared.{faults.PlanFault.{PlanFault}, plan.Counts.{Counts}}
+use Rattle.load_program.specs.declared.plan.{Mix.{Mix}, Plan.{Plan}}
 use Rattle.load_program.specs.declared.faults.PlanFault.TheVariants as fault
-use Rattle.load_program.specs.declared.plan.Counts.{Counts}
-use Rattle.load_program.specs.declared.plan.Mix.{Mix}
-use Rattle.load_program.specs.declared.plan.Plan.{Plan}
 
 -- `--seed NUMBER`, with any number of 64 bits; 1 where the words don't have it
 abbrev pub plain_seed_rule : Rule

@@ -1,10 +1,9 @@
 //! The lines of requests, as the auction reads them, and the writing of a load, a chunk at a time.
+ghost use Rattle.std.specs.{Io.KnownBytes.{Appends}, List.{flat_map}};
 ghost use Rattle.std.specs.Prelude.{◌≡◌, ◌++◌, IfOk, OnOk, Err};
-ghost use Rattle.std.specs.List.{flat_map};
-ghost use Rattle.std.specs.Io.KnownBytes.{Appends};
 ghost use Rattle.load_program.specs.Lines.{bid_text, buy_text, comment_text, item_text, line_text, request_text};
-ghost use Rattle.load_program.specs.declared.faults.Fault.{Fault};
 ghost use Rattle.load_program.specs.Loads.{WritesLines, WritesLoad, WritesRows};
+ghost use Rattle.load_program.specs.declared.faults.Fault.{Fault};
 
 use crate::draws::Market;
 use crate::faults::Fault;

@@ -1,18 +1,14 @@
 -- The bytes of a log are the rows of the auction.
 use Rattle.std.proofs.Common.{arith, ◌≡◌, ◌++◌, ◌∷◌, ◌∙◌, [], ℕ, List, Option, Some, None, length, drop, fold, refl, sym, ap, ap₂, subst, append_assoc}
-use Rattle.std.proofs.lemmas.Grind.{common_steps, flat_map-append}
-use Rattle.std.proofs.lemmas.List.{append-nil}
-use Rattle.std.specs.List.{flat_map}
-use Rattle.std.specs.Io.KnownBytes.{Appends}
+use Rattle.std.proofs.lemmas.{Grind.{common_steps, flat_map-append}, List.{append-nil}}
+use Rattle.std.specs.{Io.KnownBytes.{Appends}, List.{flat_map}}
 use Rattle.phase_laws.specs.Replay.{Replays}
-use Rattle.auction_rows.specs.declared.{values.Opening.Opening, requests.Opened.Opened, rows.Row.Row, rows.Entry.Entry}
-use Rattle.auction_rows.specs.Book.{Book}
+use Rattle.auction_rows.{proofs.HistoryLemmas.{book_after-replays}, specs.Book.{Book}}
 use Rattle.auction_rows.specs.History.{ReplaysFrom, book_after, rows_of}
-use Rattle.auction_rows.proofs.HistoryLemmas.{book_after-replays}
-use Rattle.item_shards.specs.OpeningRows.{AreRows, IsRow, opening_rows, with_opened}
+use Rattle.auction_rows.specs.declared.{values.Opening.Opening, requests.Opened.Opened, rows.Row.Row, rows.Entry.Entry}
 use Rattle.item_shards.proofs.OpeningBookLemmas.{adds}
-use Rattle.auction_text.specs.Replies.{lines}
-use Rattle.auction_text.specs.RowLines.{row_line, rows_text}
+use Rattle.item_shards.specs.OpeningRows.{AreRows, IsRow, opening_rows, with_opened}
+use Rattle.auction_text.specs.{Replies.{lines}, RowLines.{row_line, rows_text}}
 use Rattle.log_opening.specs.Accepted.{GoOnFrom, added_rows, book_past_all}
 
 -- requests that are rows add a row each

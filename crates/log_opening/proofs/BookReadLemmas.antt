@@ -1,20 +1,17 @@
 -- The text of a book is read back as its rows.
 use Rattle.std.proofs.Common.{arith, ◌≡◌, ◌≤◌, ◌+◌, ◌^◌, ◌∷◌, [], ℕ, suc, List, Ok, false, nat_lt, length, map, refl, ap}
-use Rattle.std.proofs.lemmas.Bool.{lt-leb}
-use Rattle.std.proofs.lemmas.List.{append-nil}
+use Rattle.std.proofs.lemmas.{Bool.{lt-leb}, List.{append-nil}}
 use Rattle.std.specs.List.{AllByRecursion, range_with_len}
-use Rattle.csv.specs.Reading.{default_config, records, records_from, strip_bom}
 use Rattle.csv.specs.Machine.{next_record}
-use Rattle.auction_rows.specs.declared.rows.Row.{Row}
-use Rattle.auction_rows.specs.Book.{Book}
+use Rattle.csv.specs.Reading.{default_config, records, records_from, strip_bom}
+use Rattle.auction_rows.specs.{Book.{Book}, declared.rows.Row.{Row}}
 use Rattle.auction_rows.specs.declared.rows.Row.TheVariants.{Item, Bid, Comment, Buy}
 use Rattle.item_shards.specs.OpeningRows.{opened_of}
-use Rattle.auction_text.specs.Replies.{lines}
+use Rattle.auction_text.specs.{InputLimits.{MOST_RECORDS}, Replies.{lines}}
 use Rattle.auction_text.specs.RowLines.{row_line, rows_text}
 use Rattle.auction_text.specs.Scripts.{asked_in, input_of, read_records, rows, script}
-use Rattle.auction_text.specs.InputLimits.{MOST_RECORDS}
-use Rattle.log_opening.specs.ReadBack.{IsWritten, book_asked}
 use Rattle.log_opening.proofs.RowLineLemmas.{IsReadAs, line_read, said_of}
+use Rattle.log_opening.specs.ReadBack.{IsWritten, book_asked}
 
 pub written_read : (workers : ℕ) (row : Row) → workers ≤ 2 ^ 32 → IsWritten workers row → IsReadAs (row_line row) (said_of row)
 written_read workers row few written = line_read row (omega (arith, few, written.0)) written.1

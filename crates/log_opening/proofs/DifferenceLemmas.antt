@@ -1,9 +1,7 @@
 -- Where texts differ first.
 use Rattle.std.proofs.Common.{arith, ◌≡◌, ◌≢◌, ◌≤◌, ◌<◌, ◌∙◌, ℕ, List, Some, None, length, min, take, slice_get, slice_index, sym, inl, inr}
-use Rattle.std.proofs.Math.Nat.{min-eq_left, min-eq_right}
-use Rattle.std.proofs.lemmas.Bool.{cases_lt}
-use Rattle.std.proofs.lemmas.List.{take_all}
-use Rattle.std.proofs.lemmas.Option.{slice_get_past, slice_get-get_or}
+use Rattle.std.proofs.{Math.Nat.{min-eq_left, min-eq_right}, lemmas.Bool.{cases_lt}}
+use Rattle.std.proofs.lemmas.{List.{take_all}, Option.{slice_get_past, slice_get-get_or}}
 
 -- a place that is within neither of two texts is the shorter's end
 pub shorter_ends : (a b n : ℕ) → n ≡ min a b → n < a → n < b → ⊥

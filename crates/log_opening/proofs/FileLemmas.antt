@@ -1,7 +1,6 @@
 -- What a file is read from a place on.
 use Rattle.std.proofs.Common.{arith, ◌≡◌, ◌≤◌, ◌+◌, ◌++◌, ◌∙◌, [], ℕ, List, Option, Some, None, IfSome, drop, length, sym, ap}
-use Rattle.std.proofs.lemmas.Grind.{common_steps}
-use Rattle.std.proofs.lemmas.List.{drop-drop, take-append-drop}
+use Rattle.std.proofs.lemmas.{Grind.{common_steps}, List.{drop-drop, take-append-drop}}
 use Rattle.std.specs.Io.KnownBytes.{Consumes, IsAtEnd}
 use Rattle.part_log.specs.Files.{IsReadAt}
 use Rattle.log_opening.specs.inner.Files.{bytes_from}

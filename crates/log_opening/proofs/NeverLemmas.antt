@@ -2,38 +2,30 @@
 use Rattle.std.proofs.Common.{arith, All, ◌≡◌, ◌≢◌, ◌&&◌, ◌⊎◌, ◌≤◌, ◌<◌, ◌+◌, ◌∙◌, ◌∷◌, ◌++◌, [], ℕ, zero, suc, List, Ok, Err, Result, true, inl, inr, map, take, drop, length, slice_get, slice_index, nat_le, refl, sym, ap, subst, append_assoc}
 use Rattle.std.proofs.Math.Seq.{drop-append_seam, take-append_seam, take-length}
 use Rattle.std.proofs.lemmas.Bool.{and_parts, eq-eqb, false≢true, leb-true}
-use Rattle.std.proofs.lemmas.Option.{none-some}
 use Rattle.std.proofs.lemmas.List.{append_cancel_left, get_or-append-add, get_or_append_left, length-append, map-append, take-append-drop}
-use Rattle.std.proofs.lemmas.List.Elements.{recursion_from_All}
-use Rattle.std.proofs.lemmas.List.Sums.{sum_by-append}
-use Rattle.std.specs.List.{AllByRecursion, list_all}
-use Rattle.auction_rows.specs.declared.{values.Opening.Opening, requests.Opened.Opened, rows.Row.Row}
+use Rattle.std.proofs.lemmas.List.{Elements.{recursion_from_All}, Sums.{sum_by-append}}
+use Rattle.std.{proofs.lemmas.Option.{none-some}, specs.List.{AllByRecursion, list_all}}
+use Rattle.auction_rows.specs.{Book.{Book, worker_of}, History.{IsBook}}
 use Rattle.auction_rows.specs.declared.rows.Row.TheVariants.{Item, Bid, Comment, Buy}
-use Rattle.auction_rows.specs.Book.{Book, worker_of}
-use Rattle.auction_rows.specs.History.{IsBook}
-use Rattle.item_shards.specs.OpeningRows.{AreRows, IsRow, opened_of, opening_rows, rows_by, with_opened}
+use Rattle.auction_rows.specs.declared.{values.Opening.Opening, requests.Opened.Opened, rows.Row.Row}
 use Rattle.item_shards.proofs.OpeningBookLemmas.{adds}
+use Rattle.item_shards.specs.OpeningRows.{AreRows, IsRow, opened_of, opening_rows, rows_by, with_opened}
 use Rattle.phase_floor.specs.declared.adding.AddFault.TheVariants as add
-use Rattle.auction_text.specs.Fields.{is_printing}
-use Rattle.auction_text.specs.Reading.{IsInputFault}
-use Rattle.auction_text.specs.Replies.{lines}
-use Rattle.auction_text.specs.RowLines.{row_line, rows_text}
+use Rattle.auction_text.specs.{Fields.{is_printing}, ReadFault.{ReadFault}, Reading.{IsInputFault}}
+use Rattle.auction_text.specs.{Replies.{lines}, RowLines.{row_line, rows_text}}
 use Rattle.auction_text.specs.Scripts.{Asked, input_of}
-use Rattle.auction_text.specs.ReadFault.{ReadFault}
 use Rattle.auction_text.specs.ReadFault.TheVariants as read
-use Rattle.log_opening.specs.CutRows.{begins_row, is_cut_row}
-use Rattle.log_opening.specs.Lines.{AreLines, AreWholeLines}
+use Rattle.log_opening.proofs.AcceptedLemmas.{folded, grown, joined, rest_are}
+use Rattle.log_opening.proofs.BookReadLemmas.{book_read}
+use Rattle.log_opening.proofs.PartLemmas.{ended, line_counted, whole_rows}
+use Rattle.log_opening.proofs.RecoveryLemmas.{front, front_all, front_goes_on, text_alone}
+use Rattle.log_opening.proofs.{SameRowsLemmas.{again, same_book, same_ok}, TailLemmas.{tail_cut}}
+use Rattle.log_opening.specs.{CutRows.{begins_row, is_cut_row}, Lines.{AreLines, AreWholeLines}}
 use Rattle.log_opening.specs.Opening.{AreNotRows, IsForMemory, IsRefused, counted_after}
 use Rattle.log_opening.specs.Parts.{AreRowsFrom, HasNoEnd, rows_from}
 use Rattle.log_opening.specs.ReadBack.{IsWritten, book_asked}
 use Rattle.log_opening.specs.declared.opening.OpenFault.{OpenFault}
 use Rattle.log_opening.specs.declared.opening.OpenFault.TheVariants as fault
-use Rattle.log_opening.proofs.AcceptedLemmas.{folded, grown, joined, rest_are}
-use Rattle.log_opening.proofs.BookReadLemmas.{book_read}
-use Rattle.log_opening.proofs.PartLemmas.{ended, line_counted, whole_rows}
-use Rattle.log_opening.proofs.RecoveryLemmas.{front, front_all, front_goes_on, text_alone}
-use Rattle.log_opening.proofs.SameRowsLemmas.{again, same_book, same_ok}
-use Rattle.log_opening.proofs.TailLemmas.{tail_cut}
 
 ok_or_err : {A E : Type 0} (x : A) (e : E) (r : Result A E) → r ≡ Ok x → r ≡ Err e → ⊥
 ok_or_err x e r one other = cc (sym one ∙ other)

@@ -1,18 +1,12 @@
 -- What a prefix of a log opens is the first rows of its book.
 use Rattle.std.proofs.Common.{arith, All, ◌≡◌, ◌≤◌, ◌∙◌, [], ℕ, List, Some, length, take, sym, ap, subst}
 use Rattle.std.proofs.lemmas.List.Elements.{recursion_from_All}
-use Rattle.auction_rows.specs.declared.values.Opening.{Opening}
-use Rattle.auction_rows.specs.Book.{Book}
-use Rattle.auction_rows.specs.History.{IsBook}
-use Rattle.auction_text.specs.Replies.{lines}
-use Rattle.auction_text.specs.RowLines.{row_line, rows_text}
-use Rattle.log_opening.specs.Lines.{AreWholeLines}
-use Rattle.log_opening.specs.Opening.{OpensWith}
-use Rattle.log_opening.specs.ReadBack.{IsWritten}
-use Rattle.log_opening.specs.Recovery.{AreFirstOf}
-use Rattle.log_opening.specs.declared.opening.LoggedAuction.{LoggedAuction}
+use Rattle.auction_rows.specs.{Book.{Book}, History.{IsBook}, declared.values.Opening.{Opening}}
+use Rattle.auction_text.specs.{Replies.{lines}, RowLines.{row_line, rows_text}}
 use Rattle.log_opening.proofs.RecoveryLemmas.{front, front_all, front_goes_on, text_alone}
-use Rattle.log_opening.proofs.SameRowsLemmas.{same_book}
+use Rattle.log_opening.{proofs.SameRowsLemmas.{same_book}, specs.Lines.{AreWholeLines}}
+use Rattle.log_opening.specs.{Opening.{OpensWith}, ReadBack.{IsWritten}, Recovery.{AreFirstOf}}
+use Rattle.log_opening.specs.declared.opening.LoggedAuction.{LoggedAuction}
 
 pub opens_first : (opening : Opening) (workers : ℕ) (book rows : Book) (n : ℕ) (opened : LoggedAuction) → workers ≤ 16 → IsBook opening book → All (IsWritten workers) book → opened.auction.opening ≡ opening
     → length opened.auction.counters ≡ workers → OpensWith (Some (take n (rows_text book []))) rows opened → AreFirstOf book n rows

@@ -1,41 +1,30 @@
 -- Rows of a text that are added to an auction one after the other.
 use Rattle.std.proofs.Common.{◌≡◌, ◌==◌, All, count_by, ◌⊎◌, ◌||◌, Bool, true, false, not, nat_lt, if◌then◌else◌, Option, Some, None, inl, inr, codes, ap₂, slice_index, ℕ, ◌+◌, ◌-◌, ◌<◌, ◌≤◌, List, [], ◌∷◌, ◌++◌, Result, Ok, Err, IsErrOf, drop, get_or, length, take, refl, sym, ap, subst, ◌∙◌, arith, append_assoc}
-use Rattle.std.specs.Option.{ok_or}
-use Rattle.std.specs.Result.{result_map_both}
+use Rattle.std.proofs.{Math.Seq.{get_or-append_seam}, lemmas.Bool.{ltb-false}}
 use Rattle.std.proofs.lemmas.Grind.{common_steps}
-use Rattle.std.proofs.Math.Seq.{get_or-append_seam}
-use Rattle.std.proofs.lemmas.Bool.{ltb-false}
 use Rattle.std.proofs.lemmas.List.{get_or_append_left, get_or-append-add, length-append, length-take-le, take-append-drop}
 use Rattle.std.proofs.lemmas.List.Elements.{All-append, All-from_recursion}
-use Rattle.std.proofs.lemmas.List.Sums.{count_by-le-length, fold_push}
+use Rattle.std.{proofs.lemmas.List.Sums.{count_by-le-length, fold_push}, specs.Option.{ok_or}}
+use Rattle.std.specs.Result.{result_map_both}
 use Rattle.phase_laws.proofs.ReplayLemmas.{replays_append}
-use Rattle.auction_rows.specs.declared.{values.Opening.Opening, requests.Opened.Opened, replies.Refusal.Refusal, rows.Row.Row}
-use Rattle.auction_rows.specs.Book.{Book, worker_of}
-use Rattle.auction_rows.specs.History.{IsBook}
-use Rattle.auction_rows.specs.Refusals.{refusal}
+use Rattle.auction_rows.specs.{Book.{Book, worker_of}, History.{IsBook}, Refusals.{refusal}}
 use Rattle.auction_rows.specs.Requests.{is_view}
-use Rattle.item_shards.specs.OpeningRows.{IsRow, with_opened}
-use Rattle.item_shards.proofs.OpeningLemmas.{one_more}
+use Rattle.auction_rows.specs.declared.{values.Opening.Opening, requests.Opened.Opened, replies.Refusal.Refusal, rows.Row.Row}
+use Rattle.item_shards.{proofs.OpeningLemmas.{one_more}, specs.OpeningRows.{IsRow, with_opened}}
 use Rattle.phase_floor.specs.Adding.{IsFull, IsOwn, IsSameAuction, IsStartOf, KeepsBooks}
-use Rattle.phase_floor.specs.States.{JoinedState, IsBookOf}
-use Rattle.phase_floor.specs.declared.adding.AddFault.{AddFault}
+use Rattle.phase_floor.specs.{States.{JoinedState, IsBookOf}, declared.adding.AddFault.{AddFault}}
 use Rattle.phase_floor.specs.declared.adding.AddFault.TheVariants.{TooLong, Refused, BadRow, Memory}
-use Rattle.auction_text.specs.Fields.{number}
-use Rattle.auction_text.specs.Reading.{IsInputFault}
-use Rattle.auction_text.specs.Records.{and_then, checked, field, read_record}
-use Rattle.auction_text.specs.Scripts.{asked_in, input_of, read_records, records_of}
-use Rattle.auction_text.specs.Cause.{Cause}
-use Rattle.auction_text.specs.Cause.TheVariants as cause
-use Rattle.auction_text.specs.ReadFault.{ReadFault}
-use Rattle.auction_text.specs.ReadFault.TheVariants as read
-use Rattle.auction_text.specs.Record.{Record}
-use Rattle.auction_text.specs.Replies.{lines}
+use Rattle.auction_text.specs.{Cause.{Cause}, Fields.{number}, ReadFault.{ReadFault}}
+use Rattle.auction_text.specs.{Reading.{IsInputFault}, Record.{Record}}
+use Rattle.auction_text.specs.{Records.{and_then, checked, field, read_record}, Replies.{lines}}
 use Rattle.auction_text.specs.RowLines.{row_line, row_text, rows_text}
+use Rattle.auction_text.specs.Scripts.{asked_in, input_of, read_records, records_of}
+use Rattle.auction_text.specs.Cause.TheVariants as cause
+use Rattle.auction_text.specs.ReadFault.TheVariants as read
+use Rattle.log_opening.proofs.AcceptedLemmas.{joined, rows_alone}
 use Rattle.log_opening.specs.Lines.{AreWholeLines, line_at}
 use Rattle.log_opening.specs.Parts.{AreRowsFrom, HasAdded, HasNoEnd, IsFirstRefused, IsNotTaken, rows_from}
-use Rattle.log_opening.specs.inner.Reading.{place_of}
-use Rattle.log_opening.specs.ReadBack.{IsInRange}
-use Rattle.log_opening.proofs.AcceptedLemmas.{joined, rows_alone}
+use Rattle.log_opening.specs.{ReadBack.{IsInRange}, inner.Reading.{place_of}}
 
 -- ---- requests, one after the other
 

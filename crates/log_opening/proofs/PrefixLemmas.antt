@@ -1,24 +1,18 @@
 -- The whole lines of a prefix of a log are the lines of its first rows.
 use Rattle.std.proofs.Common.{arith, ◌≡◌, ◌≢◌, ◌==◌, ◌≤◌, ◌<◌, ◌+◌, ◌-◌, ◌^◌, ◌∷◌, ◌++◌, ◌∙◌, [], ℕ, zero, suc, List, true, codes, length, slice_index, refl, sym, ap, append_assoc, inl, inr, ℤ, pos, negsuc, ◌≤ℤ◌}
-use Rattle.std.proofs.lemmas.Grind.{common_steps}
 use Rattle.std.proofs.lemmas.Bool.{and_from, and_parts, cases_lt, cases_Bool, leb-true, le-leb}
-use Rattle.std.proofs.lemmas.List.{get_or-append-add, get_or_at}
-use Rattle.std.proofs.lemmas.List.Folds.{list_all-append}
-use Rattle.std.proofs.lemmas.List.Elements.{recursion_from_All}
-use Rattle.std.specs.Char.{is_ascii_digit}
-use Rattle.std.specs.Fmt.{decimal, signed_decimal}
+use Rattle.std.proofs.lemmas.{Grind.{common_steps}, List.{get_or-append-add, get_or_at}}
+use Rattle.std.proofs.lemmas.List.{Elements.{recursion_from_All}, Folds.{list_all-append}}
+use Rattle.std.specs.{Char.{is_ascii_digit}, Fmt.{decimal, signed_decimal}}
 use Rattle.std.specs.List.{AllByRecursion, flat_map, list_all}
-use Rattle.auction_rows.specs.declared.rows.{ItemRow.ItemRow, BidRow.BidRow, CommentRow.CommentRow, BuyRow.BuyRow, Row.Row}
+use Rattle.auction_rows.specs.{Book.{worker_of}, Name.{IsName, IsPrinting}}
 use Rattle.auction_rows.specs.declared.rows.Row.TheVariants.{Item, Bid, Comment, Buy}
-use Rattle.auction_rows.specs.Book.{worker_of}
-use Rattle.auction_rows.specs.Name.{IsName, IsPrinting}
+use Rattle.auction_rows.specs.declared.rows.{ItemRow.ItemRow, BidRow.BidRow, CommentRow.CommentRow, BuyRow.BuyRow, Row.Row}
 use Rattle.auction_text.specs.Fields.{is_printing}
 use Rattle.auction_text.specs.RowLines.{byte_in_quotes, offer_text, quoted, row_text, terms_text}
 use Rattle.byte_texts.specs.Labels.{labelled, labelled_id}
-use Rattle.log_opening.specs.ReadBack.{IsInRange}
-use Rattle.log_opening.specs.Lines.{AreWholeLines}
-use Rattle.log_opening.proofs.ReadBackLemmas.{digits}
-use Rattle.log_opening.proofs.RowLineLemmas.{is_true_of}
+use Rattle.log_opening.proofs.{ReadBackLemmas.{digits}, RowLineLemmas.{is_true_of}}
+use Rattle.log_opening.specs.{Lines.{AreWholeLines}, ReadBack.{IsInRange}}
 
 -- each byte of a text prints
 pub record Prints (xs : List ℕ) : Type 0 where

@@ -1,17 +1,14 @@
 -- The rows of a log are read back as they were printed.
 use Rattle.std.proofs.Common.{arith, ◌%◌, ◌≡◌, ◌==◌, ◌≤◌, ◌<◌, ◌+◌, ◌^◌, ◌∷◌, ◌++◌, ◌∙◌, [], ℕ, List, Some, true, false, nat_le, get_or, refl, sym, ap, append_assoc, inl, inr}
 use Rattle.std.proofs.lemmas.Bool.{and_from, cases_lt, eqb-true, false_from_ne_true, le-leb}
-use Rattle.std.proofs.lemmas.List.Folds.{list_all-append}
 use Rattle.std.proofs.lemmas.Fmt.{decimal_digit, decimal_by_steps, first_decimal, decimal_is_IsNumeral}
-use Rattle.std.specs.Char.{is_ascii_digit}
-use Rattle.std.specs.Fmt.{decimal}
-use Rattle.std.specs.List.{list_all}
-use Rattle.std.specs.Str.Parse.{digits_value}
+use Rattle.std.{proofs.lemmas.List.Folds.{list_all-append}, specs.Char.{is_ascii_digit}}
+use Rattle.std.specs.{Fmt.{decimal}, List.{list_all}, Str.Parse.{digits_value}}
 use Rattle.auction_rows.specs.declared.limits.TheConstants.{MOST_QUANTITY}
-use Rattle.auction_text.specs.Fields.{is_numeral, item_id, number, quantity}
-use Rattle.record_reading.specs.inner.PlainLines.{is_plain}
 use Rattle.auction_text.proofs.DigitLemmas.{number_is}
 use Rattle.auction_text.proofs.PlainFieldLemmas.{digits_join, digits_plain, item_of_parts, parts_plain}
+use Rattle.auction_text.specs.Fields.{is_numeral, item_id, number, quantity}
+use Rattle.record_reading.specs.inner.PlainLines.{is_plain}
 use Rattle.byte_texts.specs.Labels.{id_text}
 
 digit_is : (d : ℕ) → d < 10 → is_ascii_digit (48 + d) ≡ true

@@ -1,32 +1,25 @@
 -- How far a text is read, and what it opens.
 use Rattle.std.proofs.Common.{◌≡◌, ◌⊎◌, ◌≤◌, ◌<◌, ◌+◌, ◌-◌, ◌++◌, ℕ, true, List, [], ◌∷◌, Option, Some, None, All, Result, Ok, Err, IsErr, IsErrAnd, IfErr, IfOk, IfSome, inl, inr, drop, length, slice_index, take, refl, sym, ap, subst, ◌∙◌, arith, append_assoc}
-use Rattle.std.specs.List.{AllByRecursion}
-use Rattle.std.specs.Io.KnownBytes.{Appends, IsAtEnd}
 use Rattle.std.proofs.Math.Seq.{drop-append_seam, paste, take-append-add, take-append_seam, take-length}
 use Rattle.std.proofs.lemmas.Grind.{common_steps}
 use Rattle.std.proofs.lemmas.List.{append-nil, get_or-append-add, get_or_append_left, length-append, length-take-le, take_all}
 use Rattle.std.proofs.lemmas.List.Elements.{All-append, All-from_recursion, recursion_from_All}
+use Rattle.std.specs.{Io.KnownBytes.{Appends, IsAtEnd}, List.{AllByRecursion}}
 use Rattle.csv.proofs.WriteFacts.{appends-more, appends-none}
+use Rattle.auction_rows.specs.{Book.{Book, worker_of}, History.{IsBook}}
 use Rattle.auction_rows.specs.declared.{values.Opening.Opening, requests.Opened.Opened}
-use Rattle.auction_rows.specs.Book.{Book, worker_of}
-use Rattle.auction_rows.specs.History.{IsBook}
-use Rattle.phase_floor.specs.Adding.{IsSameAuction, IsStartOf}
-use Rattle.phase_floor.specs.States.{JoinedState}
-use Rattle.auction_text.specs.RowLines.{rows_text}
+use Rattle.phase_floor.specs.{Adding.{IsSameAuction, IsStartOf}, States.{JoinedState}}
+use Rattle.auction_text.{proofs.BufferLemmas.{held, moved}, specs.RowLines.{rows_text}}
 use Rattle.auction_text.specs.ReadFault.TheVariants as read
-use Rattle.auction_text.proofs.BufferLemmas.{held, moved}
 use Rattle.byte_texts.specs.Writing.{IsPartWritten}
-use Rattle.log_opening.specs.CutRows.{is_cut_row}
-use Rattle.log_opening.specs.Lines.{AreLines, AreWholeLines}
-use Rattle.log_opening.specs.Opening.{AreNotRows, HasRowsAndTail, IsRefused, IsRefusedIn, Opens, TellsFirst}
-use Rattle.log_opening.specs.Parts.{HasAdded, HasNoEnd}
-use Rattle.log_opening.specs.inner.Reading.{HasRead, IsReadTo, ReadsRows, TellsRows, TellsSome}
-use Rattle.log_opening.specs.ReadBack.{IsInRange, IsWritten}
-use Rattle.log_opening.specs.declared.opening.LoggedAuction.{LoggedAuction}
-use Rattle.log_opening.specs.declared.opening.OpenFault.{OpenFault}
-use Rattle.log_opening.specs.declared.opening.OpenFault.TheVariants as fault
-use Rattle.log_opening.specs.declared.parts.ReadRows.{ReadRows}
 use Rattle.log_opening.proofs.PartLemmas.{rows_few, texts_joined, whole_rows}
+use Rattle.log_opening.specs.{CutRows.{is_cut_row}, Lines.{AreLines, AreWholeLines}}
+use Rattle.log_opening.specs.Opening.{AreNotRows, HasRowsAndTail, IsRefused, IsRefusedIn, Opens, TellsFirst}
+use Rattle.log_opening.specs.{Parts.{HasAdded, HasNoEnd}, ReadBack.{IsInRange, IsWritten}}
+use Rattle.log_opening.specs.declared.opening.{LoggedAuction.{LoggedAuction}, OpenFault.{OpenFault}}
+use Rattle.log_opening.specs.declared.parts.ReadRows.{ReadRows}
+use Rattle.log_opening.specs.inner.Reading.{HasRead, IsReadTo, ReadsRows, TellsRows, TellsSome}
+use Rattle.log_opening.specs.declared.opening.OpenFault.TheVariants as fault
 
 -- what holds of an error
 pub error_is : {T E : Type 0} (result : Result T E) (fault : E) (P : E → Type 0) → IsErr result × IsErrAnd result (λ x. x ≡ fault) → P fault → IfErr result P

@@ -1,25 +1,17 @@
 -- A prefix of a log opens to the first rows of its book.
 use Rattle.std.proofs.Common.{arith, ◌≡◌, ◌≤◌, ◌<◌, ◌+◌, ◌-◌, ◌^◌, ◌∷◌, ◌++◌, ◌∙◌, [], ℕ, zero, suc, List, length, take, slice_index, refl, sym, ap, subst, append_assoc, inl, inr, All}
-use Rattle.std.proofs.lemmas.Grind.{common_steps}
-use Rattle.std.proofs.lemmas.Bool.{cases_lt}
-use Rattle.std.proofs.Math.Seq.{take-append-add}
+use Rattle.std.proofs.{Math.Seq.{take-append-add}, lemmas.{Bool.{cases_lt}, Grind.{common_steps}}}
 use Rattle.std.proofs.lemmas.List.{append-nil, get_or-take}
 use Rattle.std.proofs.lemmas.List.Elements.{All-from_recursion, recursion_from_All}
 use Rattle.std.specs.List.{AllByRecursion}
+use Rattle.auction_rows.specs.{Book.{Book}, History.{GoOn, IsBook, after_entry, commit_of}}
 use Rattle.auction_rows.specs.declared.{values.Opening.Opening, rows.Row.Row}
-use Rattle.auction_rows.specs.Book.{Book}
-use Rattle.auction_rows.specs.History.{GoOn, IsBook, after_entry, commit_of}
-use Rattle.item_shards.specs.Counting.{worker_of}
-use Rattle.item_shards.proofs.OpeningBookLemmas.{opened_again}
-use Rattle.auction_text.specs.Replies.{lines}
-use Rattle.auction_text.specs.RowLines.{row_line, row_text, rows_text}
-use Rattle.auction_text.specs.Scripts.{input_of}
-use Rattle.auction_text.specs.InputLimits.{MOST_RECORDS}
-use Rattle.log_opening.specs.ReadBack.{IsWritten}
-use Rattle.log_opening.specs.Recovery.{OpensTo}
-use Rattle.log_opening.specs.Lines.{AreWholeLines}
+use Rattle.item_shards.{proofs.OpeningBookLemmas.{opened_again}, specs.Counting.{worker_of}}
+use Rattle.auction_text.specs.{InputLimits.{MOST_RECORDS}, Replies.{lines}}
+use Rattle.auction_text.specs.{RowLines.{row_line, row_text, rows_text}, Scripts.{input_of}}
 use Rattle.log_opening.proofs.BookReadLemmas.{book_read}
 use Rattle.log_opening.proofs.PrefixLemmas.{Prints, line_first, prints_at, row_prints}
+use Rattle.log_opening.specs.{Lines.{AreWholeLines}, ReadBack.{IsWritten}, Recovery.{OpensTo}}
 
 -- the first rows, whose lines are whole
 pub record Front (book : Book) (n whole : ℕ) : Type 0 where

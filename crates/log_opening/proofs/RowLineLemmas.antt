@@ -1,38 +1,25 @@
 -- The line of a row is one record, which says the row.
 use Rattle.std.proofs.Common.{arith, ◌≡◌, ◌==◌, ◌≤◌, ◌<◌, ◌+◌, ◌-◌, ◌^◌, ◌∷◌, ◌++◌, ◌∙◌, [], ℕ, List, Some, Ok, Bool, true, false, nat_lt, nat_le, ℤ, pos, negsuc, ◌≤ℤ◌, suc, length, refl, sym, ap, append_assoc, inl, inr}
-use Rattle.std.proofs.lemmas.Grind.{common_steps}
 use Rattle.std.proofs.lemmas.Bool.{cases_Bool, eqb-true, le-leb, leb-true, lt-ltb}
-use Rattle.std.specs.Prelude.{T}
-use Rattle.std.proofs.lemmas.Fmt.{decimal_digit}
-use Rattle.auction_rows.specs.Stars.{stars_of}
-use Rattle.auction_rows.specs.Book.{worker_of}
-use Rattle.auction_rows.specs.History.{commit_of}
-use Rattle.std.proofs.lemmas.List.{append-nil}
-use Rattle.std.specs.Fmt.{decimal, signed_decimal}
-use Rattle.std.specs.List.{flat_map}
-use Rattle.csv.specs.Machine.{next_record}
-use Rattle.csv.specs.Reading.{default_config, strip_bom}
+use Rattle.std.proofs.lemmas.{Fmt.{decimal_digit}, Grind.{common_steps}, List.{append-nil}}
+use Rattle.std.specs.{Fmt.{decimal, signed_decimal}, List.{flat_map}, Prelude.{T}}
+use Rattle.auction_rows.{proofs.StarsLemmas.{stars_found}, specs.Book.{worker_of}}
+use Rattle.auction_rows.specs.{History.{commit_of}, Name.{IsName}, Stars.{stars_of}}
+use Rattle.auction_rows.specs.declared.rows.Row.TheVariants.{Item, Bid, Comment, Buy}
+use Rattle.auction_rows.specs.declared.{values.Stars.Stars, requests.Request.Request, rows.ItemRow.ItemRow, rows.BidRow.BidRow, rows.CommentRow.CommentRow, rows.BuyRow.BuyRow, rows.Row.Row}
+use Rattle.csv.specs.{Machine.{next_record}, Reading.{default_config, strip_bom}}
 use Rattle.csv.specs.Records.{field_at}
 use Rattle.csv.specs.declared.parser.State.TheVariants as st
-use Rattle.auction_rows.specs.declared.{values.Stars.Stars, requests.Request.Request, rows.ItemRow.ItemRow, rows.BidRow.BidRow, rows.CommentRow.CommentRow, rows.BuyRow.BuyRow, rows.Row.Row}
-use Rattle.auction_rows.specs.declared.rows.Row.TheVariants.{Item, Bid, Comment, Buy}
-use Rattle.auction_rows.proofs.StarsLemmas.{stars_found}
-use Rattle.auction_rows.specs.Name.{IsName}
-use Rattle.auction_text.specs.Fields.{name, stars}
-use Rattle.auction_text.specs.Kinds.{has_count, kind_of}
-use Rattle.auction_text.specs.Lines.{ReadsFirst}
-use Rattle.record_reading.specs.inner.PlainLines.{HasRead, is_plain}
-use Rattle.auction_text.specs.Records.{read_record, request_of}
-use Rattle.auction_text.specs.RowLines.{byte_in_quotes, row_line}
-use Rattle.auction_text.specs.RequestKind.{RequestKind}
-use Rattle.auction_text.specs.RequestKind.TheVariants as kind
-use Rattle.auction_text.specs.Record.{Record}
 use Rattle.auction_text.proofs.LineLemmas.{first_and_comma, last_and_end, next_and_comma}
-use Rattle.auction_text.proofs.NameLemmas.{name_tested}
-use Rattle.auction_text.proofs.PlainFieldLemmas.{digits_no_bom}
+use Rattle.auction_text.proofs.{NameLemmas.{name_tested}, PlainFieldLemmas.{digits_no_bom}}
+use Rattle.auction_text.specs.{Fields.{name, stars}, Kinds.{has_count, kind_of}, Lines.{ReadsFirst}}
+use Rattle.auction_text.specs.{Record.{Record}, Records.{read_record, request_of}}
+use Rattle.auction_text.specs.{RequestKind.{RequestKind}, RowLines.{byte_in_quotes, row_line}}
+use Rattle.auction_text.specs.RequestKind.TheVariants as kind
+use Rattle.record_reading.specs.inner.PlainLines.{HasRead, is_plain}
 use Rattle.byte_texts.specs.Labels.{id_text}
-use Rattle.log_opening.specs.ReadBack.{IsInRange}
 use Rattle.log_opening.proofs.ReadBackLemmas.{digits, item_of, minus_plain, number_of, plain_item, plain_number, quantity_of}
+use Rattle.log_opening.specs.ReadBack.{IsInRange}
 
 -- what the line of a row says
 abbrev pub said_of : Row → Record

@@ -1,21 +1,15 @@
 -- Two books whose texts are the same are the same.
 use Rattle.std.proofs.Common.{arith, ◌≡◌, ◌≤◌, ◌<◌, ◌^◌, ◌∷◌, ◌∙◌, [], ℕ, List, Ok, Result, false, map, refl, sym, ap, ap₂}
-use Rattle.std.proofs.lemmas.List.Elements.{All-from_recursion}
-use Rattle.std.specs.List.{AllByRecursion}
+use Rattle.std.{proofs.lemmas.List.Elements.{All-from_recursion}, specs.List.{AllByRecursion}}
 use Rattle.csv.specs.Reading.{default_config, records}
+use Rattle.auction_rows.specs.{Book.{Book, worker_of}, History.{IsBook}}
 use Rattle.auction_rows.specs.declared.values.Opening.{Opening}
-use Rattle.auction_rows.specs.Book.{Book, worker_of}
-use Rattle.auction_rows.specs.History.{IsBook}
-use Rattle.item_shards.specs.OpeningRows.{AreRows, opened_of, opening_rows}
 use Rattle.item_shards.proofs.OpeningBookLemmas.{opened_again}
-use Rattle.auction_text.specs.Records.{read_record}
-use Rattle.auction_text.specs.Replies.{lines}
-use Rattle.auction_text.specs.RowLines.{row_line}
-use Rattle.auction_text.specs.Scripts.{rows}
-use Rattle.auction_text.specs.Record.{Record}
-use Rattle.log_opening.specs.ReadBack.{IsWritten}
+use Rattle.item_shards.specs.OpeningRows.{AreRows, opened_of, opening_rows}
+use Rattle.auction_text.specs.{Record.{Record}, Records.{read_record}, Replies.{lines}}
+use Rattle.auction_text.specs.{RowLines.{row_line}, Scripts.{rows}}
 use Rattle.log_opening.proofs.BookReadLemmas.{none_read, rows_said, written_read}
-use Rattle.log_opening.proofs.RowLineLemmas.{said_of}
+use Rattle.log_opening.{proofs.RowLineLemmas.{said_of}, specs.ReadBack.{IsWritten}}
 
 pub same_ok : {A E : Type 0} (x y : A) (r : Result A E) → r ≡ Ok x → r ≡ Ok y → x ≡ y
 same_ok x y r one other = cc (sym one ∙ other)

@@ -1,27 +1,20 @@
 -- What a prefix of a log has behind its whole lines is a cut row.
 use Rattle.std.proofs.Common.{arith, ◌≡◌, ◌==◌, ◌||◌, ◌≤◌, ◌<◌, ◌+◌, ◌-◌, ◌*◌, ◌/◌, ◌%◌, ◌^◌, ◌∷◌, ◌++◌, ◌∙◌, [], ℕ, ℤ, pos, negsuc, ◌≤ℤ◌, zero, suc, List, Bool, true, false, codes, length, take, drop, slice_index, refl, ap, subst, append_assoc, inl, inr, All}
 use Rattle.std.proofs.Math.Seq.{drop-append-add}
-use Rattle.std.proofs.lemmas.Grind.{common_steps}
 use Rattle.std.proofs.lemmas.Bool.{and_from, and_parts, cases_Bool, cases_lt, leb-true, le-leb}
 use Rattle.std.proofs.lemmas.Fmt.{decimal_digit, decimal_step, length-decimal-le}
-use Rattle.std.proofs.lemmas.List.{append-nil, get_or-take}
-use Rattle.std.proofs.lemmas.List.Elements.{recursion_from_All}
-use Rattle.std.specs.Char.{is_ascii_digit}
-use Rattle.std.specs.Fmt.{decimal, signed_decimal}
-use Rattle.std.specs.List.{AllByRecursion, flat_map, list_all}
-use Rattle.auction_rows.specs.declared.rows.Row.{Row}
+use Rattle.std.proofs.lemmas.{Grind.{common_steps}, List.{append-nil, get_or-take}}
+use Rattle.std.{proofs.lemmas.List.Elements.{recursion_from_All}, specs.Char.{is_ascii_digit}}
+use Rattle.std.specs.{Fmt.{decimal, signed_decimal}, List.{AllByRecursion, flat_map, list_all}}
+use Rattle.auction_rows.specs.{Book.{Book, worker_of}, declared.rows.Row.{Row}}
 use Rattle.auction_rows.specs.declared.rows.Row.TheVariants.{Item, Bid, Comment, Buy}
-use Rattle.auction_rows.specs.Book.{Book, worker_of}
-use Rattle.auction_text.specs.Fields.{is_printing}
-use Rattle.auction_text.specs.Replies.{lines}
+use Rattle.auction_text.specs.{Fields.{is_printing}, Replies.{lines}}
 use Rattle.auction_text.specs.RowLines.{byte_in_quotes, offer_text, quoted, row_line, row_text, rows_text, terms_text}
 use Rattle.byte_texts.specs.Labels.{labelled, labelled_id}
-use Rattle.log_opening.specs.CutRows.{begins_row, has_at, has_digit_at, is_cut_row}
-use Rattle.log_opening.specs.ReadBack.{IsInRange, IsWritten}
-use Rattle.log_opening.specs.Lines.{AreWholeLines}
 use Rattle.log_opening.proofs.PrefixLemmas.{line_first, row_prints}
-use Rattle.log_opening.proofs.RecoveryLemmas.{none_whole, take_past}
-use Rattle.log_opening.proofs.RowLineLemmas.{is_true_of}
+use Rattle.log_opening.proofs.{RecoveryLemmas.{none_whole, take_past}, RowLineLemmas.{is_true_of}}
+use Rattle.log_opening.specs.CutRows.{begins_row, has_at, has_digit_at, is_cut_row}
+use Rattle.log_opening.specs.{Lines.{AreWholeLines}, ReadBack.{IsInRange, IsWritten}}
 
 -- a text has at most so many bytes
 record Few (xs : List ℕ) (n : ℕ) : Type 0 where

@@ -1,8 +1,7 @@
 -- The rows that a log accepts while an auction goes on.
 use Rattle.std.specs.Prelude.{ℕ, ◌++◌, List, [], ◌∷◌, drop, flat_map, fold, length}
+use Rattle.auction_rows.specs.{Book.{Book}, History.{ReplaysFrom, book_after}}
 use Rattle.auction_rows.specs.declared.{values.Opening.Opening, requests.Opened.Opened, rows.Entry.Entry}
-use Rattle.auction_rows.specs.Book.{Book}
-use Rattle.auction_rows.specs.History.{ReplaysFrom, book_after}
 use Rattle.item_shards.specs.OpeningRows.{opening_rows}
 use Rattle.auction_text.specs.RowLines.{rows_text}
 

@@ -1,7 +1,6 @@
 -- What a crash can leave of a row that was being written.
+use Rattle.std.specs.{Char.{is_ascii_digit}, List.{list_all}}
 use Rattle.std.specs.Prelude.{ℕ, Bool, ◌==◌, ◌&&◌, ◌||◌, List, length, nat_le, slice_index}
-use Rattle.std.specs.Char.{is_ascii_digit}
-use Rattle.std.specs.List.{list_all}
 use Rattle.auction_text.specs.Fields.{is_printing}
 use Rattle.log_opening.specs.declared.tails.TheConstants.{LONGEST_ROW}
 

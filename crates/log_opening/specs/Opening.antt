@@ -1,28 +1,20 @@
 -- What the text of a log opens, and why it is refused.
-use Rattle.std.specs.Prelude.{◌≡◌, ◌≤◌, ◌<◌, ◌+◌, ◌++◌, ℕ, true, false, List, [], All, Option, Ok, Err, IfSome, drop, length, take}
 use Rattle.std.specs.Io.KnownBytes.{Appends}
-use Rattle.auction_rows.specs.declared.values.Opening.{Opening}
-use Rattle.auction_rows.specs.Book.{Book}
-use Rattle.auction_rows.specs.History.{IsBook}
-use Rattle.phase_floor.specs.Adding.{IsStartOf}
-use Rattle.phase_floor.specs.declared.adding.AddFault.{AddFault}
+use Rattle.std.specs.Prelude.{◌≡◌, ◌≤◌, ◌<◌, ◌+◌, ◌++◌, ℕ, true, false, List, [], All, Option, Ok, Err, IfSome, drop, length, take}
+use Rattle.auction_rows.specs.{Book.{Book}, History.{IsBook}, declared.values.Opening.{Opening}}
+use Rattle.phase_floor.specs.{Adding.{IsStartOf}, declared.adding.AddFault.{AddFault}}
 use Rattle.phase_floor.specs.declared.adding.AddFault.TheVariants as add
-use Rattle.auction_text.specs.Reading.{IsInputFault}
-use Rattle.auction_text.specs.RowLines.{rows_text}
+use Rattle.auction_text.specs.{ReadFault.{ReadFault}, Reading.{IsInputFault}, RowLines.{rows_text}}
 use Rattle.auction_text.specs.Scripts.{Asked, input_of}
-use Rattle.auction_text.specs.ReadFault.{ReadFault}
 use Rattle.auction_text.specs.ReadFault.TheVariants as read
 use Rattle.byte_texts.specs.Writing.{IsPartWritten}
-use Rattle.log_opening.specs.CutRows.{is_cut_row}
-use Rattle.log_opening.specs.Differences.{IsFirstDifference}
+use Rattle.log_opening.specs.{CutRows.{is_cut_row}, Differences.{IsFirstDifference}}
 use Rattle.log_opening.specs.Lines.{AreLines, AreWholeLines, line_at}
 use Rattle.log_opening.specs.Parts.{AreRowsFrom, HasNoEnd, IsFirstRefused, rows_from}
-use Rattle.log_opening.specs.ReadBack.{IsWritten}
-use Rattle.log_opening.specs.declared.opening.LoggedAuction.{LoggedAuction}
-use Rattle.log_opening.specs.declared.opening.OpenFault.{OpenFault}
-use Rattle.log_opening.specs.declared.opening.OpenFault.TheVariants as fault
-use Rattle.log_opening.specs.declared.parts.TheConstants.{PART_LEN}
+use Rattle.log_opening.specs.{ReadBack.{IsWritten}, declared.opening.LoggedAuction.{LoggedAuction}}
+use Rattle.log_opening.specs.declared.{opening.OpenFault.{OpenFault}, parts.TheConstants.{PART_LEN}}
 use Rattle.log_opening.specs.declared.tails.TheConstants.{LONGEST_ROW}
+use Rattle.log_opening.specs.declared.opening.OpenFault.TheVariants as fault
 
 -- ---- what a text opens
 

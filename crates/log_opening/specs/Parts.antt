@@ -1,13 +1,10 @@
 -- Rows that are added to an auction while the text of a log is read.
 use Rattle.std.specs.Prelude.{◌≡◌, ◌≢◌, ◌≤◌, ◌<◌, ◌++◌, ℕ, true, List, ◌∷◌, All, Some, fold, length, slice_index, take}
 use Rattle.phase_laws.specs.Replay.{Replays}
+use Rattle.auction_rows.specs.{Book.{Book}, Refusals.{refusal}, Requests.{is_view}}
 use Rattle.auction_rows.specs.declared.{values.Opening.Opening, requests.Opened.Opened}
-use Rattle.auction_rows.specs.Book.{Book}
-use Rattle.auction_rows.specs.Refusals.{refusal}
-use Rattle.auction_rows.specs.Requests.{is_view}
 use Rattle.item_shards.specs.OpeningRows.{IsRow, rows_by, with_opened}
-use Rattle.phase_floor.specs.Adding.{IsStartOf}
-use Rattle.phase_floor.specs.States.{JoinedState}
+use Rattle.phase_floor.specs.{Adding.{IsStartOf}, States.{JoinedState}}
 use Rattle.phase_floor.specs.declared.adding.AddFault.{AddFault}
 use Rattle.phase_floor.specs.declared.adding.AddFault.TheVariants as add
 use Rattle.log_opening.specs.ReadBack.{IsInRange}

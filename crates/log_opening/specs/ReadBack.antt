@@ -1,11 +1,9 @@
 -- The rows of a log, as they are read back.
-use Rattle.std.specs.Prelude.{◌<◌, ◌≤◌, ◌^◌, ℕ, [], map}
-use Rattle.std.specs.List.{range_with_len}
+use Rattle.std.specs.{List.{range_with_len}, Prelude.{◌<◌, ◌≤◌, ◌^◌, ℕ, [], map}}
+use Rattle.auction_rows.specs.{Book.{Book, worker_of}, Name.{IsName}}
 use Rattle.auction_rows.specs.declared.limits.TheConstants.{MOST_QUANTITY}
-use Rattle.auction_rows.specs.declared.rows.{ItemRow.ItemRow, BidRow.BidRow, CommentRow.CommentRow, BuyRow.BuyRow, Row.Row}
 use Rattle.auction_rows.specs.declared.rows.Row.TheVariants.{Item, Bid, Comment, Buy}
-use Rattle.auction_rows.specs.Book.{Book, worker_of}
-use Rattle.auction_rows.specs.Name.{IsName}
+use Rattle.auction_rows.specs.declared.rows.{ItemRow.ItemRow, BidRow.BidRow, CommentRow.CommentRow, BuyRow.BuyRow, Row.Row}
 use Rattle.item_shards.specs.OpeningRows.{opened_of}
 use Rattle.auction_text.specs.Scripts.{Asked}
 

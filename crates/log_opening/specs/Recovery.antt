@@ -1,10 +1,8 @@
 -- What a log opens of which a crash left a prefix.
 use Rattle.std.specs.Prelude.{◌≡◌, ◌≤◌, ℕ, [], Ok, length, take}
-use Rattle.auction_rows.specs.declared.values.Opening.{Opening}
-use Rattle.auction_rows.specs.Book.{Book}
+use Rattle.auction_rows.specs.{Book.{Book}, declared.values.Opening.{Opening}}
 use Rattle.item_shards.specs.OpeningRows.{AreRows, opening_rows}
-use Rattle.auction_text.specs.RowLines.{rows_text}
-use Rattle.auction_text.specs.Scripts.{input_of}
+use Rattle.auction_text.specs.{RowLines.{rows_text}, Scripts.{input_of}}
 use Rattle.log_opening.specs.ReadBack.{book_asked}
 
 -- The first n bytes of a book's text, of which so many are whole lines, open to the first rows of

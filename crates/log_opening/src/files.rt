@@ -3,8 +3,8 @@ ghost use Rattle.std.specs.Prelude.{◌≡◌, false, [], Some, IfErr, IfOk, IfS
 ghost use Rattle.auction_rows.specs.Book.{Book};
 ghost use Rattle.phase_floor.specs.Adding.{IsSameAuction, IsStartOf};
 ghost use Rattle.auction_text.specs.RowLines.{rows_text};
-ghost use Rattle.log_opening.specs.inner.Files.{bytes_from};
 ghost use Rattle.log_opening.specs.Opening.{IsRefused, Opens, OpensWith, TellsFirst};
+ghost use Rattle.log_opening.specs.inner.Files.{bytes_from};
 
 use crate::opening::{LoggedAuction, OpenFault, open_parts};
 use byte_texts::UntilEnd;

@@ -1,25 +1,21 @@
 //! Laws of the text of a log: what a crash leaves of it opens, and its bytes are an auction's rows.
-ghost use Rattle.std.specs.Prelude.{◌≡◌, ◌≤◌, ◌<◌, ◌^◌, ◌++◌, All, ℕ, List, [], Ok, Option, Some, drop, length, take, true};
 ghost use Rattle.std.specs.Io.KnownBytes.{Appends};
+ghost use Rattle.std.specs.Prelude.{◌≡◌, ◌≤◌, ◌<◌, ◌^◌, ◌++◌, All, ℕ, List, [], Ok, Option, Some, drop, length, take, true};
+ghost use Rattle.auction_rows.specs.{Book.{Book}, History.{IsBook}};
 ghost use Rattle.auction_rows.specs.declared.limits.TheConstants.{MOST_WORKERS};
-ghost use Rattle.auction_rows.specs.declared.values.Opening.{Opening};
-ghost use Rattle.auction_rows.specs.declared.requests.Opened.{Opened};
+ghost use Rattle.auction_rows.specs.declared.{requests.Opened.{Opened}, values.Opening.{Opening}};
 ghost use Rattle.auction_rows.specs.declared.rows.Entry.{Entry as Commit};
-ghost use Rattle.auction_rows.specs.Book.{Book};
-ghost use Rattle.auction_rows.specs.History.{IsBook};
 ghost use Rattle.item_shards.specs.Counting.{worker_of};
 ghost use Rattle.item_shards.specs.OpeningRows.{AreRows, opening_rows, rows_by};
-ghost use Rattle.auction_text.specs.RowLines.{rows_text};
+ghost use Rattle.auction_text.specs.{InputLimits.{MOST_RECORDS}, RowLines.{rows_text}};
 ghost use Rattle.auction_text.specs.Scripts.{input_of};
-ghost use Rattle.auction_text.specs.InputLimits.{MOST_RECORDS};
 ghost use Rattle.log_opening.specs.Accepted.{GoOnFrom, added_rows, book_past_all};
-ghost use Rattle.log_opening.specs.CutRows.{is_cut_row};
-ghost use Rattle.log_opening.specs.Lines.{AreWholeLines};
+ghost use Rattle.log_opening.specs.{CutRows.{is_cut_row}, Lines.{AreWholeLines}};
 ghost use Rattle.log_opening.specs.Opening.{IsForMemory, IsRefused, OpensWith};
-ghost use Rattle.log_opening.specs.declared.opening.LoggedAuction.{LoggedAuction};
-ghost use Rattle.log_opening.specs.declared.opening.OpenFault.{OpenFault};
 ghost use Rattle.log_opening.specs.ReadBack.{IsWritten, book_asked};
 ghost use Rattle.log_opening.specs.Recovery.{AreFirstOf, OpensTo};
+ghost use Rattle.log_opening.specs.declared.opening.LoggedAuction.{LoggedAuction};
+ghost use Rattle.log_opening.specs.declared.opening.OpenFault.{OpenFault};
 
 /// Rows are read back as they were printed: the text of a book's rows asks for these rows, and for
 /// nothing else.

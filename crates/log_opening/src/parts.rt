@@ -1,11 +1,10 @@
 //! How the text of a log is read part by part: each row is added to an auction as it is read, and
 //! then forgotten.
-ghost use Rattle.std.specs.Prelude.{◌≡◌, ◌≤◌, ◌<◌, ◌+◌, ◌^◌, ◌++◌, ◌∷◌, ℕ, true, List, [], length, vec_capacity, vec_len, take, IfErr, IfOk, IfSome, OnOk};
 ghost use Rattle.std.specs.Io.KnownBytes.{IsAtEnd};
+ghost use Rattle.std.specs.Prelude.{◌≡◌, ◌≤◌, ◌<◌, ◌+◌, ◌^◌, ◌++◌, ◌∷◌, ℕ, true, List, [], length, vec_capacity, vec_len, take, IfErr, IfOk, IfSome, OnOk};
 ghost use Rattle.auction_rows.specs.Book.{Book};
 ghost use Rattle.phase_floor.specs.Adding.{HasBook, IsSameAuction, IsStartOf};
-ghost use Rattle.log_opening.specs.CutRows.{is_cut_row};
-ghost use Rattle.log_opening.specs.Lines.{AreLines};
+ghost use Rattle.log_opening.specs.{CutRows.{is_cut_row}, Lines.{AreLines}};
 ghost use Rattle.log_opening.specs.Opening.{AreNotRows, IsRefused, IsRefusedIn, TellsFirst, counted_after};
 ghost use Rattle.log_opening.specs.Parts.{HasAdded, HasAddedFirst, HasNoEnd, IsFirstRefused};
 ghost use Rattle.log_opening.specs.ReadBack.{IsInRange};

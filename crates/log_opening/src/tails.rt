@@ -1,6 +1,5 @@
 //! Which bytes behind the last line of a log are a cut row.
-ghost use Rattle.std.specs.Prelude.{◌≡◌, length, nat_le};
-ghost use Rattle.std.specs.List.{list_all};
+ghost use Rattle.std.specs.{List.{list_all}, Prelude.{◌≡◌, length, nat_le}};
 ghost use Rattle.auction_text.specs.Fields.{is_printing};
 ghost use Rattle.log_opening.specs.CutRows.{begins_row, has_at, has_digit_at, is_cut_row};
 

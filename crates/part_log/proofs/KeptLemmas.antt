@@ -2,8 +2,7 @@
 use Rattle.std.proofs.Common.{◌≡◌, ◌∙◌, ◌+◌, ◌++◌, ◌==◌, ◌≤◌, ◌<◌, ◌∷◌, ℕ, zero, suc, Bool, true, false, List, [], Option, None, Some, IfSome, ap, arith, drop, le_of_eq, length, length-append, length-drop, refl, subst, sym, take}
 use Rattle.std.proofs.lemmas.Bool.{eq-eqb, eqb-true, ne_eqb}
 use Rattle.std.proofs.lemmas.List.{length-take-le, take-append-le, take-take, take_all}
-use Rattle.std.specs.Io.KnownBytes.{append_known, Appends}
-use Rattle.std.specs.Option.{option_map}
+use Rattle.std.specs.{Io.KnownBytes.{append_known, Appends}, Option.{option_map}}
 use Rattle.part_log.specs.Files.{HoldsSoMany, IsKeptIn, IsReadAt}
 
 pub cut_twice : (kept : ℕ) (known : Option (List ℕ)) → option_map (take kept) (option_map (take kept) known) ≡ option_map (take kept) known

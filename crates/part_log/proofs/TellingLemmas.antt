@@ -1,10 +1,8 @@
 -- What was put by, and what was written after it.
 use Rattle.std.proofs.Common.{arith, ◌≡◌, ◌==◌, ◌∷◌, ℕ, Bool, true, false, List, [], Option, Result, Ok, Err, IfErr, OnOk, length, take, refl, sym, ap, subst}
-use Rattle.std.proofs.lemmas.Bool.{eqb-true, false≢true}
-use Rattle.std.proofs.KnownBytes.{Appends-nil}
+use Rattle.std.proofs.{KnownBytes.{Appends-nil}, lemmas.Bool.{eqb-true, false≢true}}
 use Rattle.std.specs.Io.KnownBytes.{Appends}
-use Rattle.byte_texts.specs.Writing.{IsPartWritten}
-use Rattle.byte_texts.specs.declared.writing.WriteFault.{WriteFault}
+use Rattle.byte_texts.specs.{Writing.{IsPartWritten}, declared.writing.WriteFault.{WriteFault}}
 use Rattle.part_log.specs.Telling.{IsEndedBy, IsFoundBy, IsUnlogged}
 use Rattle.part_log.specs.declared.log.TellFault.{TellFault}
 use Rattle.part_log.specs.declared.log.TellFault.TheVariants as tell

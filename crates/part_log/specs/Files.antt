@@ -1,8 +1,7 @@
 -- How much of what a file holds a log has accepted, and what a start finds in it.
-use Rattle.std.specs.Prelude.{◌≡◌, ◌≤◌, ℕ, Bool, true, false, List, Option, IfSome, drop, length, take}
 use Rattle.std.specs.Io.KnownBytes.{append_known}
-use Rattle.part_log.specs.declared.log.LogFault.{LogFault}
-use Rattle.part_log.specs.declared.log.LogFault.TheVariants.{Write, Cut, Ended}
+use Rattle.std.specs.Prelude.{◌≡◌, ◌≤◌, ℕ, Bool, true, false, List, Option, IfSome, drop, length, take}
+use Rattle.part_log.specs.declared.log.LogFault.{TheVariants.{Write, Cut, Ended}, LogFault}
 
 -- the known bytes are so many at least
 abbrev pub HoldsSoMany : Option (List ℕ) → ℕ → Type 0

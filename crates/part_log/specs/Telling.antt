@@ -1,10 +1,9 @@
 -- What is put by before it is told.
-use Rattle.std.specs.Prelude.{◌≡◌, ◌⊎◌, ℕ, Bool, List, Option, Result, Ok, Err}
 use Rattle.std.specs.Io.KnownBytes.{Appends, Keeps}
+use Rattle.std.specs.Prelude.{◌≡◌, ◌⊎◌, ℕ, Bool, List, Option, Result, Ok, Err}
 use Rattle.byte_texts.specs.Writing.{IsPartWritten}
 use Rattle.byte_texts.specs.declared.writing.WriteFault.TheVariants as write
-use Rattle.part_log.specs.Files.{IsEndedAfter, IsFoundAfter}
-use Rattle.part_log.specs.declared.log.TellFault.{TellFault}
+use Rattle.part_log.specs.{Files.{IsEndedAfter, IsFoundAfter}, declared.log.TellFault.{TellFault}}
 use Rattle.part_log.specs.declared.log.TellFault.TheVariants.{Log, Write}
 
 -- the log has accepted the rows of a part, and a prefix of its text was written; or neither has

@@ -1,7 +1,6 @@
 //! Files that can be read at any place, added to at the end, and cut; and a log in such a file.
+ghost use Rattle.std.specs.{Io.KnownBytes.{append_known}, Option.{option_map}};
 ghost use Rattle.std.specs.Prelude.{◌≡◌, ◌==◌, ◌≤◌, ◌<◌, ℕ, Bool, true, false, List, Option, IsErr, OnOk, length, take, IfErr, IfOk, IfSome};
-ghost use Rattle.std.specs.Option.{option_map};
-ghost use Rattle.std.specs.Io.KnownBytes.{append_known};
 ghost use Rattle.std.specs.declared.io.Error.{Error};
 ghost use Rattle.part_log.specs.Files.{HoldsSoMany, IsReadAt};
 
@@ -66,8 +65,7 @@ pub struct FileLog<F: AppendFile + Drop> {
 }
 
 impl<F: AppendFile + Drop> Model for FileLog<F> {
-    ghost use Rattle.std.specs.Prelude.{◌≡◌, take};
-    ghost use Rattle.std.specs.Option.{option_map};
+    ghost use Rattle.std.specs.{Option.{option_map}, Prelude.{◌≡◌, take}};
     ghost use Rattle.part_log.specs.Files.{IsKeptIn, LogState};
 
     ghost Value = { LogState };

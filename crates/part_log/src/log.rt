@@ -1,6 +1,6 @@
 //! Where rows are put by before a part is told.
-ghost use Rattle.std.specs.Prelude.{◌≡◌, ◌≢◌, ℕ, Bool, true, false, List, [], Option, None, Err, IsErr, OnOk, IfErr};
 ghost use Rattle.std.specs.Io.KnownBytes.{Appends, Keeps};
+ghost use Rattle.std.specs.Prelude.{◌≡◌, ◌≢◌, ℕ, Bool, true, false, List, [], Option, None, Err, IsErr, OnOk, IfErr};
 ghost use Rattle.part_log.specs.Files.{IsEndedAfter, IsFoundAfter};
 ghost use Rattle.part_log.specs.Telling.{IsEndedBy, IsFoundBy, IsLoggedFirst, IsToldSoFar, IsUnlogged};
 

@@ -1,30 +1,23 @@
 -- What a phase begins with.
 use Rattle.std.proofs.Common.{◌≡◌, ◌+◌, ◌<◌, ◌≤◌, ℕ, zero, suc, Bool, true, false, IsTrue, Option, List, [], ◌∷◌, map, length, get_or, drop, refl, sym, ap, ◌∙◌, subst, arith}
-use Rattle.std.specs.Global.{Vec}
-use Rattle.std.proofs.lemmas.Bool.{false≢true}
-use Rattle.std.proofs.lemmas.List.{get_or-map}
+use Rattle.std.{proofs.lemmas.{Bool.{false≢true}, List.{get_or-map}}, specs.Global.{Vec}}
+use Rattle.auction_rows.specs.{Footprint.{is_hot}, declared.requests.Object.TheVariants.{Item}}
 use Rattle.auction_rows.specs.declared.{values.Opening.Opening, requests.Facts.Facts, requests.Object.Object}
-use Rattle.auction_rows.specs.declared.requests.Object.TheVariants.{Item}
-use Rattle.auction_rows.specs.Footprint.{is_hot}
-use Rattle.shard_boxes.specs.declared.limits.TheConstants.{MOST_COMMITS}
-use Rattle.shard_boxes.specs.Keys.{KeyState, SeatState, no_key, IsNewKey, AreNewKeys}
-use Rattle.shard_boxes.specs.States.{ShardState}
 use Rattle.shard_boxes.proofs.Each.{at_head}
-use Rattle.worker_slices.specs.declared.counters.Counters.{Counters}
+use Rattle.shard_boxes.specs.Keys.{KeyState, SeatState, no_key, IsNewKey, AreNewKeys}
+use Rattle.shard_boxes.specs.{States.{ShardState}, declared.limits.TheConstants.{MOST_COMMITS}}
+use Rattle.worker_slices.{proofs.Places.{stocks_of_rows}, specs.Slicing.{slices_of}}
+use Rattle.worker_slices.specs.{Stashes.{StashState}, declared.counters.Counters.{Counters}}
 use Rattle.worker_slices.specs.declared.slices.Hot.{Hot}
-use Rattle.worker_slices.specs.Slicing.{slices_of}
 use Rattle.phase_transactions.specs.Workers.{CanStart, HasStashRoom, IsEmptyIf, WorkerState, new_worker}
-use Rattle.worker_slices.specs.Stashes.{StashState}
-use Rattle.worker_slices.proofs.Places.{stocks_of_rows}
 use Rattle.closing_laws.specs.Standing.{counters_at}
-use Rattle.phase_floor.specs.declared.floor.BeginFault.TheVariants.{UnknownHot, TooLong, Memory}
-use Rattle.phase_floor.specs.declared.start.Kit.{Kit}
-use Rattle.phase_floor.specs.Begins.{IsTooLong, asked_in_all, empty_stash, HasRefusedJoined, HasRefusedSplit}
-use Rattle.phase_floor.specs.inner.Kits.{IsKit, AreKits, HaveStashRoom}
-use Rattle.phase_floor.specs.Floors.{FloorState, IsOpen, IsNewPermit, no_stash, stash_at}
-use Rattle.phase_floor.specs.States.{JoinedState, DoAllExist, states_of}
 use Rattle.phase_floor.proofs.HotItems.{objects_of_slices, hot_is_stored}
 use Rattle.phase_floor.proofs.StoredItems.{stored_before}
+use Rattle.phase_floor.specs.Begins.{IsTooLong, asked_in_all, empty_stash, HasRefusedJoined, HasRefusedSplit}
+use Rattle.phase_floor.specs.Floors.{FloorState, IsOpen, IsNewPermit, no_stash, stash_at}
+use Rattle.phase_floor.specs.States.{JoinedState, DoAllExist, states_of}
+use Rattle.phase_floor.specs.declared.floor.BeginFault.TheVariants.{UnknownHot, TooLong, Memory}
+use Rattle.phase_floor.specs.{declared.start.Kit.{Kit}, inner.Kits.{IsKit, AreKits, HaveStashRoom}}
 
 -- what is made of the next key, kit and stash is begun
 pub begun_next : (floor : FloorState) (workers w : ℕ) (quotas : List ℕ) (keys keys_left : List KeyState) (kits kits_left : List Kit) (stashes stashes_left : List StashState)

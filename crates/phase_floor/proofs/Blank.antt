@@ -1,14 +1,12 @@
 -- Shards in which nothing is stored.
 use Rattle.std.proofs.Common.{◌≡◌, ℕ, zero, suc, ◌+◌, ◌*◌, ◌<◌, ◌≤◌, List, [], length, map, replicate, refl, sym, ap, ◌∙◌, subst, arith, unsigned_abs}
-use Rattle.std.proofs.lemmas.Int.{ints}
-use Rattle.std.proofs.lemmas.List.{length-map}
-use Rattle.auction_rows.specs.declared.values.Opening.{Opening}
+use Rattle.std.proofs.lemmas.{Int.{ints}, List.{length-map}}
 use Rattle.auction_rows.specs.declared.requests.Object.TheVariants.{Item, User}
+use Rattle.auction_rows.specs.declared.values.Opening.{Opening}
+use Rattle.item_shards.{proofs.StandingLemmas.{blank_of_none}, specs.Values.{Value}}
 use Rattle.item_shards.specs.declared.shard.Shard.{Shard}
-use Rattle.item_shards.specs.Values.{Value}
-use Rattle.item_shards.proofs.StandingLemmas.{blank_of_none}
-use Rattle.shard_boxes.specs.declared.limits.TheConstants.{MOST_COMMITS, MOST_KEPT}
 use Rattle.shard_boxes.specs.States.{ShardState, state_of, state_at, IsInitial}
+use Rattle.shard_boxes.specs.declared.limits.TheConstants.{MOST_COMMITS, MOST_KEPT}
 use Rattle.worker_slices.specs.declared.counters.Counters.{Counters}
 use Rattle.phase_permits.specs.Replying.{CountsOf}
 use Rattle.phase_transactions.specs.Workers.{no_counters}

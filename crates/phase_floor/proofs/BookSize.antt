@@ -1,11 +1,10 @@
 -- A book for which counters stand has no more rows than these count.
 use Rattle.std.proofs.Common.{◌≡◌, ℕ, zero, suc, ◌+◌, ◌*◌, ◌<◌, ◌≤◌, ◌==◌, Bool, true, false, cond, [], ◌∷◌, length, refl, arith}
+use Rattle.std.proofs.lemmas.{Bool.{eqb-false}, List.Sums.{sum_by-append}}
 use Rattle.std.specs.List.{AllByRecursion}
-use Rattle.std.proofs.lemmas.Bool.{eqb-false}
-use Rattle.std.proofs.lemmas.List.Sums.{sum_by-append}
+use Rattle.auction_rows.specs.Book.{Book, item_rows, bid_rows, comment_rows, buy_rows, items_stored, bids_stored, comments_stored, buys_stored, worker_of}
 use Rattle.auction_rows.specs.declared.rows.Row.{Row}
 use Rattle.auction_rows.specs.declared.rows.Row.TheVariants as row
-use Rattle.auction_rows.specs.Book.{Book, item_rows, bid_rows, comment_rows, buy_rows, items_stored, bids_stored, comments_stored, buys_stored, worker_of}
 
 -- the rows of all kinds of a worker
 abbrev stored_in : Book → ℕ → ℕ

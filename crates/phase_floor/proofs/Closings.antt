@@ -1,21 +1,16 @@
 -- What the receipts, the boxes and the journals of a phase come to.
 use Rattle.std.proofs.Common.{◌≡◌, ℕ, suc, ◌+◌, ◌<◌, List, [], ◌∷◌, map, length, refl, sym, ap, ◌∙◌, subst, arith, ◌++◌, drop}
-use Rattle.std.proofs.Math.Seq.{drop-append_seam}
-use Rattle.std.specs.List.{AllByRecursion}
-use Rattle.std.proofs.lemmas.List.{append-nil, length-map}
-use Rattle.std.proofs.Math.ListN.{get_or-map}
+use Rattle.std.proofs.Math.{ListN.{get_or-map}, Seq.{drop-append_seam}}
+use Rattle.std.{proofs.lemmas.List.{append-nil, length-map}, specs.List.{AllByRecursion}}
 use Rattle.auction_rows.specs.declared.rows.Entry.{Entry}
 use Rattle.phase_laws.specs.Order.{IsAscending, part}
 use Rattle.worker_journals.specs.Journals.{JournalView, entry_number, entry_worker}
 use Rattle.worker_journals.specs.Merged.{AreByWorker, added, entries_of}
-use Rattle.shard_boxes.specs.Closed.{AreClosed, AreSpent, IsSpent}
-use Rattle.shard_boxes.specs.States.{ShardState}
+use Rattle.shard_boxes.specs.{Closed.{AreClosed, AreSpent, IsSpent}, States.{ShardState}}
 use Rattle.phase_transactions.specs.Workers.{WorkerState}
 use Rattle.closing_laws.specs.Phases.{receipt_at, no_receipt, key_of, journal_of, HasClosed}
-use Rattle.phase_floor.specs.Closings.{AreReceiptsOf, phase_of}
-use Rattle.phase_floor.specs.inner.Parts.{IsFinished}
-use Rattle.phase_floor.specs.Floors.{FloorState, IsOpen}
-use Rattle.phase_floor.proofs.Every.{at_place}
+use Rattle.phase_floor.{proofs.Every.{at_place}, specs.Closings.{AreReceiptsOf, phase_of}}
+use Rattle.phase_floor.specs.{Floors.{FloorState, IsOpen}, inner.Parts.{IsFinished}}
 
 -- to a list that stays nothing is added
 pub nothing_added : {X : Type 0} (xs : List X) → xs ≡ xs ++ added xs xs

@@ -1,21 +1,17 @@
 -- A phase in which nothing is hot: there is nothing to merge.
 use Rattle.std.proofs.Common.{◌≡◌, Bool, true, false, List, [], ◌∷◌, ◌++◌, map, fold, length, reverse, refl, sym, ap, ◌∙◌, arith}
+use Rattle.std.proofs.lemmas.List.{Sorted.{length_permutation}, nil_from_length}
 use Rattle.std.specs.List.{AllByRecursion, flat_map}
-use Rattle.std.proofs.lemmas.List.{nil_from_length}
-use Rattle.std.proofs.lemmas.List.Sorted.{length_permutation}
 use Rattle.auction_rows.specs.declared.{requests.Object.Object, rows.Entry.Entry}
 use Rattle.item_shards.specs.declared.shard.slices.Slice.{Slice}
 use Rattle.shard_boxes.specs.States.{ShardState}
-use Rattle.worker_slices.specs.declared.slices.Hot.{Hot}
-use Rattle.worker_slices.specs.Slicing.{stocks_of, slices_in}
+use Rattle.worker_slices.specs.{Slicing.{stocks_of, slices_in}, declared.slices.Hot.{Hot}}
 use Rattle.phase_transactions.specs.Workers.{IsEmptyIf, WorkerState}
-use Rattle.auction_shards.specs.Merging.{after_merge}
-use Rattle.auction_shards.specs.Shards.{at_start}
-use Rattle.closing_laws.specs.Merging.{slices_left}
-use Rattle.closing_laws.specs.Phases.{no_receipt}
+use Rattle.auction_shards.specs.{Merging.{after_merge}, Shards.{at_start}}
+use Rattle.closing_laws.specs.{Merging.{slices_left}, Phases.{no_receipt}}
 use Rattle.phase_floor.specs.Closings.{AreReceiptsOf, HasSettled, HasReconciled}
-use Rattle.phase_floor.specs.inner.Parts.{from_the_last, sliced_of, slices_kept}
 use Rattle.phase_floor.specs.Floors.{FloorState}
+use Rattle.phase_floor.specs.inner.Parts.{from_the_last, sliced_of, slices_kept}
 use Rattle.phase_laws.proofs.ListLemmas.{every_from}
 
 none_held : (slices : List (Object × Hot)) → stocks_of slices ≡ [] → slices_in slices ≡ []

@@ -1,30 +1,24 @@
 -- What is kept between phases is kept by a phase that closes.
 use Rattle.std.proofs.Common.{◌≡◌, ℕ, zero, suc, ◌*◌, ◌<◌, ◌≤◌, ◌==◌, Bool, true, false, cond, List, [], ◌∷◌, map, length, refl, sym, ap, ◌∙◌, subst, arith, unsigned_abs}
-use Rattle.std.proofs.lemmas.Bool.{eqb-true}
-use Rattle.std.proofs.lemmas.Int.{ints}
+use Rattle.std.proofs.{Math.ListN.{get_or-map}, lemmas.{Bool.{eqb-true}, Int.{ints}}}
 use Rattle.std.proofs.lemmas.List.{length-map}
-use Rattle.std.proofs.Math.ListN.{get_or-map}
-use Rattle.auction_rows.specs.declared.{values.Opening.Opening, requests.Object.Object, rows.Entry.Entry}
+use Rattle.auction_rows.specs.{Book.{Book}, History.{book_after}, Requests.{shard_of}}
 use Rattle.auction_rows.specs.declared.requests.Object.TheVariants.{Item, User}
-use Rattle.auction_rows.specs.Book.{Book}
-use Rattle.auction_rows.specs.History.{book_after}
-use Rattle.auction_rows.specs.Requests.{shard_of}
-use Rattle.item_shards.specs.declared.shard.Shard.{Shard}
-use Rattle.item_shards.specs.ShardContents.{kept}
-use Rattle.item_shards.specs.Values.{Value, blank, value}
+use Rattle.auction_rows.specs.declared.{values.Opening.Opening, requests.Object.Object, rows.Entry.Entry}
 use Rattle.item_shards.proofs.CountLemmas.{bids_at_most, comments_at_most, rating_at_most}
-use Rattle.shard_boxes.specs.declared.limits.TheConstants.{MOST_COMMITS, MOST_KEPT}
+use Rattle.item_shards.specs.{ShardContents.{kept}, Values.{Value, blank, value}}
+use Rattle.item_shards.specs.declared.shard.Shard.{Shard}
 use Rattle.shard_boxes.specs.States.{ShardState, state_of, state_at, IsWithin, AreInitial}
+use Rattle.shard_boxes.specs.declared.limits.TheConstants.{MOST_COMMITS, MOST_KEPT}
 use Rattle.worker_slices.specs.declared.counters.Counters.{Counters}
 use Rattle.phase_transactions.specs.Workers.{WorkerState}
+use Rattle.closing_laws.proofs.CommitLemmas.{book_left, stores_few, workers_go_on}
 use Rattle.closing_laws.specs.Phases.{HasClosed, receipt_at, counters_of}
 use Rattle.closing_laws.specs.Standing.{StandFor, AreOfWorkers, counters_at}
-use Rattle.closing_laws.proofs.CommitLemmas.{book_left, stores_few, workers_go_on}
-use Rattle.phase_floor.specs.Closings.{AreReceiptsOf, phase_of}
+use Rattle.phase_floor.{proofs.BookSize.{size_at_most}, specs.Closings.{AreReceiptsOf, phase_of}}
 use Rattle.phase_floor.specs.Floors.{FloorState, IsOpen}
-use Rattle.phase_floor.specs.inner.Rows.{AreReady}
 use Rattle.phase_floor.specs.States.{IsKept, IsWithinMost, AreWithinMost, AreOfABook}
-use Rattle.phase_floor.proofs.BookSize.{size_at_most}
+use Rattle.phase_floor.specs.inner.Rows.{AreReady}
 
 -- A shard keeps nothing of what lies elsewhere.
 

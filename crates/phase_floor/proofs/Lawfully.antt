@@ -1,17 +1,14 @@
 -- A phase of the floor closes lawfully, with the shards that it leaves.
 use Rattle.std.proofs.Common.{◌≡◌, List, map, fold, length, refl, sym, ap, subst, ◌∙◌}
-use Rattle.std.proofs.Math.ListN.{get_or-map}
-use Rattle.std.proofs.lemmas.List.{length-map}
-use Rattle.auction_rows.specs.declared.{requests.Object.Object, rows.Entry.Entry}
+use Rattle.std.proofs.{Math.ListN.{get_or-map}, lemmas.List.{length-map}}
 use Rattle.auction_rows.specs.Requests.{shard_of}
+use Rattle.auction_rows.specs.declared.{requests.Object.Object, rows.Entry.Entry}
 use Rattle.shard_boxes.specs.States.{ShardState, state_at, no_shard}
 use Rattle.phase_transactions.specs.Workers.{WorkerState}
 use Rattle.auction_shards.specs.Shards.{at_start}
-use Rattle.closing_laws.specs.Lawful.{ClosesLawfully}
-use Rattle.closing_laws.specs.Merging.{after_merge}
+use Rattle.closing_laws.proofs.{LawfulLemmas.{split_lawful}, MergeLemmas.{as_many}}
+use Rattle.closing_laws.specs.{Lawful.{ClosesLawfully}, Merging.{after_merge}}
 use Rattle.closing_laws.specs.Phases.{Phase, value_on}
-use Rattle.closing_laws.proofs.LawfulLemmas.{split_lawful}
-use Rattle.closing_laws.proofs.MergeLemmas.{as_many}
 use Rattle.phase_floor.specs.Closings.{HasReconciled, HasClosedLawfully, phase_of}
 use Rattle.phase_floor.specs.Floors.{FloorState}
 

@@ -2,35 +2,27 @@
 use Rattle.std.proofs.Common.{◌≡◌, ℕ, ◌+◌, ◌<◌, List, [], map, fold, length, sym, ap, ◌∙◌, subst, arith}
 use Rattle.std.specs.List.{AllByRecursion, flat_map}
 use Rattle.phase_laws.specs.Replay.{SawInTurn}
-use Rattle.auction_rows.specs.declared.{values.Opening.Opening, requests.Object.Object, rows.Entry.Entry}
 use Rattle.auction_rows.specs.History.{book_after}
-use Rattle.item_shards.specs.declared.shard.Shard.{Shard}
-use Rattle.item_shards.specs.declared.shard.slices.Slice.{Slice}
-use Rattle.shard_boxes.specs.Closed.{AreClosed}
-use Rattle.shard_boxes.specs.Keys.{KeyState}
-use Rattle.shard_boxes.specs.States.{ShardState, state_of}
+use Rattle.auction_rows.specs.declared.{values.Opening.Opening, requests.Object.Object, rows.Entry.Entry}
+use Rattle.item_shards.specs.declared.shard.{Shard.{Shard}, slices.Slice.{Slice}}
+use Rattle.shard_boxes.specs.{Closed.{AreClosed}, Keys.{KeyState}, States.{ShardState, state_of}}
+use Rattle.worker_journals.proofs.AddedLemmas.{added_ascends, added_parts}
 use Rattle.worker_journals.specs.Histories.{HistoryView, with_phase}
 use Rattle.worker_journals.specs.Journals.{JournalView, IsLawfulJournal}
 use Rattle.worker_journals.specs.Merged.{AreByWorker, added, entries_of}
-use Rattle.worker_journals.proofs.AddedLemmas.{added_ascends, added_parts}
-use Rattle.worker_slices.specs.declared.counters.Counters.{Counters}
+use Rattle.worker_slices.specs.{Stashes.{StashState}, declared.counters.Counters.{Counters}}
 use Rattle.worker_slices.specs.declared.slices.Hot.{Hot}
-use Rattle.worker_slices.specs.Stashes.{StashState}
 use Rattle.phase_transactions.specs.Workers.{WorkerState}
-use Rattle.auction_shards.specs.Merging.{CanMerge, after_merge}
-use Rattle.auction_shards.specs.Shards.{AreOfOne, at_start}
+use Rattle.auction_shards.specs.{Merging.{CanMerge, after_merge}, Shards.{AreOfOne, at_start}}
+use Rattle.closing_laws.proofs.{CommitLemmas.{commits_grow}, ReplayLemmas.{entries_replay}}
 use Rattle.closing_laws.specs.Phases.{HasClosed, counters_of, journal_of, receipt_at}
 use Rattle.closing_laws.specs.Standing.{StandFor, counters_at}
-use Rattle.closing_laws.proofs.CommitLemmas.{commits_grow}
-use Rattle.closing_laws.proofs.ReplayLemmas.{entries_replay}
-use Rattle.phase_floor.specs.Closings.{AreReceiptsOf, HasReconciled, Leaves, phase_of, stash_of}
-use Rattle.phase_floor.specs.inner.Parts.{AreKnown, ArePartsOf, IsFinished, from_the_last, sliced_of}
-use Rattle.phase_floor.specs.Floors.{FloorState, IsOpen}
-use Rattle.phase_floor.specs.States.{IsKept, joined_of}
 use Rattle.phase_floor.proofs.Closings.{finished, has_closed, in_order}
-use Rattle.phase_floor.proofs.Kept.{kept_after, counted}
-use Rattle.phase_floor.proofs.Lawfully.{reconciled_lawful}
+use Rattle.phase_floor.proofs.{Kept.{kept_after, counted}, Lawfully.{reconciled_lawful}}
 use Rattle.phase_floor.proofs.Reconciled.{order_of, all_once, given_one, given_known, given_can, as_many, ready, stand_after}
+use Rattle.phase_floor.specs.Closings.{AreReceiptsOf, HasReconciled, Leaves, phase_of, stash_of}
+use Rattle.phase_floor.specs.{Floors.{FloorState, IsOpen}, States.{IsKept, joined_of}}
+use Rattle.phase_floor.specs.inner.Parts.{AreKnown, ArePartsOf, IsFinished, from_the_last, sliced_of}
 
 -- what the parts of the receipts, the boxes and the history tell: the phase has reconciled
 module _ (initial : List ShardState) (workers : ℕ) (floor : FloorState) (is_open : IsOpen initial workers floor) (receipts : List WorkerState) (are : AreReceiptsOf floor receipts)

@@ -1,12 +1,9 @@
 -- A state for another run keeps what is kept between phases, and stands for the same books.
 use Rattle.std.proofs.Common.{◌≡◌, ℕ, suc, ◌≤◌, List, [], ◌∷◌, map, length, sym, subst, arith}
+use Rattle.std.proofs.{Math.ListN.{get_or-map}, lemmas.List.{length-map}}
 use Rattle.std.specs.List.{AllByRecursion}
-use Rattle.std.proofs.lemmas.List.{length-map}
-use Rattle.std.proofs.Math.ListN.{get_or-map}
-use Rattle.auction_rows.specs.declared.values.Opening.{Opening}
-use Rattle.auction_rows.specs.Book.{Book}
-use Rattle.shard_boxes.specs.declared.limits.TheConstants.{MOST_COMMITS}
-use Rattle.shard_boxes.specs.States.{ShardState}
+use Rattle.auction_rows.specs.{Book.{Book}, declared.values.Opening.{Opening}}
+use Rattle.shard_boxes.specs.{States.{ShardState}, declared.limits.TheConstants.{MOST_COMMITS}}
 use Rattle.worker_slices.specs.declared.counters.Counters.{Counters}
 use Rattle.phase_permits.specs.Replying.{CountsOf}
 use Rattle.closing_laws.specs.Standing.{StandFor, AreOfWorkers, counters_at, stores}

@@ -1,16 +1,13 @@
 -- The parts of receipts, with one receipt more.
 use Rattle.std.proofs.Common.{◌≡◌, Bool, true, false, List, [], ◌∷◌, ◌++◌, map, refl, ap, sym, ◌∙◌}
 use Rattle.auction_rows.specs.declared.requests.Object.{Object}
-use Rattle.shard_boxes.specs.Keys.{KeyState}
-use Rattle.shard_boxes.proofs.Each.{map_push}
+use Rattle.shard_boxes.{proofs.Each.{map_push}, specs.Keys.{KeyState}}
 use Rattle.worker_journals.specs.Journals.{JournalView}
-use Rattle.worker_slices.specs.declared.counters.Counters.{Counters}
+use Rattle.worker_slices.specs.{Stashes.{StashState}, declared.counters.Counters.{Counters}}
 use Rattle.worker_slices.specs.declared.slices.Hot.{Hot}
-use Rattle.worker_slices.specs.Stashes.{StashState}
 use Rattle.phase_transactions.specs.Workers.{WorkerState}
 use Rattle.closing_laws.specs.Phases.{key_of, journal_of, counters_of}
-use Rattle.phase_floor.specs.Closings.{stash_of}
-use Rattle.phase_floor.specs.inner.Parts.{ArePartsOf, sliced_of, slices_kept}
+use Rattle.phase_floor.specs.{Closings.{stash_of}, inner.Parts.{ArePartsOf, sliced_of, slices_kept}}
 
 -- what was there, with one more at the end
 more : {B : Type 0} (f : WorkerState → B) (receipts : List WorkerState) (receipt : WorkerState) (old new : List B) → new ≡ old ++ f receipt ∷ [] → old ≡ map f receipts → new ≡ map f (receipts ++ receipt ∷ [])

@@ -1,18 +1,15 @@
 -- Permits whose receipts a close takes.
 use Rattle.std.proofs.Common.{◌≡◌, ℕ, List, [], Option, Some, None, refl, sym, ap, ◌∙◌, subst}
 use Rattle.std.specs.Prelude.{IfSome, IfNone}
-use Rattle.auction_rows.specs.declared.{requests.Request.Request, replies.Reply.Reply}
 use Rattle.auction_rows.specs.Replies.{row_of}
+use Rattle.auction_rows.specs.declared.{requests.Request.Request, replies.Reply.Reply}
 use Rattle.item_shards.specs.Writing.{writes_if}
 use Rattle.shard_boxes.specs.States.{ShardState}
-use Rattle.worker_slices.specs.Slicing.{stocks_of}
-use Rattle.worker_slices.specs.Stashes.{StashState}
-use Rattle.worker_slices.proofs.Places.{stocks_of_rows}
-use Rattle.phase_transactions.specs.Workers.{with_first_unstashed, with_try, WorkerState}
+use Rattle.worker_slices.proofs.{Places.{stocks_of_rows}, StockLemmas.{stocks-acts}}
+use Rattle.worker_slices.specs.{Slicing.{stocks_of}, Stashes.{StashState}}
 use Rattle.phase_transactions.specs.Performing.{HasFailed, HasFailedFirst, HasPerformedFirst, HasDealtWith, HasCommitted}
-use Rattle.worker_slices.proofs.StockLemmas.{stocks-acts}
-use Rattle.phase_transactions.specs.declared.done.Done.{Done}
-use Rattle.phase_transactions.specs.declared.done.Done.TheVariants.{Committed, Stashed}
+use Rattle.phase_transactions.specs.Workers.{with_first_unstashed, with_try, WorkerState}
+use Rattle.phase_transactions.specs.declared.done.Done.{TheVariants.{Committed, Stashed}, Done}
 use Rattle.phase_transactions.specs.declared.done.PermitFault.{PermitFault}
 use Rattle.closing_laws.specs.Phases.{no_receipt}
 use Rattle.phase_floor.specs.Closings.{IsReceipt, AreReceiptsOf}

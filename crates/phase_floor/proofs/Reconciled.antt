@@ -1,36 +1,30 @@
 -- The slices of all workers, merged into the shards that the boxes of a split phase gave back.
 use Rattle.std.proofs.Common.{◌≡◌, ℕ, ◌<◌, List, [], ◌∷◌, map, fold, length, Option, refl, sym, ap, ◌∙◌, subst, arith}
-use Rattle.std.specs.List.{AllByRecursion, flat_map}
-use Rattle.std.specs.List.Sorted.{IsPermutation}
 use Rattle.std.proofs.lemmas.List.Elements.{All-from_recursion, recursion_from_All}
 use Rattle.std.proofs.lemmas.List.Sorted.{All-permutation, IsPermutation-refl, IsPermutation-append, IsPermutation-reverse}
-use Rattle.phase_laws.specs.Replay.{SawInTurn}
-use Rattle.phase_laws.proofs.ListLemmas.{all-append, every_from}
-use Rattle.auction_rows.specs.declared.{values.Opening.Opening, requests.Facts.Facts, requests.Object.Object, rows.Entry.Entry}
+use Rattle.std.specs.List.{Sorted.{IsPermutation}, AllByRecursion, flat_map}
+use Rattle.phase_laws.{proofs.ListLemmas.{all-append, every_from}, specs.Replay.{SawInTurn}}
+use Rattle.auction_rows.specs.{Book.{Book}, History.{book_after}}
 use Rattle.auction_rows.specs.declared.requests.Object.TheVariants.{Item, User, Category}
-use Rattle.auction_rows.specs.Book.{Book}
-use Rattle.auction_rows.specs.History.{book_after}
+use Rattle.auction_rows.specs.declared.{values.Opening.Opening, requests.Facts.Facts, requests.Object.Object, rows.Entry.Entry}
 use Rattle.item_shards.specs.declared.shard.slices.Slice.{Slice}
 use Rattle.shard_boxes.specs.States.{ShardState, state_at}
-use Rattle.worker_slices.specs.declared.slices.Hot.{Hot}
+use Rattle.shard_boxes.specs.declared.limits.TheConstants.{MOST_COMMITS}
 use Rattle.worker_slices.specs.Slicing.{hot_objects, stocks_of, slices_in, HaveAtMost}
+use Rattle.worker_slices.specs.declared.slices.Hot.{Hot}
 use Rattle.phase_transactions.specs.Workers.{WorkerState}
+use Rattle.closing_laws.proofs.{ReconcileLemmas.{reconciled_stand}, RoomLemmas.{merges_can_be_done}}
+use Rattle.closing_laws.specs.Merging.{slices_left}
 use Rattle.closing_laws.specs.Phases.{HasClosed, receipt_at, no_receipt, counters_of}
 use Rattle.closing_laws.specs.Standing.{StandFor}
+use Rattle.closing_laws.proofs.MergeLemmas.{as_many as as_many_merged}
 use Rattle.auction_shards.specs.Merging.{after_merge, CanMerge}
 use Rattle.auction_shards.specs.Shards.{AreOfOne, IsKnown, at_start, opening_in}
-use Rattle.closing_laws.specs.Merging.{slices_left}
-use Rattle.closing_laws.proofs.MergeLemmas.{as_many as as_many_merged}
-use Rattle.closing_laws.proofs.ReconcileLemmas.{reconciled_stand}
-use Rattle.closing_laws.proofs.RoomLemmas.{merges_can_be_done}
-use Rattle.shard_boxes.specs.declared.limits.TheConstants.{MOST_COMMITS}
-use Rattle.phase_floor.specs.Closings.{AreReceiptsOf, phase_of}
-use Rattle.phase_floor.specs.inner.Parts.{AreKnown, sliced_of, from_the_last}
-use Rattle.phase_floor.specs.Floors.{FloorState, IsOpen}
-use Rattle.phase_floor.specs.inner.Rows.{AreReady}
-use Rattle.phase_floor.specs.States.{DoesExist, DoAllExist}
 use Rattle.phase_floor.proofs.Started.{same_length, started, start_stands}
 use Rattle.phase_floor.proofs.Turns.{one_after, opening_after}
+use Rattle.phase_floor.specs.{Closings.{AreReceiptsOf, phase_of}, Floors.{FloorState, IsOpen}}
+use Rattle.phase_floor.specs.States.{DoesExist, DoAllExist}
+use Rattle.phase_floor.specs.inner.{Parts.{AreKnown, sliced_of, from_the_last}, Rows.{AreReady}}
 
 -- the order in which they are merged
 abbrev pub order_of : List WorkerState → List (Object × Slice)

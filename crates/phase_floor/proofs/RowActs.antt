@@ -1,20 +1,15 @@
 -- Shards on which a row is written, or can be.
 use Rattle.std.proofs.Common.{◌≡◌, ℕ, ◌<◌, ◌^◌, true, List, [], ◌∷◌, ◌++◌, length, refl, sym, ap, ◌∙◌, subst, arith}
 use Rattle.std.specs.List.{AllByRecursion}
+use Rattle.auction_rows.{proofs.HistoryLemmas.{own_row}, specs.Book.{Book}}
+use Rattle.auction_rows.specs.{History.{GoOn, commit_of}, Requests.{shard_of}}
 use Rattle.auction_rows.specs.declared.{values.Opening.Opening, rows.Row.Row}
-use Rattle.auction_rows.specs.Book.{Book}
-use Rattle.auction_rows.specs.History.{GoOn, commit_of}
-use Rattle.auction_rows.specs.Requests.{shard_of}
-use Rattle.auction_rows.proofs.HistoryLemmas.{own_row}
-use Rattle.item_shards.specs.Acting.{CanActOn}
-use Rattle.item_shards.specs.Contents.{after_acts}
+use Rattle.item_shards.proofs.{CanActLemmas.{row_can_in}, StandingLemmas.{row_stands}}
+use Rattle.item_shards.specs.{Acting.{CanActOn}, Contents.{after_acts}}
 use Rattle.item_shards.specs.Writing.{writes_of, writes_if, is_done_on, done_on}
-use Rattle.item_shards.proofs.CanActLemmas.{row_can_in}
-use Rattle.item_shards.proofs.StandingLemmas.{row_stands}
 use Rattle.shard_boxes.specs.States.{ShardState, state_at}
-use Rattle.auction_shards.specs.Shards.{ShardsStandFor}
+use Rattle.auction_shards.{proofs.Acts.{numbered_next}, specs.Shards.{ShardsStandFor}}
 use Rattle.auction_shards.specs.Writing.{CanWriteOn, HaveDone}
-use Rattle.auction_shards.proofs.Acts.{numbered_next}
 use Rattle.phase_floor.specs.inner.Rows.{AreReady}
 
 module _ (opening : Opening) (old new : List ShardState) (r : Row) (ready : AreReady opening old) where

@@ -1,37 +1,30 @@
 -- One row more on shards and counters that are kept between phases.
 use Rattle.std.proofs.Common.{◌≡◌, ℕ, All, ◌+◌, ◌<◌, ◌≤◌, ◌^◌, ◌==◌, Bool, true, false, cond, List, [], ◌∷◌, ◌++◌, Option, None, Some, ◌&&◌, not, is_some, is_none, get_or, map, length, set, refl, sym, ap, subst, ◌∙◌, arith, eq-eqb}
 use Rattle.std.proofs.lemmas.Bool.{eqb-true, false≢true}
-use Rattle.std.proofs.lemmas.Option.{none-some}
-use Rattle.std.proofs.lemmas.List.Elements.{All-from_recursion, recursion_from_All}
 use Rattle.std.proofs.lemmas.List.{get_or_read, get_or-set_same, get_or-set_other, length-set}
+use Rattle.std.proofs.lemmas.List.Elements.{All-from_recursion, recursion_from_All}
+use Rattle.std.proofs.lemmas.Option.{none-some}
 use Rattle.phase_laws.proofs.ListLemmas.{all-append}
+use Rattle.auction_rows.{proofs.HistoryLemmas.{longer_book}, specs.Book.{Book}}
+use Rattle.auction_rows.specs.{History.{IsBook, GoOn}, Replies.{row_of}, Requests.{is_view}}
 use Rattle.auction_rows.specs.declared.{values.Opening.Opening, requests.Request.Request, replies.Refusal.Refusal, replies.Reply.Reply, rows.Row.Row}
-use Rattle.auction_rows.specs.Book.{Book}
 use Rattle.auction_rows.specs.declared.requests.Request.TheVariants as request
 use Rattle.auction_rows.specs.declared.rows.Row.TheVariants as row
-use Rattle.auction_rows.specs.History.{IsBook, GoOn}
-use Rattle.auction_rows.specs.Replies.{row_of}
-use Rattle.auction_rows.specs.Requests.{is_view}
-use Rattle.auction_rows.proofs.HistoryLemmas.{longer_book}
-use Rattle.item_shards.specs.declared.serial.StoreCounts.{StoreCounts}
-use Rattle.item_shards.specs.declared.shard.Shard.{Shard}
-use Rattle.item_shards.specs.Counting.{worker_of, stored_by, counted}
-use Rattle.item_shards.specs.Writing.{writes_of}
 use Rattle.item_shards.proofs.SerialLemmas.{stored_next}
-use Rattle.shard_boxes.specs.declared.limits.TheConstants.{MOST_COMMITS}
+use Rattle.item_shards.specs.{Counting.{worker_of, stored_by, counted}, Writing.{writes_of}}
+use Rattle.item_shards.specs.declared.{serial.StoreCounts.{StoreCounts}, shard.Shard.{Shard}}
 use Rattle.shard_boxes.specs.States.{ShardState, state_of}
+use Rattle.shard_boxes.specs.declared.limits.TheConstants.{MOST_COMMITS}
 use Rattle.auction_shards.specs.Writing.{CanWriteOn, HaveDone}
 use Rattle.worker_slices.specs.declared.counters.Counters.{Counters}
 use Rattle.phase_permits.specs.Replying.{CountsOf}
 use Rattle.phase_transactions.specs.Workers.{no_counters}
 use Rattle.closing_laws.specs.Standing.{StandFor, AreCountersOf, AreOfWorkers, counters_at, stores}
-use Rattle.phase_floor.specs.Adding.{KeepsBooks, with_counted}
-use Rattle.phase_floor.specs.inner.Rows.{CanTake, AreReady, HaveRoom}
-use Rattle.phase_floor.specs.Resuming.{with_row}
-use Rattle.phase_floor.specs.States.{JoinedState, AreOfABook, AreWithinMost, IsBookOf, IsKept, IsWithinMost, joined_of, states_of}
-use Rattle.phase_floor.proofs.BookSize.{size_at_most}
-use Rattle.phase_floor.proofs.Kept.{are_opened}
+use Rattle.phase_floor.proofs.{BookSize.{size_at_most}, Kept.{are_opened}}
 use Rattle.phase_floor.proofs.RowActs.{can_write, ready_next, stand_next}
+use Rattle.phase_floor.specs.{Adding.{KeepsBooks, with_counted}, Resuming.{with_row}}
+use Rattle.phase_floor.specs.States.{JoinedState, AreOfABook, AreWithinMost, IsBookOf, IsKept, IsWithinMost, joined_of, states_of}
+use Rattle.phase_floor.specs.inner.Rows.{CanTake, AreReady, HaveRoom}
 
 -- ---- counters
 

@@ -1,8 +1,7 @@
 -- The shards of a closed phase, with their clocks at 0.
 use Rattle.std.proofs.Common.{◌≡◌, ℕ, ◌<◌, List, [], map, length, sym, ap, ◌∙◌, arith}
 use Rattle.std.proofs.lemmas.List.{length-map, get_or-map}
-use Rattle.auction_rows.specs.Book.{Book}
-use Rattle.auction_rows.specs.Requests.{shard_of}
+use Rattle.auction_rows.specs.{Book.{Book}, Requests.{shard_of}}
 use Rattle.shard_boxes.specs.States.{ShardState, state_at, no_shard}
 use Rattle.worker_slices.specs.declared.counters.Counters.{Counters}
 use Rattle.closing_laws.specs.Standing.{StandFor}

@@ -1,20 +1,15 @@
 -- The items that are stored, between two phases.
 use Rattle.std.proofs.Common.{◌≡◌, ℕ, ◌-◌, ◌<◌, ◌≤◌, List, [], Option, None, length, refl, sym, ap, ◌∙◌, subst, arith}
+use Rattle.std.proofs.{Math.Nat.{lt_of_not-le}, lemmas.{Bool.{false≢true}, Nat.{mod_below}}}
 use Rattle.std.specs.Prelude.{IsSome, is_some, option_map}
-use Rattle.std.proofs.Math.Nat.{lt_of_not-le}
-use Rattle.std.proofs.lemmas.Bool.{false≢true}
-use Rattle.std.proofs.lemmas.Nat.{mod_below}
-use Rattle.auction_rows.specs.declared.{values.Opening.Opening, requests.ItemId.ItemId, requests.Facts.Facts}
+use Rattle.auction_rows.{proofs.FreshIdLemmas.{ids_of_book}, specs.Book.{Book, facts_of, bought}}
+use Rattle.auction_rows.specs.{History.{IsBook}, Requests.{number_of, shard_of}}
 use Rattle.auction_rows.specs.declared.requests.Object.TheVariants.{Item}
-use Rattle.auction_rows.specs.Book.{Book, facts_of, bought}
-use Rattle.auction_rows.specs.History.{IsBook}
-use Rattle.auction_rows.specs.Requests.{number_of, shard_of}
-use Rattle.auction_rows.proofs.FreshIdLemmas.{ids_of_book}
+use Rattle.auction_rows.specs.declared.{values.Opening.Opening, requests.ItemId.ItemId, requests.Facts.Facts}
 use Rattle.item_shards.specs.Values.{value, stock}
 use Rattle.shard_boxes.specs.States.{ShardState}
 use Rattle.worker_slices.specs.declared.counters.Counters.{Counters}
-use Rattle.closing_laws.specs.Phases.{value_on}
-use Rattle.closing_laws.specs.Standing.{StandFor, counters_at}
+use Rattle.closing_laws.specs.{Phases.{value_on}, Standing.{StandFor, counters_at}}
 use Rattle.phase_floor.specs.States.{IsKept}
 
 -- what is not stored has no stock

@@ -1,17 +1,15 @@
 -- Slices that are merged one after the other.
 use Rattle.std.proofs.Common.{◌≡◌, ◌+◌, ◌<◌, List, [], ◌∷◌, ◌++◌, fold, length, reverse, refl, sym, ap, ◌∙◌, subst, arith}
+use Rattle.std.proofs.lemmas.List.{Sums.{fold-append}, reverse-append, length-append, length-map}
 use Rattle.std.specs.List.{AllByRecursion}
-use Rattle.std.proofs.lemmas.List.{reverse-append, length-append, length-map}
-use Rattle.std.proofs.lemmas.List.Sums.{fold-append}
 use Rattle.phase_laws.specs.Replay.{SawInTurn}
 use Rattle.auction_rows.specs.declared.{values.Opening.Opening, requests.Object.Object}
 use Rattle.item_shards.specs.declared.shard.slices.Slice.{Slice}
 use Rattle.shard_boxes.specs.States.{ShardState}
-use Rattle.worker_slices.specs.declared.slices.Hot.{Hot}
-use Rattle.worker_slices.specs.Slicing.{slices_in}
+use Rattle.worker_slices.specs.{Slicing.{slices_in}, declared.slices.Hot.{Hot}}
+use Rattle.auction_shards.proofs.Merges.{still_of_one, one_opening}
 use Rattle.auction_shards.specs.Merging.{after_merge, CanMerge}
 use Rattle.auction_shards.specs.Shards.{AreOfOne, IsKnown, opening_in}
-use Rattle.auction_shards.proofs.Merges.{still_of_one, one_opening}
 use Rattle.phase_floor.specs.inner.Parts.{AreKnown, from_the_last}
 
 saw_split : {D S : Type 0} (P : S → D → Type 0) (step : S → D → S) (xs ys : List D) (s : S) → SawInTurn P step s (xs ++ ys) → SawInTurn P step s xs × SawInTurn P step (fold step s xs) ys

@@ -1,7 +1,7 @@
 -- Rows that are added to a state.
 use Rattle.std.specs.Prelude.{◌≡◌, ◌<◌, ◌≤◌, ℕ, List, length, slice_set}
-use Rattle.auction_rows.specs.declared.{requests.Opened.Opened, rows.Row.Row}
 use Rattle.auction_rows.specs.Book.{Book, worker_of}
+use Rattle.auction_rows.specs.declared.{requests.Opened.Opened, rows.Row.Row}
 use Rattle.worker_slices.specs.declared.counters.Counters.{Counters}
 use Rattle.closing_laws.specs.Standing.{counters_at}
 use Rattle.phase_floor.specs.Resuming.{counters_in, with_row}

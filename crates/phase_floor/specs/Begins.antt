@@ -1,17 +1,16 @@
 -- When a phase begins, and when it does not.
-use Rattle.std.specs.Prelude.{◌≡◌, ◌+◌, ◌<◌, ◌^◌, ◌↔◌, ℕ, List, [], length, map, slice_index}
 use Rattle.std.specs.Global.{Vec}
+use Rattle.std.specs.Prelude.{◌≡◌, ◌+◌, ◌<◌, ◌^◌, ◌↔◌, ℕ, List, [], length, map, slice_index}
 use Rattle.auction_rows.specs.declared.requests.Object.{Object}
 use Rattle.shard_boxes.specs.States.{ShardState}
+use Rattle.worker_slices.specs.{Slicing.{hot_objects}, Stashes.{StashState}}
 use Rattle.worker_slices.specs.declared.counters.Counters.{Counters}
-use Rattle.worker_slices.specs.Slicing.{hot_objects}
 use Rattle.phase_transactions.specs.Workers.{WorkerState}
-use Rattle.worker_slices.specs.Stashes.{StashState}
 use Rattle.closing_laws.specs.Standing.{counters_at}
-use Rattle.phase_floor.specs.declared.floor.BeginFault.{BeginFault}
-use Rattle.phase_floor.specs.declared.floor.BeginFault.TheVariants.{UnknownHot, TooLong}
 use Rattle.phase_floor.specs.Floors.{FloorState, AreBegun, stash_at}
 use Rattle.phase_floor.specs.States.{JoinedState, DoAllExist, states_of}
+use Rattle.phase_floor.specs.declared.floor.BeginFault.{BeginFault}
+use Rattle.phase_floor.specs.declared.floor.BeginFault.TheVariants.{UnknownHot, TooLong}
 
 -- what a worker has committed, what waits, and its quota
 abbrev pub asked_in_all : List Counters → List StashState → List ℕ → ℕ → ℕ

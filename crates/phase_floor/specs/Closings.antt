@@ -1,24 +1,18 @@
 -- How a phase closes.
+use Rattle.std.specs.List.{Sorted.{IsPermutation}, AllByRecursion}
 use Rattle.std.specs.Prelude.{◌≡◌, ℕ, ◌+◌, ◌<◌, ◌≤◌, List, [], map, fold, length}
-use Rattle.std.specs.List.{AllByRecursion}
-use Rattle.std.specs.List.Sorted.{IsPermutation}
+use Rattle.auction_rows.specs.{Book.{Book}, History.{ReplaysFrom, book_after}}
 use Rattle.auction_rows.specs.declared.{requests.Object.Object, requests.Request.Request, rows.Entry.Entry}
-use Rattle.auction_rows.specs.Book.{Book}
-use Rattle.auction_rows.specs.History.{ReplaysFrom, book_after}
 use Rattle.item_shards.specs.declared.shard.slices.Slice.{Slice}
 use Rattle.shard_boxes.specs.States.{ShardState}
 use Rattle.worker_journals.specs.Journals.{IsJournalOf}
-use Rattle.worker_slices.specs.Slicing.{stocks_of}
-use Rattle.worker_slices.specs.Stashes.{StashState}
+use Rattle.worker_slices.specs.{Slicing.{stocks_of}, Stashes.{StashState}}
 use Rattle.phase_transactions.specs.Workers.{WorkerState}
+use Rattle.closing_laws.specs.{Lawful.{ClosesLawfully}, Merging.{slices_left}}
 use Rattle.closing_laws.specs.Phases.{Phase, HasClosed, receipt_at, journal_of, counters_of}
-use Rattle.closing_laws.specs.Lawful.{ClosesLawfully}
-use Rattle.auction_shards.specs.Merging.{after_merge}
-use Rattle.auction_shards.specs.Shards.{at_start}
-use Rattle.closing_laws.specs.Merging.{slices_left}
 use Rattle.closing_laws.specs.Standing.{StandFor, counters_at}
-use Rattle.phase_floor.specs.Floors.{FloorState}
-use Rattle.phase_floor.specs.States.{JoinedState, states_of, StandsFor}
+use Rattle.auction_shards.specs.{Merging.{after_merge}, Shards.{at_start}}
+use Rattle.phase_floor.specs.{Floors.{FloorState}, States.{JoinedState, states_of, StandsFor}}
 
 -- the worker's receipt of the phase: its key is to the phase's boxes, and it began with the floor's
 -- counters, at clock 0

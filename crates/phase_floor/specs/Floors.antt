@@ -1,17 +1,14 @@
 -- A phase that is open, and what it begins with.
-use Rattle.std.specs.Prelude.{◌≡◌, ℕ, ◌+◌, ◌<◌, ◌≤◌, ◌^◌, List, [], Option, length, slice_index, slice_index_or}
 use Rattle.std.specs.List.{AllByRecursion, IsDistinct}
-use Rattle.auction_rows.specs.declared.{values.Opening.Opening, requests.Facts.Facts, requests.Object.Object}
+use Rattle.std.specs.Prelude.{◌≡◌, ℕ, ◌+◌, ◌<◌, ◌≤◌, ◌^◌, List, [], Option, length, slice_index, slice_index_or}
 use Rattle.auction_rows.specs.Requests.{same_object}
-use Rattle.shard_boxes.specs.Keys.{BoxId, KeyState, IsNewKey}
-use Rattle.shard_boxes.specs.States.{ShardState}
+use Rattle.auction_rows.specs.declared.{values.Opening.Opening, requests.Facts.Facts, requests.Object.Object}
+use Rattle.shard_boxes.specs.{Keys.{BoxId, KeyState, IsNewKey}, States.{ShardState}}
 use Rattle.worker_journals.specs.Journals.{empty_journal}
+use Rattle.worker_slices.specs.{Slicing.{hot_objects, slices_of, IsStocked}, Stashes.{StashState}}
 use Rattle.worker_slices.specs.declared.counters.Counters.{Counters}
-use Rattle.worker_slices.specs.Slicing.{hot_objects, slices_of, IsStocked}
 use Rattle.phase_transactions.specs.Workers.{new_worker, WorkerState}
-use Rattle.worker_slices.specs.Stashes.{StashState}
-use Rattle.closing_laws.specs.Phases.{IsReadFrom}
-use Rattle.closing_laws.specs.Standing.{counters_at}
+use Rattle.closing_laws.specs.{Phases.{IsReadFrom}, Standing.{counters_at}}
 use Rattle.phase_floor.specs.States.{DoAllExist, IsKept}
 
 -- what is fixed of each hot object: of an item its facts and how many are left

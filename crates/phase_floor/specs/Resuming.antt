@@ -1,8 +1,8 @@
 -- The state that an auction is resumed with.
 use Rattle.std.specs.Prelude.{ℕ, ◌+◌}
+use Rattle.auction_rows.specs.Book.{Book, items_stored, bids_stored, comments_stored, buys_stored}
 use Rattle.auction_rows.specs.declared.rows.Row.{Row}
 use Rattle.auction_rows.specs.declared.rows.Row.TheVariants as row
-use Rattle.auction_rows.specs.Book.{Book, items_stored, bids_stored, comments_stored, buys_stored}
 use Rattle.item_shards.specs.OpeningRows.{rows_by}
 use Rattle.worker_slices.specs.declared.counters.Counters.{Counters}
 

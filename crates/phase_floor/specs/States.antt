@@ -1,15 +1,13 @@
 -- The state between two phases, and the books for which it stands.
-use Rattle.std.specs.Prelude.{ℕ, ◌<◌, ◌≤◌, List, [], All, IsSome, length, map}
 use Rattle.std.specs.List.{AllByRecursion}
+use Rattle.std.specs.Prelude.{ℕ, ◌<◌, ◌≤◌, List, [], All, IsSome, length, map}
+use Rattle.auction_rows.specs.{Book.{Book, worker_of}, History.{IsBook}}
 use Rattle.auction_rows.specs.declared.limits.TheConstants.{MOST_SHARDS, MOST_WORKERS}
-use Rattle.auction_rows.specs.declared.{values.Opening.Opening, requests.Object.Object}
 use Rattle.auction_rows.specs.declared.requests.Object.TheVariants.{Item, User, Category}
-use Rattle.auction_rows.specs.Book.{Book, worker_of}
-use Rattle.auction_rows.specs.History.{IsBook}
-use Rattle.item_shards.specs.declared.shard.Shard.{Shard}
-use Rattle.item_shards.specs.Values.{stock}
-use Rattle.shard_boxes.specs.declared.limits.TheConstants.{MOST_COMMITS}
+use Rattle.auction_rows.specs.declared.{values.Opening.Opening, requests.Object.Object}
+use Rattle.item_shards.specs.{Values.{stock}, declared.shard.Shard.{Shard}}
 use Rattle.shard_boxes.specs.States.{ShardState, state_of, AreInitial}
+use Rattle.shard_boxes.specs.declared.limits.TheConstants.{MOST_COMMITS}
 use Rattle.worker_slices.specs.declared.counters.Counters.{Counters}
 use Rattle.phase_transactions.specs.Performing.{HaveOpening}
 use Rattle.closing_laws.specs.Phases.{value_on}

@@ -1,19 +1,14 @@
 //! How a row is added to an auction between two phases. The auction keeps no rows: only an item
 //! takes memory.
 ghost use Rattle.std.specs.Prelude.{◌≡◌, ◌<◌, ◌≤◌, ◌++◌, ◌∷◌, [], ◌↔◌, None, Some, length, IfOk, OnOk, OnErr, IsErrOf, IsTrue, MatchOption, true, false};
-ghost use Rattle.auction_rows.specs.declared.replies.Refusal.{Refusal};
-ghost use Rattle.auction_rows.specs.Book.{Book};
-ghost use Rattle.auction_rows.specs.History.{GoOn};
-ghost use Rattle.auction_rows.specs.Refusals.{refusal};
-ghost use Rattle.auction_rows.specs.Replies.{answer, reply, row_of};
-ghost use Rattle.auction_rows.specs.Requests.{is_view};
-ghost use Rattle.auction_rows.specs.StoreReplies.{reply_of};
+ghost use Rattle.auction_rows.specs.{Book.{Book}, History.{GoOn}, Refusals.{refusal}};
+ghost use Rattle.auction_rows.specs.{Replies.{answer, reply, row_of}, Requests.{is_view}};
+ghost use Rattle.auction_rows.specs.{StoreReplies.{reply_of}, declared.replies.Refusal.{Refusal}};
 ghost use Rattle.item_shards.specs.OpeningRows.{IsRow, with_opened};
 ghost use Rattle.phase_permits.specs.Replying.{CountsOf};
 ghost use Rattle.closing_laws.specs.Standing.{counters_at};
 ghost use Rattle.phase_floor.specs.Adding.{HasBook, IsFull, IsOwn, IsSameAuction, IsStartOf, KeepsBooks, with_counted};
-ghost use Rattle.phase_floor.specs.inner.Rows.{CanTake};
-ghost use Rattle.phase_floor.specs.States.{IsBookOf, StandsFor};
+ghost use Rattle.phase_floor.specs.{States.{IsBookOf, StandsFor}, inner.Rows.{CanTake}};
 
 use crate::joined::Joined;
 use crate::resumption::count_row;

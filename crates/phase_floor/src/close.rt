@@ -1,16 +1,15 @@
 //! How a phase closes: its receipts and their parts; and the slices of all workers, merged into the
 //! shards.
+ghost use Rattle.std.specs.{List.{AllByRecursion, flat_map}, Option.{ForSome}};
 ghost use Rattle.std.specs.Prelude.{length, IfOk, OnOk, ◌≡◌, ◌≤◌, ◌<◌, ◌+◌, [], ◌∷◌, map, fold, ◌++◌, true, false, OnErr, vec_len, vec_capacity};
-ghost use Rattle.std.specs.List.{AllByRecursion, flat_map};
-ghost use Rattle.std.specs.Option.{ForSome};
 ghost use Rattle.phase_laws.specs.Replay.{SawInTurn};
 ghost use Rattle.worker_journals.specs.Merged.{added, merged};
 ghost use Rattle.shard_boxes.specs.States.{state_of};
 ghost use Rattle.auction_shards.specs.Merging.{CanMerge, after_merge};
 ghost use Rattle.auction_shards.specs.Shards.{AreOfOne, at_start};
 ghost use Rattle.phase_floor.specs.Closings.{AreOfScripts, AreReceiptsOf, HasSettled, HasReconciled, Leaves};
-ghost use Rattle.phase_floor.specs.inner.Parts.{ArePartsOf, IsFinished, AreKnown, from_the_last, slices_kept};
 ghost use Rattle.phase_floor.specs.States.{states_of};
+ghost use Rattle.phase_floor.specs.inner.Parts.{ArePartsOf, IsFinished, AreKnown, from_the_last, slices_kept};
 
 use crate::floor::{Floor, FloorFault};
 use crate::joined::Joined;

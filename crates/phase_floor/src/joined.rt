@@ -1,6 +1,6 @@
 //! The state between two phases, what it shows, and how it is made ready for another run.
-ghost use Rattle.std.specs.Prelude.{◌≡◌, [], is_some, IfSome, ℕ, ◌<◌, ◌≤◌, length, map};
 ghost use Rattle.std.specs.List.{AllByRecursion};
+ghost use Rattle.std.specs.Prelude.{◌≡◌, [], is_some, IfSome, ℕ, ◌<◌, ◌≤◌, length, map};
 ghost use Rattle.closing_laws.specs.Standing.{counters_at, stores};
 ghost use Rattle.phase_floor.specs.NextRun.{stores_as_commits};
 
@@ -26,8 +26,7 @@ pub struct Joined {
 }
 
 impl Model for Joined {
-    ghost use Rattle.std.specs.Prelude.{map};
-    ghost use Rattle.std.specs.Coded.{codes};
+    ghost use Rattle.std.specs.{Coded.{codes}, Prelude.{map}};
     ghost use Rattle.item_shards.specs.contracts.shard.Shard as shard;
     ghost use Rattle.shard_boxes.specs.States.{state_of};
     ghost use Rattle.phase_floor.specs.States.{JoinedState, joined_of, IsKept};
@@ -52,9 +51,7 @@ impl Joined {
 }
 
 impl Joined {
-    ghost use Rattle.auction_rows.specs.Book.{Book};
-    ghost use Rattle.auction_rows.specs.Replies.{reply};
-    ghost use Rattle.auction_rows.specs.Requests.{is_view};
+    ghost use Rattle.auction_rows.specs.{Book.{Book}, Replies.{reply}, Requests.{is_view}};
     ghost use Rattle.item_shards.specs.ShardContents.{LiesIn, opening, contents, ShardStandsFor};
     ghost use Rattle.closing_laws.specs.Phases.{value_on};
     ghost use Rattle.phase_floor.specs.States.{states_of, StandsFor};

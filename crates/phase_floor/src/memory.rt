@@ -1,6 +1,5 @@
 //! The memory that a phase leaves for the next.
-ghost use Rattle.std.specs.Prelude.{◌≡◌, [], IfOk};
-ghost use Rattle.std.specs.List.{AllByRecursion, IsDistinct};
+ghost use Rattle.std.specs.{List.{AllByRecursion, IsDistinct}, Prelude.{◌≡◌, [], IfOk}};
 ghost use Rattle.auction_rows.specs.Requests.{same_object};
 ghost use Rattle.worker_journals.specs.Journals.{empty_journal};
 ghost use Rattle.worker_slices.specs.Slicing.{hot_objects, slices_of, IsStocked};

@@ -4,8 +4,7 @@ ghost use Rattle.closing_laws.specs.Standing.{counters_at};
 ghost use Rattle.auction_rows.specs.Book.{worker_of};
 ghost use Rattle.item_shards.specs.OpeningBooks.{opening_of, rows_of_book};
 ghost use Rattle.phase_transactions.specs.Workers.{no_counters};
-ghost use Rattle.phase_floor.specs.States.{StandsFor, IsBookOf};
-ghost use Rattle.phase_floor.specs.Resuming.{counters_in, with_row};
+ghost use Rattle.phase_floor.specs.{Resuming.{counters_in, with_row}, States.{StandsFor, IsBookOf}};
 ghost use Rattle.phase_floor.specs.inner.Rows.{HaveRoom};
 
 use crate::joined::Joined;

@@ -1,14 +1,14 @@
 //! How a phase of either kind begins: how many requests it may perform, what its workers start it
 //! with, and the permits that are made of that.
-ghost use Rattle.std.specs.Prelude.{◌≡◌, ◌+◌, ◌<◌, [], length, IsTrue, ◌↔◌, ◌≤◌, ℕ, map, vec_len, IfOk, slice_index, vec_capacity, IfErr};
 ghost use Rattle.std.specs.List.{AllByRecursion, IsDistinct};
+ghost use Rattle.std.specs.Prelude.{◌≡◌, ◌+◌, ◌<◌, [], length, IsTrue, ◌↔◌, ◌≤◌, ℕ, map, vec_len, IfOk, slice_index, vec_capacity, IfErr};
 ghost use Rattle.auction_rows.specs.Requests.{same_object};
 ghost use Rattle.shard_boxes.specs.Keys.{AreNewKeys};
 ghost use Rattle.worker_slices.specs.Slicing.{hot_objects, IsStocked};
 ghost use Rattle.phase_transactions.specs.Workers.{IsEmptyIf};
 ghost use Rattle.phase_floor.specs.Begins.{IsTooLong, empty_stash, asked_in_all, CanBegin, OpensPhase};
-ghost use Rattle.phase_floor.specs.inner.Kits.{AreKits, CanBeGiven, HaveStashRoom};
 ghost use Rattle.phase_floor.specs.Floors.{stash_at, AreBegun};
+ghost use Rattle.phase_floor.specs.inner.Kits.{AreKits, CanBeGiven, HaveStashRoom};
 
 use crate::floor::Floor;
 use crate::joined::Joined;

@@ -1,20 +1,15 @@
 -- A commit keeps what a worker's work is.
 use Rattle.std.proofs.Common.{◌≡◌, ℕ, suc, max, Bool, true, false, cond, if◌then◌else◌, List, [], ◌∷◌, ◌++◌, map, Option, Some, None, option_to_list, refl, sym, ap, ◌∙◌, subst, append-nil}
-use Rattle.std.specs.List.{filter, cons_option}
-use Rattle.std.proofs.lemmas.List.{map-append}
-use Rattle.std.proofs.lemmas.List.Elements.{filter-append, filter_map-append}
-use Rattle.std.proofs.lemmas.List.Sums.{fold-append}
-use Rattle.phase_laws.proofs.OrderLemmas.{all_push}
+use Rattle.std.proofs.lemmas.List.{Elements.{filter-append, filter_map-append}, map-append}
+use Rattle.std.{proofs.lemmas.List.Sums.{fold-append}, specs.List.{filter, cons_option}}
+use Rattle.phase_laws.proofs.{NumberLemmas.{numbered_push, last-push}, OrderLemmas.{all_push}}
 use Rattle.phase_laws.proofs.ReplayLemmas.{saw_push}
-use Rattle.phase_laws.proofs.NumberLemmas.{numbered_push, last-push}
+use Rattle.auction_rows.specs.{Book.{Book}, History.{row_of_entry, rows_of}}
 use Rattle.auction_rows.specs.declared.{requests.Facts.Facts, requests.Object.Object, rows.Row.Row, rows.Entry.Entry}
-use Rattle.auction_rows.specs.Book.{Book}
-use Rattle.auction_rows.specs.History.{row_of_entry, rows_of}
 use Rattle.item_shards.specs.Writing.{writes_if}
-use Rattle.worker_slices.specs.Slicing.{slices_of, slices_after_acts}
+use Rattle.worker_slices.{proofs.RowSlices.{row_more}, specs.Slicing.{slices_of, slices_after_acts}}
 use Rattle.phase_transactions.specs.Txns.{Setting, Txn, entry_of, txn_number, greatest_clock, takes, line_on, IsAnswered, after_txn}
 use Rattle.phase_transactions.specs.Works.{Work, Explains, IsWorkOf, IsCommitOf, with_txn}
-use Rattle.worker_slices.proofs.RowSlices.{row_more}
 
 -- the lines of the transactions that take a shard, with one transaction more
 one_line : {X Y : Type 0} (p : X → Bool) (f : X → Y) (xs : List X) (x : X) (b : Bool) → p x ≡ b

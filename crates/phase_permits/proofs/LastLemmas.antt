@@ -1,14 +1,12 @@
 -- The reply of the last commit.
 use Rattle.std.proofs.Common.{◌≡◌, ◌∙◌, ◌+◌, ◌-◌, ◌<◌, ◌++◌, ℕ, List, [], ◌∷◌, Some, length, refl, ap, sym, subst, arith}
-use Rattle.std.specs.Prelude.{option_map, slice_get}
-use Rattle.std.proofs.lemmas.List.{length-append}
+use Rattle.std.proofs.{Math.Seq.{get_or-append_seam}, lemmas.List.{length-append}}
 use Rattle.std.proofs.lemmas.Option.{same_Some, slice_get_read}
-use Rattle.std.proofs.Math.Seq.{get_or-append_seam}
+use Rattle.std.specs.Prelude.{option_map, slice_get}
 use Rattle.auction_rows.specs.declared.{requests.Request.Request, replies.Reply.Reply, rows.Entry.Entry}
 use Rattle.worker_journals.specs.Journals.{commit_in}
 use Rattle.shard_boxes.specs.States.{ShardState}
-use Rattle.phase_transactions.specs.Performing.{HasCommitted}
-use Rattle.phase_transactions.specs.Workers.{WorkerState, last_reply}
+use Rattle.phase_transactions.specs.{Performing.{HasCommitted}, Workers.{WorkerState, last_reply}}
 
 -- the last of a list that has one more at its end
 at_end : {A : Type 0} (xs : List A) (x : A) → slice_get (xs ++ x ∷ []) (length (xs ++ x ∷ []) - 1) ≡ Some x

@@ -1,23 +1,15 @@
 -- A look of a transaction at a cold object is true of the object's shard, which the transaction took.
 use Rattle.std.proofs.Common.{◌≡◌, ℕ, ◌==◌, Bool, true, false, cond, not, List, [], ◌∷◌, ◌++◌, map, filter, Option, Some, None, refl, ap, subst, ◌∙◌, eq-eqb}
+use Rattle.std.{proofs.lemmas.Bool.{or_left}, specs.{List.{list_any}, Option.{option_map_or}}}
 use Rattle.std.specs.Prelude.{is_some}
-use Rattle.std.specs.List.{list_any}
-use Rattle.std.specs.Option.{option_map_or}
-use Rattle.std.proofs.lemmas.Bool.{or_left}
 use Rattle.phase_laws.specs.Replay.{SawInTurn}
+use Rattle.auction_rows.specs.{Book.{Book}, Footprint.{is_hot, objects_of}, History.{row_of_entry}}
+use Rattle.auction_rows.specs.{Refusals.{number_refusal}, Requests.{shard_of}}
 use Rattle.auction_rows.specs.declared.{requests.Object.Object, replies.Refusal.Refusal}
-use Rattle.auction_rows.specs.Book.{Book}
-use Rattle.auction_rows.specs.Footprint.{is_hot, objects_of}
-use Rattle.auction_rows.specs.History.{row_of_entry}
-use Rattle.auction_rows.specs.Refusals.{number_refusal}
-use Rattle.auction_rows.specs.Requests.{shard_of}
-use Rattle.item_shards.specs.Events.{Event, Look}
-use Rattle.item_shards.specs.Shown.{Shown}
-use Rattle.item_shards.specs.Looking.{IsTrueOf, IsTrueAct}
-use Rattle.item_shards.specs.Contents.{Contents, target, after_act}
-use Rattle.item_shards.specs.Values.{value}
-use Rattle.item_shards.specs.Writing.{looks_of, writes_if, is_cold_in, is_done_on, padded}
 use Rattle.item_shards.proofs.StandingLemmas.{cold_here}
+use Rattle.item_shards.specs.{Contents.{Contents, target, after_act}, Events.{Event, Look}}
+use Rattle.item_shards.specs.{Looking.{IsTrueOf, IsTrueAct}, Shown.{Shown}, Values.{value}}
+use Rattle.item_shards.specs.Writing.{looks_of, writes_if, is_cold_in, is_done_on, padded}
 use Rattle.phase_transactions.specs.Txns.{Setting, Txn, hot_of, takes}
 use Rattle.phase_permits.specs.Replying.{SawTrue, StoodFor}
 

@@ -1,23 +1,21 @@
 -- What a permit does with a request leaves it explained by its transactions.
 use Rattle.std.proofs.Common.{◌≡◌, ℕ, Bool, true, false, List, [], ◌∷◌, length, Result, Ok, Err, refl, sym, ap, subst, ◌∙◌}
 use Rattle.std.proofs.lemmas.Bool.{false≢true}
-use Rattle.auction_rows.specs.declared.{requests.Object.Object, requests.Request.Request, replies.Reply.Reply}
+use Rattle.auction_rows.specs.{History.{rows_of}, Replies.{row_of}}
 use Rattle.auction_rows.specs.declared.requests.Request.TheVariants.{StoreItem, StoreBid, StoreComment, BuyNow, ViewItem, ViewBids, ViewCategory, ViewUser}
-use Rattle.auction_rows.specs.History.{rows_of}
-use Rattle.auction_rows.specs.Replies.{row_of}
+use Rattle.auction_rows.specs.declared.{requests.Object.Object, requests.Request.Request, replies.Reply.Reply}
 use Rattle.item_shards.specs.Events.{Event, AddItem, ListItem, Bid, Comment, Buy, Look}
 use Rattle.item_shards.specs.Writing.{writes_if}
 use Rattle.shard_boxes.specs.States.{ShardState}
-use Rattle.phase_transactions.specs.declared.done.PermitFault.{PermitFault}
-use Rattle.worker_slices.specs.declared.slices.Hot.{Hot}
 use Rattle.phase_transactions.specs.Performing.{HasCommitted, HasFailed, HasPerformed}
-use Rattle.worker_slices.specs.Slicing.{hot_objects, stocks_of, slices_of, slices_after_acts}
 use Rattle.phase_transactions.specs.Txns.{Setting, is_put_off}
 use Rattle.phase_transactions.specs.Workers.{WorkerState, IsEmptyIf, CanStart, IsExplained, setting_of, txn_of, work_of, after_putting_off, with_first_unstashed, with_try}
-use Rattle.phase_permits.specs.inner.Permits.{IsPermit}
 use Rattle.phase_transactions.specs.Works.{Work, IsWorkOf, with_txn}
+use Rattle.phase_transactions.specs.declared.done.PermitFault.{PermitFault}
 use Rattle.worker_slices.proofs.StockLemmas.{stocks-acts}
-use Rattle.phase_permits.proofs.Keeping.{commit_keeps}
+use Rattle.worker_slices.specs.Slicing.{hot_objects, stocks_of, slices_of, slices_after_acts}
+use Rattle.worker_slices.specs.declared.slices.Hot.{Hot}
+use Rattle.phase_permits.{proofs.Keeping.{commit_keeps}, specs.inner.Permits.{IsPermit}}
 
 -- a worker that starts has done nothing
 pub start_explained : (shards : ℕ) (w : WorkerState) → CanStart w → w.begun ≡ (w.counters, w.clock) → IsExplained shards w

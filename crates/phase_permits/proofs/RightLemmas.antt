@@ -1,42 +1,32 @@
 -- A commit's reply is the model's, whichever request it is of.
 use Rattle.std.proofs.Common.{◌≡◌, ℕ, ◌-◌, ◌==◌, Bool, true, false, cond, List, [], ◌∷◌, ◌++◌, length, Option, Some, None, MatchOption, option_map, option_and_then, unwrap_or, refl, sym, ap, subst, ◌∙◌, arith, take, length-append}
-use Rattle.std.specs.List.{list_any}
-use Rattle.std.specs.Option.{option_or}
-use Rattle.std.proofs.lemmas.Option.{same_Some}
-use Rattle.std.proofs.Math.Seq.{take-append_seam}
-use Rattle.auction_rows.specs.declared.{values.Opening.Opening, values.Stars.Stars, requests.ItemId.ItemId, requests.Facts.Facts, requests.Object.Object, requests.Request.Request, replies.Refusal.Refusal, replies.Reply.Reply}
+use Rattle.std.proofs.{Math.Seq.{take-append_seam}, lemmas.Option.{same_Some}}
+use Rattle.std.specs.{List.{list_any}, Option.{option_or}}
+use Rattle.auction_rows.{proofs.RefusalLemmas.{refusal-split}, specs.Book.{Book, facts_of, left}}
+use Rattle.auction_rows.specs.{Footprint.{is_hot, objects_of}, History.{IsRight, row_of_entry}}
+use Rattle.auction_rows.specs.Refusals.{number_refusal, item_refusal, refusal}
+use Rattle.auction_rows.specs.{Replies.{answer_unless, answer, reply}, Requests.{item_of, shard_of}}
+use Rattle.auction_rows.specs.declared.replies.Reply.TheVariants.{ItemStored, BidStored, CommentStored, Bought, Refused}
 use Rattle.auction_rows.specs.declared.requests.Object.TheVariants.{Item, User, Category}
 use Rattle.auction_rows.specs.declared.requests.Request.TheVariants.{StoreItem, StoreBid, StoreComment, BuyNow, ViewItem, ViewBids, ViewCategory, ViewUser}
-use Rattle.auction_rows.specs.declared.replies.Reply.TheVariants.{ItemStored, BidStored, CommentStored, Bought, Refused}
-use Rattle.auction_rows.specs.Book.{Book, facts_of, left}
-use Rattle.auction_rows.specs.Footprint.{is_hot, objects_of}
-use Rattle.auction_rows.specs.History.{IsRight, row_of_entry}
-use Rattle.auction_rows.specs.Refusals.{number_refusal, item_refusal, refusal}
-use Rattle.auction_rows.specs.Replies.{answer_unless, answer, reply}
-use Rattle.auction_rows.specs.Requests.{item_of, shard_of}
-use Rattle.auction_rows.proofs.RefusalLemmas.{refusal-split}
-use Rattle.item_shards.specs.Events.{Event, Look}
-use Rattle.item_shards.specs.Shown.{Shown}
-use Rattle.item_shards.specs.Shown as shown
-use Rattle.item_shards.specs.Looking.{IsTrueOf}
-use Rattle.item_shards.specs.Contents.{Contents, target}
-use Rattle.item_shards.specs.Standing.{ContentsStandsFor}
+use Rattle.auction_rows.specs.declared.{values.Opening.Opening, values.Stars.Stars, requests.ItemId.ItemId, requests.Facts.Facts, requests.Object.Object, requests.Request.Request, replies.Refusal.Refusal, replies.Reply.Reply}
+use Rattle.item_shards.proofs.AnswerLemmas.{item_reply, bids_reply, category_reply_is, user_reply_is, stock_is}
+use Rattle.item_shards.specs.{Contents.{Contents, target}, Events.{Event, Look}, Looking.{IsTrueOf}}
+use Rattle.item_shards.specs.{Shown.{Shown}, Standing.{ContentsStandsFor}}
 use Rattle.item_shards.specs.Values.{Value, value, stock, stock_in, stock_for}
 use Rattle.item_shards.specs.Views.{item_view, bids_view, category_view, user_view}
 use Rattle.item_shards.specs.Writing.{looks_of, writes_if}
-use Rattle.item_shards.proofs.AnswerLemmas.{item_reply, bids_reply, category_reply_is, user_reply_is, stock_is}
+use Rattle.item_shards.specs.Shown as shown
 use Rattle.shard_boxes.specs.Lines.{Line, acts_in, after_lines, AreTrueOf}
 use Rattle.shard_boxes.specs.States.{ShardState, state_at}
-use Rattle.worker_slices.specs.declared.counters.Counters.{Counters}
-use Rattle.phase_transactions.specs.Txns.{Setting, Txn, hot_of, takes, line_on, stock_seen, refusal_by, IsAnswered, ReadSet}
-use Rattle.worker_slices.specs.Slicing.{stock_of}
-use Rattle.phase_transactions.specs.Performing.{HasCommitted, HasCommittedSome, HasPerformedFirstSome, asks}
-use Rattle.phase_permits.specs.Replying.{CountsOf, SawTrue, StoodFor, HasFixed, IsModelReply, IsModelReplyToFirst, lines_found}
-use Rattle.phase_transactions.specs.Workers.{WorkerState, last_reply, setting_of, txn_of, with_first_unstashed}
+use Rattle.worker_slices.specs.{Slicing.{stock_of}, declared.counters.Counters.{Counters}}
 use Rattle.phase_transactions.proofs.HomeLemmas.{no_other, same_objects_of}
-use Rattle.phase_permits.proofs.LastLemmas.{as_read}
+use Rattle.phase_transactions.specs.Performing.{HasCommitted, HasCommittedSome, HasPerformedFirstSome, asks}
+use Rattle.phase_transactions.specs.Txns.{Setting, Txn, hot_of, takes, line_on, stock_seen, refusal_by, IsAnswered, ReadSet}
+use Rattle.phase_transactions.specs.Workers.{WorkerState, last_reply, setting_of, txn_of, with_first_unstashed}
+use Rattle.phase_permits.proofs.{LastLemmas.{as_read}, LookLemmas.{look_true, value_there}}
 use Rattle.phase_permits.proofs.UntouchedLemmas.{took_asked}
-use Rattle.phase_permits.proofs.LookLemmas.{look_true, value_there}
+use Rattle.phase_permits.specs.Replying.{CountsOf, SawTrue, StoodFor, HasFixed, IsModelReply, IsModelReplyToFirst, lines_found}
 
 -- a reply that is the answer, or the refusal
 answered_by : (refused : Option Refusal) (given mine theirs : Reply) → MatchOption refused (given ≡ mine) (λ reason. given ≡ Refused reason) → mine ≡ theirs → given ≡ answer_unless refused theirs

@@ -2,13 +2,12 @@
 use Rattle.std.proofs.Common.{◌≡◌, ℕ, ◌+◌, ◌<◌, List, [], ◌∷◌, ◌++◌, Some, None, length, take, drop, refl, sym, ap, subst, ◌∙◌, arith}
 use Rattle.std.specs.Prelude.{slice_get}
 use Rattle.auction_rows.specs.declared.requests.Request.{Request}
-use Rattle.shard_boxes.specs.Keys.{KeyState, seat_at}
-use Rattle.shard_boxes.specs.States.{ShardState}
+use Rattle.shard_boxes.specs.{Keys.{KeyState, seat_at}, States.{ShardState}}
+use Rattle.phase_transactions.specs.Performing.{HasCommitted, HasCommittedSome, HasFailed, HasFailedFirst, HasPerformedFirstSome, IsCause}
+use Rattle.phase_transactions.specs.Putting.{HasSameLines}
+use Rattle.phase_transactions.specs.Workers.{WorkerState, IsIdle, with_first_unstashed, with_try}
 use Rattle.phase_transactions.specs.declared.done.PermitFault.{PermitFault}
 use Rattle.phase_transactions.specs.declared.done.PermitFault.TheVariants.{Memory, NumberFull}
-use Rattle.phase_transactions.specs.Putting.{HasSameLines}
-use Rattle.phase_transactions.specs.Performing.{HasCommitted, HasCommittedSome, HasFailed, HasFailedFirst, HasPerformedFirstSome, IsCause}
-use Rattle.phase_transactions.specs.Workers.{WorkerState, IsIdle, with_first_unstashed, with_try}
 
 -- where there is no first, there is none
 pub no_first : {A : Type 0} (items : List A) → None ≡ slice_get items 0 → items ≡ []

@@ -1,20 +1,15 @@
 -- A request that takes no shard leaves the key as it was.
 use Rattle.std.proofs.Common.{◌≡◌, ℕ, ◌==◌, not, cond, List, [], length, map, filter, Option, Some, None, is_some, MatchOption, Result, Ok, Err, refl, ap, ◌∙◌}
-use Rattle.std.specs.List.{list_any}
-use Rattle.std.specs.Option.{option_or}
-use Rattle.std.proofs.lemmas.List.{ext_get_or}
-use Rattle.auction_rows.specs.declared.{requests.Request.Request, replies.Refusal.Refusal, replies.Reply.Reply}
+use Rattle.std.{proofs.lemmas.List.{ext_get_or}, specs.{List.{list_any}, Option.{option_or}}}
+use Rattle.auction_rows.specs.{Footprint.{is_hot, objects_of, footprint}, Refusals.{number_refusal}}
+use Rattle.auction_rows.specs.{Requests.{shard_of}, declared.replies.Reply.TheVariants.{Refused}}
 use Rattle.auction_rows.specs.declared.requests.Request.TheVariants.{StoreItem}
-use Rattle.auction_rows.specs.declared.replies.Reply.TheVariants.{Refused}
-use Rattle.auction_rows.specs.Footprint.{is_hot, objects_of, footprint}
-use Rattle.auction_rows.specs.Refusals.{number_refusal}
-use Rattle.auction_rows.specs.Requests.{shard_of}
-use Rattle.shard_boxes.specs.Keys.{KeyState, no_seat, seat_at}
-use Rattle.shard_boxes.specs.States.{ShardState}
-use Rattle.phase_transactions.specs.Txns.{hot_of, IsAnswered, ReadSet}
-use Rattle.phase_transactions.specs.declared.done.PermitFault.{PermitFault}
+use Rattle.auction_rows.specs.declared.{requests.Request.Request, replies.Refusal.Refusal, replies.Reply.Reply}
+use Rattle.shard_boxes.specs.{Keys.{KeyState, no_seat, seat_at}, States.{ShardState}}
 use Rattle.phase_transactions.specs.Performing.{HasCommitted, HasFailed, HasPerformed, IsUntouched, shards_asked}
+use Rattle.phase_transactions.specs.Txns.{hot_of, IsAnswered, ReadSet}
 use Rattle.phase_transactions.specs.Workers.{WorkerState, setting_of, txn_of}
+use Rattle.phase_transactions.specs.declared.done.PermitFault.{PermitFault}
 
 -- a commit with an empty footprint leaves the key, and so does a failure
 same_key : (old new : KeyState) → new.boxes ≡ old.boxes → new.worker ≡ old.worker → length new.seats ≡ length old.seats → ((shard : ℕ) → seat_at new shard ≡ seat_at old shard) → new ≡ old

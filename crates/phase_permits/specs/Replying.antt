@@ -1,24 +1,18 @@
 -- What a commit saw, and the books for which its reply is the model's.
 use Rattle.std.specs.Prelude.{◌≡◌, ◌-◌, ℕ, true, List, length, take, slice_get, Option, Some, ⊤}
-use Rattle.auction_rows.specs.declared.{requests.ItemId.ItemId, requests.Facts.Facts, requests.Object.Object, requests.Request.Request, replies.Reply.Reply}
-use Rattle.auction_rows.specs.declared.requests.Object.TheVariants.{Item}
 use Rattle.auction_rows.specs.Book.{Book, items_stored, bids_stored, comments_stored, buys_stored}
-use Rattle.auction_rows.specs.Footprint.{is_hot}
-use Rattle.auction_rows.specs.Replies.{reply}
-use Rattle.item_shards.specs.Contents.{Contents}
-use Rattle.item_shards.specs.Values.{stock_in}
-use Rattle.item_shards.specs.Standing.{ContentsStandsFor}
+use Rattle.auction_rows.specs.{Footprint.{is_hot}, Replies.{reply}}
+use Rattle.auction_rows.specs.declared.requests.Object.TheVariants.{Item}
+use Rattle.auction_rows.specs.declared.{requests.ItemId.ItemId, requests.Facts.Facts, requests.Object.Object, requests.Request.Request, replies.Reply.Reply}
+use Rattle.item_shards.specs.{Contents.{Contents}, Standing.{ContentsStandsFor}, Values.{stock_in}}
 use Rattle.shard_boxes.specs.Keys.{KeyState, seen_at}
 use Rattle.shard_boxes.specs.Lines.{Line, acts_in, after_lines, AreTrueOf}
 use Rattle.shard_boxes.specs.States.{ShardState, state_at}
-use Rattle.worker_slices.specs.declared.slices.Hot.{Hot}
-use Rattle.phase_transactions.specs.declared.done.Done.{Done}
-use Rattle.phase_transactions.specs.declared.done.Done.TheVariants.{Committed, Stashed}
-use Rattle.worker_slices.specs.declared.counters.Counters.{Counters}
-use Rattle.phase_transactions.specs.Performing.{asks}
 use Rattle.worker_slices.specs.Slicing.{hot_objects, stocks_of, stock_of}
-use Rattle.phase_transactions.specs.Txns.{Setting, Txn, hot_of, takes, line_on}
-use Rattle.phase_transactions.specs.Workers.{WorkerState}
+use Rattle.worker_slices.specs.declared.{counters.Counters.{Counters}, slices.Hot.{Hot}}
+use Rattle.phase_transactions.specs.{Performing.{asks}, Txns.{Setting, Txn, hot_of, takes, line_on}}
+use Rattle.phase_transactions.specs.{Workers.{WorkerState}, declared.done.Done.{Done}}
+use Rattle.phase_transactions.specs.declared.done.Done.TheVariants.{Committed, Stashed}
 
 -- the worker's counters are those of a book
 pub record CountsOf (book : Book) (worker : ℕ) (counters : Counters) : Type 0 where

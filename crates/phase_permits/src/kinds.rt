@@ -39,8 +39,8 @@ impl Kind for SplitPhase {
 
 impl<N: PhaseName> Permit<N, JoinedPhase> {
     ghost use Rattle.phase_transactions.specs.Performing.{HasCommitted, HasFailed, HasFailedFirst, HasPerformedFirst, HaveOpening};
-    ghost use Rattle.phase_permits.specs.Replying.{IsModelReply, IsModelReplyToFirst};
     ghost use Rattle.phase_transactions.specs.Workers.{CanStart, new_worker, with_try};
+    ghost use Rattle.phase_permits.specs.Replying.{IsModelReply, IsModelReplyToFirst};
 
     /// A permit to perform so many requests. It takes no memory.
     pub fn new(
@@ -121,13 +121,12 @@ impl<N: PhaseName> Permit<N, JoinedPhase> {
 impl<N: PhaseName> Permit<N, SplitPhase> {
     ghost use Rattle.auction_rows.specs.declared.requests.Object.TheVariants.{Item, User};
     ghost use Rattle.auction_rows.specs.declared.requests.Request.TheVariants.{StoreBid, StoreComment};
-    ghost use Rattle.phase_transactions.specs.declared.done.Done.TheVariants.{Stashed};
-    ghost use Rattle.worker_slices.specs.Homes.{IsHotStore};
     ghost use Rattle.phase_transactions.specs.Performing.{IsUntouched, HasCommitted, HasDealtWith, HasFailed, HaveOpening};
-    ghost use Rattle.phase_permits.specs.Replying.{IfCommitted, IsModelReply};
-    ghost use Rattle.worker_slices.specs.Slicing.{hot_objects};
     ghost use Rattle.phase_transactions.specs.Txns.{is_put_off};
     ghost use Rattle.phase_transactions.specs.Workers.{CanStart, IsHot, new_worker, with_try};
+    ghost use Rattle.phase_transactions.specs.declared.done.Done.TheVariants.{Stashed};
+    ghost use Rattle.worker_slices.specs.{Homes.{IsHotStore}, Slicing.{hot_objects}};
+    ghost use Rattle.phase_permits.specs.Replying.{IfCommitted, IsModelReply};
 
     /// A permit to perform so many requests. It takes no memory.
     pub fn new(

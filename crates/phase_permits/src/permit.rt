@@ -70,9 +70,9 @@ impl<N: PhaseName, K: Kind> Model for Receipt<N, K> {
 impl<N: PhaseName, K: Kind> Permit<N, K> {
     ghost use Rattle.auction_rows.specs.Footprint.{is_hot};
     ghost use Rattle.phase_transactions.specs.Performing.{HasDealt, HasFailed, HasFailedFirst, HasPerformedFirstSome, HaveOpening, IsUntouched};
+    ghost use Rattle.phase_transactions.specs.Txns.{is_put_off};
     ghost use Rattle.request_scripts.specs.Scripts.{request_of};
     ghost use Rattle.worker_slices.specs.Slicing.{hot_objects};
-    ghost use Rattle.phase_transactions.specs.Txns.{is_put_off};
 
     /// A permit with what its worker starts a phase with. It takes no memory.
     pub fn from_start(start: WorkerStart<N>) -> Permit<N, K>

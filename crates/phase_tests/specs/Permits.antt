@@ -1,9 +1,7 @@
 -- Permits and keys that these tests make by hand.
 use Rattle.std.specs.Prelude.{◌≡◌, ℕ, List}
-use Rattle.shard_boxes.specs.Keys.{BoxId, KeyState}
-use Rattle.shard_boxes.specs.States.{ShardState}
-use Rattle.phase_transactions.specs.Performing.{HaveOpening}
-use Rattle.phase_transactions.specs.Workers.{WorkerState, IsIdle}
+use Rattle.shard_boxes.specs.{Keys.{BoxId, KeyState}, States.{ShardState}}
+use Rattle.phase_transactions.specs.{Performing.{HaveOpening}, Workers.{WorkerState, IsIdle}}
 
 -- a permit for these boxes, whose shards are of an auction with its users and categories
 pub record IsPermitFor (initial : List ShardState) (boxes : List BoxId) (permit : WorkerState) : Type 0 where

@@ -4,8 +4,7 @@ ghost use Rattle.std.specs.Prelude.{◌≡◌, ◌<◌, ◌≤◌, slice_get, If
 ghost use Rattle.auction_rows.specs.declared.requests.Object.TheVariants.{Category};
 ghost use Rattle.item_shards.specs.CommitNumbers.{last_number};
 ghost use Rattle.item_shards.specs.ShardContents.{clock, opening, LiesIn};
-ghost use Rattle.shard_boxes.specs.Lines.{after_line, seen_line};
-ghost use Rattle.shard_boxes.specs.States.{state_of};
+ghost use Rattle.shard_boxes.specs.{Lines.{after_line, seen_line}, States.{state_of}};
 ghost use Rattle.phase_tests.specs.NewShards.{BeginsWith};
 
 use crate::permits::closing::{assert_clocks, close_one};

@@ -1,8 +1,7 @@
 //! How tests compare, a view that waits, four new shards, and their boxes with the key of one worker
 //! or of two.
 ghost use Rattle.std.specs.Prelude.{◌≡◌, length, map, IfOk};
-ghost use Rattle.shard_boxes.specs.States.{state_of};
-ghost use Rattle.shard_boxes.specs.Keys.{IsNewKey};
+ghost use Rattle.shard_boxes.specs.{Keys.{IsNewKey}, States.{state_of}};
 ghost use Rattle.phase_transactions.specs.Workers.{IsUnused};
 ghost use Rattle.phase_tests.specs.NewShards.{AreFourNew, BeginsWith};
 

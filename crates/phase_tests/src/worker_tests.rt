@@ -1,8 +1,7 @@
 //! Of `phase_workers`: what the workers of a phase answer where one meets the end of commit numbers,
 //! which no run is long enough for.
 ghost use Rattle.std.specs.Prelude.{◌≡◌, ◌∷◌, [], length};
-ghost use Rattle.phase_transactions.specs.Workers.{IsUnused};
-ghost use Rattle.phase_transactions.specs.Performing.{HaveOpening};
+ghost use Rattle.phase_transactions.specs.{Performing.{HaveOpening}, Workers.{IsUnused}};
 ghost use Rattle.phase_tests.specs.NewShards.{BeginsWith};
 
 use crate::permits::joined::joined_permit;

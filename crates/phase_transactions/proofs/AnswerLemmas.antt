@@ -1,43 +1,31 @@
 -- The reply to a store: it is the answer by what was seen and by the counters.
 use Rattle.std.proofs.Common.{◌≡◌, ℕ, suc, Bool, true, false, cond, List, Option, Some, None, Result, Ok, Err, MatchOption, option_map, option_and_then, unwrap_or, refl, sym, ap, subst, ◌∙◌, arith}
-use Rattle.std.specs.Prelude.{◌≤◌, ◌↔◌, IsNone, IfNone, IfSome, IsErrAnd}
-use Rattle.std.specs.Result.{result_ok}
-use Rattle.std.specs.Option.{option_or}
-use Rattle.std.proofs.lemmas.Bool.{true≢false}
-use Rattle.std.proofs.lemmas.Option.{same_Some}
-use Rattle.auction_rows.specs.declared.{values.Opening.Opening, requests.ItemId.ItemId, requests.Facts.Facts, requests.Object.Object, requests.Request.Request, replies.Refusal.Refusal, replies.Reply.Reply}
+use Rattle.std.{proofs.lemmas.{Bool.{true≢false}, Option.{same_Some}}, specs.Option.{option_or}}
+use Rattle.std.specs.{Prelude.{◌≤◌, ◌↔◌, IsNone, IfNone, IfSome, IsErrAnd}, Result.{result_ok}}
+use Rattle.auction_rows.specs.{Footprint.{is_hot}, Refusals.{number_refusal, item_refusal}}
+use Rattle.auction_rows.specs.{Replies.{row_of}, Requests.{item_of, is_view}}
+use Rattle.auction_rows.specs.declared.replies.Reply.TheVariants.{Refused}
 use Rattle.auction_rows.specs.declared.requests.Object.TheVariants.{Item}
 use Rattle.auction_rows.specs.declared.requests.Request.TheVariants.{StoreItem, StoreBid, StoreComment, BuyNow, ViewItem, ViewBids, ViewCategory, ViewUser}
-use Rattle.auction_rows.specs.declared.replies.Reply.TheVariants.{Refused}
-use Rattle.auction_rows.specs.Footprint.{is_hot}
-use Rattle.auction_rows.specs.Refusals.{number_refusal, item_refusal}
-use Rattle.auction_rows.specs.Replies.{row_of}
-use Rattle.auction_rows.specs.Requests.{item_of, is_view}
-use Rattle.item_shards.specs.Answering.{refusal_with}
-use Rattle.item_shards.specs.CommitNumbers.{last_number}
-use Rattle.item_shards.specs.ShardContents.{contents}
-use Rattle.item_shards.specs.Values.{stock}
-use Rattle.item_shards.specs.Writing.{writes_if}
-use Rattle.worker_slices.specs.declared.counters.Counters.{Counters}
+use Rattle.auction_rows.specs.declared.{values.Opening.Opening, requests.ItemId.ItemId, requests.Facts.Facts, requests.Object.Object, requests.Request.Request, replies.Refusal.Refusal, replies.Reply.Reply}
+use Rattle.item_shards.specs.{Answering.{refusal_with}, CommitNumbers.{last_number}}
+use Rattle.item_shards.specs.{ShardContents.{contents}, Values.{stock}, Writing.{writes_if}}
+use Rattle.worker_slices.specs.{Counting.{IsOwn}, Homes.{IsHomeOf, IsWrittenAt, shard_at}}
+use Rattle.worker_slices.specs.Slicing.{hot_objects, stocks_of, stock_of, slices_after_acts}
+use Rattle.worker_slices.specs.declared.{counters.Counters.{Counters}, homes.Home.{Home}}
+use Rattle.worker_slices.specs.declared.{homes.Homes.{Homes}, slices.Hot.{Hot}}
+use Rattle.worker_slices.specs.declared.homes.Home.TheVariants as home
+use Rattle.phase_transactions.proofs.HomeLemmas.{same_objects_of}
+use Rattle.phase_transactions.specs.Performing.{HasStoredSome}
+use Rattle.phase_transactions.specs.Txns.{refusal_by, refusal_seen, reason_seen, stock_seen, is_put_off, IsReplyTo, IsAnswered, ReadSet}
+use Rattle.phase_transactions.specs.Workers.{WorkerState, setting_of, txn_of, hot_txn, nothing, with_entry, after_commit}
 use Rattle.phase_transactions.specs.declared.done.PermitFault.{PermitFault}
 use Rattle.phase_transactions.specs.declared.done.PermitFault.TheVariants.{Memory, NumberFull}
-use Rattle.worker_slices.specs.declared.homes.Home.{Home}
-use Rattle.worker_slices.specs.declared.homes.Home.TheVariants as home
-use Rattle.worker_slices.specs.declared.homes.Homes.{Homes}
-use Rattle.phase_transactions.specs.declared.taken.Taken.{Taken}
-use Rattle.phase_transactions.specs.declared.taken.Taken.TheVariants as taken
-use Rattle.worker_slices.specs.declared.slices.Hot.{Hot}
-use Rattle.phase_transactions.specs.inner.Begun.{IsRefusedBy}
+use Rattle.phase_transactions.specs.{declared.taken.Taken.{Taken}, inner.Begun.{IsRefusedBy}}
 use Rattle.phase_transactions.specs.inner.Deeds.{IsReplyBy, IsReplyUnless, stock_on, stock_taken}
-use Rattle.worker_slices.specs.Homes.{IsHomeOf, IsWrittenAt, shard_at}
 use Rattle.phase_transactions.specs.inner.Homes.{AreHomesOf, HasHomes}
-use Rattle.phase_transactions.specs.Performing.{HasStoredSome}
 use Rattle.phase_transactions.specs.inner.Storing.{HasStoredOrIsFull}
-use Rattle.worker_slices.specs.Slicing.{hot_objects, stocks_of, stock_of, slices_after_acts}
-use Rattle.phase_transactions.specs.Txns.{refusal_by, refusal_seen, reason_seen, stock_seen, is_put_off, IsReplyTo, IsAnswered, ReadSet}
-use Rattle.worker_slices.specs.Counting.{IsOwn}
-use Rattle.phase_transactions.specs.Workers.{WorkerState, setting_of, txn_of, hot_txn, nothing, with_entry, after_commit}
-use Rattle.phase_transactions.proofs.HomeLemmas.{same_objects_of}
+use Rattle.phase_transactions.specs.declared.taken.Taken.TheVariants as taken
 
 -- an id in a reply to a store is one of the worker
 own_answer : (counters : Counters) (worker : ℕ) (request : Request) (reply : Reply) → IsReplyTo counters worker request reply → is_view request ≡ false → IsOwn worker reply

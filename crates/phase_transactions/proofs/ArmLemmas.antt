@@ -1,16 +1,15 @@
 -- What each kind of store does is good on a shard that it took, by what it was answered.
 use Rattle.std.proofs.Common.{◌≡◌, ℕ, Option, Some, None, MatchOption, option_map, refl, subst}
-use Rattle.auction_rows.specs.declared.{values.Stars.Stars, requests.ItemId.ItemId, requests.BidId.BidId, requests.BuyId.BuyId, requests.Facts.Facts, requests.BidEntry.BidEntry, requests.Request.Request, replies.Refusal.Refusal, replies.Reply.Reply}
-use Rattle.auction_rows.specs.declared.requests.Request.TheVariants.{StoreBid, StoreComment, BuyNow}
 use Rattle.auction_rows.specs.declared.replies.Reply.TheVariants.{BidStored, Bought, Refused}
+use Rattle.auction_rows.specs.declared.requests.Request.TheVariants.{StoreBid, StoreComment, BuyNow}
+use Rattle.auction_rows.specs.declared.{values.Stars.Stars, requests.ItemId.ItemId, requests.BidId.BidId, requests.BuyId.BuyId, requests.Facts.Facts, requests.BidEntry.BidEntry, requests.Request.Request, replies.Refusal.Refusal, replies.Reply.Reply}
 use Rattle.item_shards.specs.Events.{Bid, Comment, Buy, Look}
 use Rattle.item_shards.specs.Shown as shown
 use Rattle.shard_boxes.specs.Helds.{HeldState}
-use Rattle.phase_transactions.specs.inner.Begun.{IsAnsweredOn, Step}
+use Rattle.phase_transactions.proofs.GoodLemmas.{bid_good, buy_good, comment_good}
+use Rattle.phase_transactions.specs.{Workers.{WorkerState}, inner.Begun.{IsAnsweredOn, Step}}
 use Rattle.phase_transactions.specs.inner.Deeds.{AreGoodOn}
 use Rattle.worker_slices.specs.Homes.{shard_at}
-use Rattle.phase_transactions.specs.Workers.{WorkerState}
-use Rattle.phase_transactions.proofs.GoodLemmas.{bid_good, buy_good, comment_good}
 
 -- what is accepted is not refused
 free : (A : Type 0) (refused : Option Refusal) (reply : Reply) → ((reason : Refusal) → reply ≡ Refused reason → ⊥) → MatchOption refused A (λ reason. reply ≡ Refused reason) → refused ≡ None

@@ -1,39 +1,34 @@
 -- A transaction that has begun: what it does on its shards can be done there, and when it is done that is a commit.
 use Rattle.std.proofs.Common.{◌≡◌, ℕ, suc, max, ◌<◌, Bool, true, false, cond, List, [], ◌∷◌, length, Option, Some, None, MatchOption, refl, sym, ap, subst, ◌∙◌, arith}
-use Rattle.std.specs.Option.{option_or}
-use Rattle.std.specs.List.{AllByRecursion}
-use Rattle.std.proofs.lemmas.Bool.{true≢false}
+use Rattle.std.{proofs.lemmas.Bool.{true≢false}, specs.{List.{AllByRecursion}, Option.{option_or}}}
 use Rattle.phase_laws.specs.Numbers.{greatest_by}
-use Rattle.auction_rows.specs.declared.{requests.ItemId.ItemId, requests.Facts.Facts, requests.Object.Object, requests.Request.Request, replies.Refusal.Refusal, replies.Reply.Reply}
+use Rattle.auction_rows.specs.{Refusals.{number_refusal}, Requests.{item_of, is_view}}
+use Rattle.auction_rows.specs.declared.replies.Reply.TheVariants.{ItemStored, Refused}
 use Rattle.auction_rows.specs.declared.requests.Object.TheVariants.{Item}
 use Rattle.auction_rows.specs.declared.requests.Request.TheVariants.{StoreItem, StoreBid, StoreComment, BuyNow}
-use Rattle.auction_rows.specs.declared.replies.Reply.TheVariants.{ItemStored, Refused}
+use Rattle.auction_rows.specs.declared.{requests.ItemId.ItemId, requests.Facts.Facts, requests.Object.Object, requests.Request.Request, replies.Refusal.Refusal, replies.Reply.Reply}
 use Rattle.auction_rows.specs.Footprint.{is_hot, objects_of as objects_named}
-use Rattle.auction_rows.specs.Refusals.{number_refusal}
-use Rattle.auction_rows.specs.Requests.{item_of, is_view}
-use Rattle.item_shards.specs.ShardContents.{HasItemRoom, clock, contents}
-use Rattle.item_shards.specs.Values.{stock}
+use Rattle.item_shards.specs.{ShardContents.{HasItemRoom, clock, contents}, Values.{stock}}
 use Rattle.shard_boxes.specs.Helds.{HeldState}
+use Rattle.phase_transactions.proofs.AnswerLemmas.{in_setting, item_home, store_answered}
+use Rattle.phase_transactions.proofs.ChainLemmas.{store_commits, store_fails}
+use Rattle.phase_transactions.proofs.FirstLemmas.{first_has, found_there, room_there, clocks_below}
+use Rattle.phase_transactions.proofs.WrittenLemmas.{can_deal}
+use Rattle.phase_transactions.specs.Performing.{HasCommitted, HasFailed, HaveOpening, StoresItem}
+use Rattle.phase_transactions.specs.Putting.{HasPutAll}
+use Rattle.phase_transactions.specs.Txns.{IsReplyTo, IsAnswered, refusal_by, ReadSet}
+use Rattle.phase_transactions.specs.Workers.{WorkerState, IsLawfulWorker, setting_of, next_item, txn_of, after_commit}
 use Rattle.phase_transactions.specs.declared.deeds.Deeds.{Deeds}
 use Rattle.phase_transactions.specs.declared.done.PermitFault.TheVariants.{Memory}
-use Rattle.worker_slices.specs.declared.homes.Home.{Home}
-use Rattle.worker_slices.specs.declared.homes.Home.TheVariants as home
-use Rattle.worker_slices.specs.declared.slices.Hot.{Hot}
 use Rattle.phase_transactions.specs.declared.taken.Begun.{Begun}
 use Rattle.phase_transactions.specs.inner.Begun.{Step, FirstHas, HasBegun, HasFirst, HasRoomFor, IsAnsweredOn, IsSeen}
 use Rattle.phase_transactions.specs.inner.Deeds.{IsReplyBy, IsNextIf, AreDeedsOf, AreGoodOn, acts_for, event_with, found_on, written_of, footprint_on}
-use Rattle.worker_slices.specs.Homes.{IsHomeOf, shard_at}
-use Rattle.phase_transactions.specs.Performing.{HasCommitted, HasFailed, HaveOpening, StoresItem}
-use Rattle.worker_slices.specs.Slicing.{hot_objects, stocks_of, stock_of}
-use Rattle.phase_transactions.specs.Putting.{HasPutAll}
 use Rattle.phase_transactions.specs.inner.HeldShards.{written_acts, IsAsTaken}
 use Rattle.phase_transactions.specs.inner.Takens.{footprint_of, held_in, numbers_of, is_one_of, dealt, line_among, CanBeDoneOnAll, AreBack}
-use Rattle.phase_transactions.specs.Txns.{IsReplyTo, IsAnswered, refusal_by, ReadSet}
-use Rattle.phase_transactions.specs.Workers.{WorkerState, IsLawfulWorker, setting_of, next_item, txn_of, after_commit}
-use Rattle.phase_transactions.proofs.AnswerLemmas.{in_setting, item_home, store_answered}
-use Rattle.phase_transactions.proofs.WrittenLemmas.{can_deal}
-use Rattle.phase_transactions.proofs.ChainLemmas.{store_commits, store_fails}
-use Rattle.phase_transactions.proofs.FirstLemmas.{first_has, found_there, room_there, clocks_below}
+use Rattle.worker_slices.specs.Homes.{IsHomeOf, shard_at}
+use Rattle.worker_slices.specs.Slicing.{hot_objects, stocks_of, stock_of}
+use Rattle.worker_slices.specs.declared.{homes.Home.{Home}, slices.Hot.{Hot}}
+use Rattle.worker_slices.specs.declared.homes.Home.TheVariants as home
 
 -- an item that is stored is the worker's next
 item_next : (w : WorkerState) (request : Request) (reply : Reply) → IsReplyTo w.counters w.journal.worker request reply → is_view request ≡ false → IsNextIf w reply

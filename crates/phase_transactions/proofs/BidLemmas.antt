@@ -1,41 +1,31 @@
 -- A bid on an item in a shard, which refuses it or takes it by one look-up: that is a commit.
 use Rattle.std.proofs.Common.{◌≡◌, ◌==◌, ◌||◌, ℕ, ◌+◌, ◌<◌, ◌^◌, Bool, true, false, cond, List, [], ◌∷◌, length, map, Option, Some, None, IsSome, refl, sym, ap, ◌∙◌, arith, eq-eqb}
-use Rattle.std.proofs.lemmas.List.{length-map}
-use Rattle.std.proofs.lemmas.Option.{same_Some}
-use Rattle.auction_rows.specs.declared.{requests.ItemId.ItemId, requests.BidId.BidId, requests.Facts.Facts, requests.BidEntry.BidEntry, requests.Object.Object, requests.Request.Request, replies.Refusal.Refusal, replies.Reply.Reply}
-use Rattle.auction_rows.specs.declared.requests.Object.TheVariants.{Item}
+use Rattle.std.proofs.lemmas.{List.{length-map}, Option.{same_Some}}
 use Rattle.auction_rows.specs.declared.replies.Reply.TheVariants.{BidStored}
-use Rattle.item_shards.specs.Answering.{bid_request, refusal_with}
-use Rattle.item_shards.specs.Events.{Event}
-use Rattle.item_shards.specs.Events as event
-use Rattle.item_shards.specs.Shown as shown
-use Rattle.item_shards.specs.ShardContents.{LiesIn, clock, contents}
-use Rattle.item_shards.specs.Values.{stock}
+use Rattle.auction_rows.specs.declared.requests.Object.TheVariants.{Item}
+use Rattle.auction_rows.specs.declared.{requests.ItemId.ItemId, requests.BidId.BidId, requests.Facts.Facts, requests.BidEntry.BidEntry, requests.Object.Object, requests.Request.Request, replies.Refusal.Refusal, replies.Reply.Reply}
+use Rattle.item_shards.specs.{Answering.{bid_request, refusal_with}, Events.{Event}}
+use Rattle.item_shards.specs.{ShardContents.{LiesIn, clock, contents}, Values.{stock}}
 use Rattle.item_shards.specs.Writing.{done_on, is_done_on, padded}
 use Rattle.item_shards.specs.declared.shard.acts.Act.TheVariants.{Look}
+use Rattle.item_shards.specs.Events as event
+use Rattle.item_shards.specs.Shown as shown
 use Rattle.item_shards.specs.declared.shard.acts.Look.TheVariants as look
-use Rattle.shard_boxes.specs.Helds.{HeldState}
-use Rattle.shard_boxes.specs.Lines.{bid_act, bid_acts, line_of}
-use Rattle.phase_transactions.specs.declared.deeds.Deeds.{Deeds}
-use Rattle.phase_transactions.specs.declared.taken.Begun.{Begun}
-use Rattle.worker_slices.specs.declared.homes.Home.{Home}
-use Rattle.worker_slices.specs.declared.homes.Home.TheVariants as home
-use Rattle.phase_transactions.specs.declared.taken.Taken.TheVariants as taken
-use Rattle.worker_slices.specs.declared.slices.Hot.{Hot}
+use Rattle.shard_boxes.specs.{Helds.{HeldState}, Lines.{bid_act, bid_acts, line_of}}
+use Rattle.phase_transactions.proofs.{AnswerLemmas.{own_reply, reply_by}, ArmLemmas.{bid_arm}}
+use Rattle.phase_transactions.proofs.BegunLemmas.{begun_commits, begun_good, needed_first, seen_answered}
+use Rattle.phase_transactions.proofs.{DeedLemmas.{done_is}, PutAllLemmas.{none_put, put_more}}
+use Rattle.phase_transactions.specs.Performing.{HasCommitted, HaveOpening}
+use Rattle.phase_transactions.specs.Workers.{WorkerState, next_bid, after_commit}
+use Rattle.phase_transactions.specs.declared.{deeds.Deeds.{Deeds}, taken.Begun.{Begun}}
 use Rattle.phase_transactions.specs.inner.Begun.{Step, HasBegun, IsAnsweredOn, IsSeen}
 use Rattle.phase_transactions.specs.inner.Deeds.{IsReplyBy, IsReplyUnless, AreDeedsOf, AreGoodOn, acts_for, deeds_on, event_with, is_at}
-use Rattle.phase_transactions.specs.Performing.{HasCommitted, HaveOpening}
 use Rattle.phase_transactions.specs.inner.HeldShards.{IsAsTaken, IsHeldFor, IsPutWith}
-use Rattle.worker_slices.specs.Slicing.{hot_objects}
 use Rattle.phase_transactions.specs.inner.Takens.{each_once, footprint_of, held_in}
-use Rattle.worker_slices.specs.Homes.{shard_at}
-use Rattle.worker_slices.specs.Counting.{IsOwn}
-use Rattle.phase_transactions.specs.Workers.{WorkerState, next_bid, after_commit}
-use Rattle.phase_transactions.proofs.AnswerLemmas.{own_reply, reply_by}
-use Rattle.phase_transactions.proofs.ArmLemmas.{bid_arm}
-use Rattle.phase_transactions.proofs.BegunLemmas.{begun_commits, begun_good, needed_first, seen_answered}
-use Rattle.phase_transactions.proofs.DeedLemmas.{done_is}
-use Rattle.phase_transactions.proofs.PutAllLemmas.{none_put, put_more}
+use Rattle.phase_transactions.specs.declared.taken.Taken.TheVariants as taken
+use Rattle.worker_slices.specs.{Counting.{IsOwn}, Homes.{shard_at}, Slicing.{hot_objects}}
+use Rattle.worker_slices.specs.declared.{homes.Home.{Home}, slices.Hot.{Hot}}
+use Rattle.worker_slices.specs.declared.homes.Home.TheVariants as home
 
 -- both acts of a bid are done on the shard in which its item has its home
 two_owed : (hots : List (Object × Hot)) (shards t : ℕ) (x y : Event) (h : Home) → is_done_on t shards (hot_objects hots) x ≡ is_at h t → is_done_on t shards (hot_objects hots) y ≡ is_at h t

@@ -2,36 +2,29 @@
 use Rattle.std.proofs.Common.{◌≡◌, ℕ, suc, max, ◌<◌, ◌≤◌, ◌==◌, not, true, false, cond, if◌then◌else◌, List, [], ◌∷◌, length, map, filter, Option, None, is_some, refl, sym, ap, subst, ◌∙◌}
 use Rattle.std.specs.List.{AllByRecursion, list_any}
 use Rattle.phase_laws.specs.Numbers.{greatest_by}
-use Rattle.auction_rows.specs.declared.{requests.Facts.Facts, requests.Request.Request, replies.Reply.Reply}
+use Rattle.auction_rows.specs.{Refusals.{number_refusal}, Requests.{shard_of}}
 use Rattle.auction_rows.specs.declared.replies.Reply.TheVariants.{ItemStored}
+use Rattle.auction_rows.specs.declared.{requests.Facts.Facts, requests.Request.Request, replies.Reply.Reply}
 use Rattle.auction_rows.specs.Footprint.{is_hot, objects_of as objects_named}
-use Rattle.auction_rows.specs.Refusals.{number_refusal}
-use Rattle.auction_rows.specs.Requests.{shard_of}
+use Rattle.item_shards.specs.{CommitNumbers.{last_number}, Writing.{padded, done_on, acts_owed}}
 use Rattle.item_shards.specs.declared.shard.acts.Act.{Act}
-use Rattle.item_shards.specs.CommitNumbers.{last_number}
-use Rattle.item_shards.specs.Writing.{padded, done_on, acts_owed}
-use Rattle.shard_boxes.specs.Helds.{HeldState}
-use Rattle.shard_boxes.specs.Keys.{KeyState}
-use Rattle.shard_boxes.specs.Lines.{Line, first_two, after_lines}
-use Rattle.shard_boxes.specs.States.{ShardState, state_at}
-use Rattle.phase_transactions.specs.declared.deeds.Deeds.{Deeds}
-use Rattle.phase_transactions.specs.declared.done.PermitFault.{PermitFault}
-use Rattle.phase_transactions.specs.declared.done.PermitFault.TheVariants.{Memory, NumberFull}
-use Rattle.worker_slices.specs.declared.homes.Homes.{Homes}
-use Rattle.phase_transactions.specs.declared.taken.Taken.{Taken}
-use Rattle.phase_transactions.specs.inner.Deeds.{first_dealt, second_dealt, clocks_of, found_on, acts_for, event_with, AreDeedsOf, AreGoodOn, footprint_on}
+use Rattle.shard_boxes.specs.{Helds.{HeldState}, Keys.{KeyState}}
+use Rattle.shard_boxes.specs.{Lines.{Line, first_two, after_lines}, States.{ShardState, state_at}}
+use Rattle.phase_transactions.proofs.{HomeLemmas.{same_objects_of}, KeyLemmas.{lines_on}}
+use Rattle.phase_transactions.proofs.PutAllLemmas.{taken_and_put, put_owed}
+use Rattle.phase_transactions.proofs.WrittenLemmas.{events_among, dealt_on, line_is, greatest_same, greatest_taken}
 use Rattle.phase_transactions.specs.Performing.{HasCommitted, HasFailed, IsCause, StoresItem, asks, shards_asked, greatest_seen}
 use Rattle.phase_transactions.specs.Putting.{clock_seen, HasPutAll}
-use Rattle.phase_transactions.specs.inner.HeldShards.{IsAsTaken}
-use Rattle.worker_slices.specs.Slicing.{hot_objects}
-use Rattle.worker_slices.specs.Homes.{shard_at}
-use Rattle.phase_transactions.specs.inner.Takens.{footprint_of, greatest_held, held_in, numbers_of, is_one_of, dealt, line_among, HasTakenAll, AreBack}
 use Rattle.phase_transactions.specs.Txns.{Setting, Txn, hot_of, takes, line_on, greatest_clock, clock_found, clock_in, is_put_off, IsAnswered, ReadSet}
 use Rattle.phase_transactions.specs.Workers.{WorkerState, setting_of, next_item, txn_of, after_commit}
-use Rattle.phase_transactions.proofs.WrittenLemmas.{events_among, dealt_on, line_is, greatest_same, greatest_taken}
-use Rattle.phase_transactions.proofs.HomeLemmas.{same_objects_of}
-use Rattle.phase_transactions.proofs.KeyLemmas.{lines_on}
-use Rattle.phase_transactions.proofs.PutAllLemmas.{taken_and_put, put_owed}
+use Rattle.phase_transactions.specs.declared.{deeds.Deeds.{Deeds}, done.PermitFault.{PermitFault}}
+use Rattle.phase_transactions.specs.declared.done.PermitFault.TheVariants.{Memory, NumberFull}
+use Rattle.phase_transactions.specs.declared.taken.Taken.{Taken}
+use Rattle.phase_transactions.specs.inner.Deeds.{first_dealt, second_dealt, clocks_of, found_on, acts_for, event_with, AreDeedsOf, AreGoodOn, footprint_on}
+use Rattle.phase_transactions.specs.inner.HeldShards.{IsAsTaken}
+use Rattle.phase_transactions.specs.inner.Takens.{footprint_of, greatest_held, held_in, numbers_of, is_one_of, dealt, line_among, HasTakenAll, AreBack}
+use Rattle.worker_slices.specs.{Homes.{shard_at}, Slicing.{hot_objects}}
+use Rattle.worker_slices.specs.declared.homes.Homes.{Homes}
 
 module _ {N : Type 0} {workers : ℕ} (initial : List ShardState) (old new : WorkerState) (key : KeyState) (request : Request) (homes : Homes) (took : Taken N)
     (its : HasTakenAll initial workers old.key key (footprint_of homes) (held_in took))

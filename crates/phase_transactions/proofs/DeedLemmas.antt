@@ -1,22 +1,19 @@
 -- The acts that a request owes on a shard are those whose objects have their home there.
 use Rattle.std.proofs.Common.{◌≡◌, ℕ, ◌==◌, ◌&&◌, not, Bool, false, cond, List, [], ◌∷◌, filter, Option, Some, refl, sym, ap, ◌∙◌}
 use Rattle.std.specs.Option.{option_map_or}
-use Rattle.auction_rows.specs.declared.{requests.Facts.Facts, requests.Object.Object, replies.Reply.Reply}
 use Rattle.auction_rows.specs.Requests.{shard_of}
+use Rattle.auction_rows.specs.declared.{requests.Facts.Facts, requests.Object.Object, replies.Reply.Reply}
+use Rattle.item_shards.specs.{Contents.{Contents, target}, Events.{Event}}
+use Rattle.item_shards.specs.Looking.{IsTrueAct, event_at}
+use Rattle.item_shards.specs.Writing.{is_cold_in, is_done_on, padded}
 use Rattle.item_shards.specs.declared.shard.acts.Act.{Act}
 use Rattle.item_shards.specs.declared.shard.acts.Act.TheVariants.{AddItem, ListItem, Bid, Comment, Buy, Look}
 use Rattle.item_shards.specs.declared.shard.acts.Look.TheVariants as look
-use Rattle.item_shards.specs.Events.{Event}
 use Rattle.item_shards.specs.Events as event
 use Rattle.item_shards.specs.Shown as shown
-use Rattle.item_shards.specs.Looking.{IsTrueAct, event_at}
-use Rattle.item_shards.specs.Contents.{Contents, target}
-use Rattle.item_shards.specs.Writing.{is_cold_in, is_done_on, padded}
-use Rattle.worker_slices.specs.declared.homes.Home.{Home}
-use Rattle.worker_slices.specs.declared.homes.Home.TheVariants as home
+use Rattle.worker_slices.specs.{Homes.{IsHomeOf}, Slicing.{hot_objects}, declared.homes.Home.{Home}}
 use Rattle.worker_slices.specs.declared.slices.Hot.{Hot}
-use Rattle.worker_slices.specs.Homes.{IsHomeOf}
-use Rattle.worker_slices.specs.Slicing.{hot_objects}
+use Rattle.worker_slices.specs.declared.homes.Home.TheVariants as home
 use Rattle.phase_transactions.specs.inner.Deeds.{is_at, deeds_on, event_with}
 
 module _ (hots : List (Object × Hot)) (shards t : ℕ) where

@@ -1,33 +1,27 @@
 -- A request that takes no shard: performed it is a commit, and at the end of numbers it failed.
 use Rattle.std.proofs.Common.{◌≡◌, ℕ, suc, max, ◌<◌, ◌≤◌, ◌==◌, not, Bool, true, false, cond, if◌then◌else◌, List, [], ◌∷◌, length, map, filter, Option, Some, None, Result, Ok, Err, is_some, refl, sym, ap, subst, ◌∙◌, ◌↔◌, arith}
-use Rattle.std.specs.Prelude.{IsNone, IfSome}
-use Rattle.std.specs.List.{AllByRecursion, list_any}
-use Rattle.std.proofs.Math.Nat.{lt_of_not-le}
-use Rattle.std.proofs.lemmas.Bool.{false≢true, true≢false}
-use Rattle.auction_rows.specs.declared.{requests.Object.Object, requests.Request.Request, replies.Refusal.Refusal, replies.Reply.Reply}
+use Rattle.std.proofs.{Math.Nat.{lt_of_not-le}, lemmas.Bool.{false≢true, true≢false}}
+use Rattle.std.specs.{List.{AllByRecursion, list_any}, Prelude.{IsNone, IfSome}}
+use Rattle.auction_rows.specs.{Refusals.{number_refusal}, Requests.{shard_of}}
 use Rattle.auction_rows.specs.declared.requests.Object.TheVariants.{Item, User}
 use Rattle.auction_rows.specs.declared.requests.Request.TheVariants.{StoreBid, StoreComment}
+use Rattle.auction_rows.specs.declared.{requests.Object.Object, requests.Request.Request, replies.Refusal.Refusal, replies.Reply.Reply}
 use Rattle.auction_rows.specs.Footprint.{is_hot, objects_of as objects_named}
-use Rattle.auction_rows.specs.Refusals.{number_refusal}
-use Rattle.auction_rows.specs.Requests.{shard_of}
 use Rattle.item_shards.specs.CommitNumbers.{last_number}
 use Rattle.shard_boxes.specs.States.{ShardState}
-use Rattle.phase_transactions.specs.declared.done.PermitFault.{PermitFault}
-use Rattle.phase_transactions.specs.declared.done.PermitFault.TheVariants.{Memory, NumberFull}
-use Rattle.worker_slices.specs.declared.homes.Homes.{Homes}
-use Rattle.worker_slices.specs.Homes.{IsHotStore, shard_at}
+use Rattle.phase_transactions.proofs.{AnswerLemmas.{in_setting}, BegunLemmas.{same_named}}
+use Rattle.phase_transactions.proofs.{KeyLemmas.{lines_still}, PutAllLemmas.{none_put, put_owed}}
+use Rattle.phase_transactions.proofs.WrittenLemmas.{greatest_same}
 use Rattle.phase_transactions.specs.Performing.{HasCommitted, HasCommittedSome, HasFailed, HasPerformed, HasStored, HasStoredSome, asks}
-use Rattle.phase_transactions.specs.inner.Storing.{HasStoredOrIsFull}
-use Rattle.worker_slices.specs.Slicing.{hot_objects, stocks_of}
 use Rattle.phase_transactions.specs.Putting.{HasPutAll}
-use Rattle.phase_transactions.specs.inner.Takens.{each_once, footprint_of, is_one_of, no_line}
 use Rattle.phase_transactions.specs.Txns.{clock_found, hot_of, takes, greatest_clock, is_put_off}
 use Rattle.phase_transactions.specs.Workers.{WorkerState, IsIdle, setting_of, hot_txn, nothing, after_commit}
-use Rattle.phase_transactions.proofs.AnswerLemmas.{in_setting}
-use Rattle.phase_transactions.proofs.BegunLemmas.{same_named}
-use Rattle.phase_transactions.proofs.WrittenLemmas.{greatest_same}
-use Rattle.phase_transactions.proofs.KeyLemmas.{lines_still}
-use Rattle.phase_transactions.proofs.PutAllLemmas.{none_put, put_owed}
+use Rattle.phase_transactions.specs.declared.done.PermitFault.{PermitFault}
+use Rattle.phase_transactions.specs.declared.done.PermitFault.TheVariants.{Memory, NumberFull}
+use Rattle.phase_transactions.specs.inner.Storing.{HasStoredOrIsFull}
+use Rattle.phase_transactions.specs.inner.Takens.{each_once, footprint_of, is_one_of, no_line}
+use Rattle.worker_slices.specs.{Homes.{IsHotStore, shard_at}, Slicing.{hot_objects, stocks_of}}
+use Rattle.worker_slices.specs.declared.homes.Homes.{Homes}
 
 module _ (initial : List ShardState) (old new : WorkerState) (request : Request) (index : ℕ) (idle : IsIdle old.key) where
   abbrev Untaken : Reply → Type 0

@@ -2,29 +2,22 @@
 use Rattle.std.proofs.Common.{◌≡◌, ℕ, suc, max, ◌<◌, ◌≤◌, List, [], ◌∷◌, length, map, Option, Some, refl, sym, ap, subst, ◌∙◌, arith, inl, inr}
 use Rattle.std.specs.List.{AllByRecursion}
 use Rattle.phase_laws.specs.Numbers.{greatest_by}
+use Rattle.auction_rows.specs.{Requests.{shard_of}, declared.requests.Object.TheVariants.{Item}}
 use Rattle.auction_rows.specs.declared.requests.{ItemId.ItemId, Facts.Facts, Object.Object, Request.Request}
-use Rattle.auction_rows.specs.declared.requests.Object.TheVariants.{Item}
-use Rattle.auction_rows.specs.Requests.{shard_of}
 use Rattle.item_shards.specs.CommitNumbers.{last_number}
-use Rattle.item_shards.specs.ShardContents.{HasItemRoom, LiesIn, clock, contents}
-use Rattle.item_shards.specs.Values.{stock}
-use Rattle.shard_boxes.specs.Helds.{HeldState}
-use Rattle.shard_boxes.specs.Keys.{KeyState, seen_at}
-use Rattle.shard_boxes.specs.Lines.{IsShardHistory}
+use Rattle.item_shards.specs.{ShardContents.{HasItemRoom, LiesIn, clock, contents}, Values.{stock}}
+use Rattle.shard_boxes.specs.{Helds.{HeldState}, Keys.{KeyState, seen_at}, Lines.{IsShardHistory}}
 use Rattle.shard_boxes.specs.States.{ShardState, state_of}
-use Rattle.worker_slices.specs.declared.homes.Home.{Home}
+use Rattle.worker_slices.specs.{Homes.{IsHomeOf, shard_at}, declared.homes.Home.{Home}}
 use Rattle.worker_slices.specs.declared.slices.Hot.{Hot}
-use Rattle.phase_transactions.specs.declared.taken.Begun.{Begun}
-use Rattle.phase_transactions.specs.declared.taken.Taken.{Taken}
-use Rattle.phase_transactions.specs.declared.taken.Taken.TheVariants as taken
-use Rattle.phase_transactions.specs.inner.Begun.{HasBegun, Step, FirstHas, FirstHasRoom, states_in}
-use Rattle.phase_transactions.specs.inner.Deeds.{stock_on}
-use Rattle.worker_slices.specs.Homes.{IsHomeOf, shard_at}
-use Rattle.phase_transactions.specs.inner.HeldShards.{IsAsTaken}
-use Rattle.phase_transactions.specs.inner.Takens.{each_once, held_in, numbers_of, is_one_of, AreApart}
-use Rattle.phase_transactions.specs.Workers.{WorkerState}
-use Rattle.phase_transactions.proofs.WrittenLemmas.{LieInOne, in_one, in_two}
 use Rattle.phase_transactions.proofs.GoodLemmas.{home_number}
+use Rattle.phase_transactions.proofs.WrittenLemmas.{LieInOne, in_one, in_two}
+use Rattle.phase_transactions.specs.{Workers.{WorkerState}, declared.taken.Begun.{Begun}}
+use Rattle.phase_transactions.specs.declared.taken.Taken.{Taken}
+use Rattle.phase_transactions.specs.inner.Begun.{HasBegun, Step, FirstHas, FirstHasRoom, states_in}
+use Rattle.phase_transactions.specs.inner.{Deeds.{stock_on}, HeldShards.{IsAsTaken}}
+use Rattle.phase_transactions.specs.inner.Takens.{each_once, held_in, numbers_of, is_one_of, AreApart}
+use Rattle.phase_transactions.specs.declared.taken.Taken.TheVariants as taken
 
 -- of the shards that were taken for it the first is that in which it lies
 number_is : (n : ℕ) (a b : Option ℕ) (t : ℕ) → LieInOne n a b → a ≡ Some t → n ≡ t

@@ -1,33 +1,24 @@
 -- What a store does can be done on the shards in which its objects lie, as they were taken.
 use Rattle.std.proofs.Common.{◌≡◌, ℕ, ◌-◌, ◌<◌, Bool, true, false, cond, List, length, Option, Some, None, IsSome, option_map, refl, sym, ap, subst, ◌∙◌, arith}
-use Rattle.std.specs.Prelude.{nat_le, nat_lt}
-use Rattle.std.specs.Option.{option_or}
-use Rattle.std.proofs.lemmas.Bool.{or_parts, leb-false, ltb-false}
-use Rattle.std.proofs.lemmas.Option.{same_Some}
-use Rattle.auction_rows.specs.declared.{values.Opening.Opening, values.Stars.Stars, requests.ItemId.ItemId, requests.Facts.Facts, requests.BidEntry.BidEntry, requests.Object.Object, replies.Refusal.Refusal}
+use Rattle.std.proofs.lemmas.{Bool.{or_parts, leb-false, ltb-false}, Option.{same_Some}}
+use Rattle.std.specs.{Option.{option_or}, Prelude.{nat_le, nat_lt}}
+use Rattle.auction_rows.{proofs.RefusalLemmas.{in_range}, specs.Refusals.{number_refusal}}
+use Rattle.auction_rows.specs.Requests.{shard_of}
+use Rattle.auction_rows.specs.declared.replies.Refusal.TheVariants.{NoSuchItem, Closed, NotEnough}
 use Rattle.auction_rows.specs.declared.requests.Object.TheVariants.{Item, User}
 use Rattle.auction_rows.specs.declared.requests.Request.TheVariants.{StoreBid, StoreComment, BuyNow}
-use Rattle.auction_rows.specs.declared.replies.Refusal.TheVariants.{NoSuchItem, Closed, NotEnough}
-use Rattle.auction_rows.specs.Refusals.{number_refusal}
-use Rattle.auction_rows.specs.Requests.{shard_of}
-use Rattle.auction_rows.proofs.RefusalLemmas.{in_range}
-use Rattle.item_shards.specs.Events.{Bid, Comment, Buy, Look}
-use Rattle.item_shards.specs.Shown as shown
-use Rattle.item_shards.specs.CommitNumbers.{last_number}
-use Rattle.item_shards.specs.ShardContents.{LiesIn, clock, contents, opening as opening_of}
+use Rattle.auction_rows.specs.declared.{values.Opening.Opening, values.Stars.Stars, requests.ItemId.ItemId, requests.Facts.Facts, requests.BidEntry.BidEntry, requests.Object.Object, replies.Refusal.Refusal}
+use Rattle.item_shards.specs.{CommitNumbers.{last_number}, Events.{Bid, Comment, Buy, Look}}
 use Rattle.item_shards.specs.Values.{Value, HasInStock, stock}
-use Rattle.shard_boxes.specs.Helds.{HeldState}
-use Rattle.shard_boxes.specs.Keys.{KeyState}
+use Rattle.item_shards.specs.Shown as shown
+use Rattle.item_shards.specs.ShardContents.{LiesIn, clock, contents, opening as opening_of}
+use Rattle.shard_boxes.{proofs.LimitLemmas.{two_fit}, specs.{Helds.{HeldState}, Keys.{KeyState}}}
 use Rattle.shard_boxes.specs.States.{ShardState, state_of}
-use Rattle.shard_boxes.proofs.LimitLemmas.{two_fit}
-use Rattle.worker_slices.specs.declared.homes.Home.{Home}
-use Rattle.worker_slices.specs.declared.homes.Home.TheVariants as home
+use Rattle.worker_slices.specs.{Homes.{IsHomeOf, shard_at}, declared.homes.Home.{Home}}
 use Rattle.worker_slices.specs.declared.slices.Hot.{Hot}
-use Rattle.phase_transactions.specs.inner.Deeds.{AreGoodOn, IsGood}
-use Rattle.worker_slices.specs.Homes.{IsHomeOf, shard_at}
-use Rattle.phase_transactions.specs.inner.HeldShards.{IsAsTaken}
-use Rattle.phase_transactions.specs.Performing.{HaveOpening}
-use Rattle.phase_transactions.specs.Txns.{refusal_by}
+use Rattle.worker_slices.specs.declared.homes.Home.TheVariants as home
+use Rattle.phase_transactions.specs.{Performing.{HaveOpening}, Txns.{refusal_by}}
+use Rattle.phase_transactions.specs.inner.{Deeds.{AreGoodOn, IsGood}, HeldShards.{IsAsTaken}}
 
 none_not_some : {reason : Refusal} → Some reason ≡ None → ⊥
 none_not_some is = absurd (cc)

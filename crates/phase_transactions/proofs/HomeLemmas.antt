@@ -1,20 +1,15 @@
 -- The footprint of a request is the shards among the homes of its objects.
 use Rattle.std.proofs.Common.{◌≡◌, ◌≢◌, ℕ, ◌==◌, ◌||◌, not, Bool, true, false, cond, if◌then◌else◌, List, [], ◌∷◌, map, filter, Some, None, is_some, refl, sym, ap, ◌∙◌, ◌⊎◌, inl, inr}
-use Rattle.std.specs.List.{list_any}
-use Rattle.std.proofs.lemmas.Bool.Decides.{eqb_tells}
-use Rattle.auction_rows.specs.declared.requests.{Object.Object, Request.Request}
+use Rattle.std.{proofs.lemmas.Bool.Decides.{eqb_tells}, specs.List.{list_any}}
+use Rattle.auction_rows.specs.{Refusals.{number_refusal}, Requests.{shard_of}}
 use Rattle.auction_rows.specs.declared.replies.Reply.TheVariants.{ItemStored}
-use Rattle.auction_rows.specs.Requests.{shard_of}
+use Rattle.auction_rows.specs.declared.requests.{Object.Object, Request.Request}
 use Rattle.auction_rows.specs.Footprint.{is_hot, objects_of as objects_named}
-use Rattle.auction_rows.specs.Refusals.{number_refusal}
-use Rattle.phase_transactions.specs.Performing.{asks}
-use Rattle.phase_transactions.specs.Workers.{WorkerState, next_item}
-use Rattle.worker_slices.specs.declared.homes.Home.{Home}
-use Rattle.worker_slices.specs.declared.homes.Home.TheVariants as home
-use Rattle.worker_slices.specs.declared.slices.Hot.{Hot}
-use Rattle.worker_slices.specs.Homes.{IsHomeOf, shard_at}
-use Rattle.worker_slices.specs.Slicing.{hot_objects, stocks_of}
+use Rattle.phase_transactions.specs.{Performing.{asks}, Workers.{WorkerState, next_item}}
 use Rattle.phase_transactions.specs.inner.Takens.{each_once, is_one_of}
+use Rattle.worker_slices.specs.{Homes.{IsHomeOf, shard_at}, Slicing.{hot_objects, stocks_of}}
+use Rattle.worker_slices.specs.declared.{homes.Home.{Home}, slices.Hot.{Hot}}
+use Rattle.worker_slices.specs.declared.homes.Home.TheVariants as home
 
 -- the hot objects are those of what is fixed
 pub same_objects_of : (hots : List (Object × Hot)) → hot_objects (stocks_of hots) ≡ hot_objects hots

@@ -1,17 +1,13 @@
 -- What a key shows of each shard after it took one or put one back.
 use Rattle.std.proofs.Common.{◌≡◌, ◌≢◌, ℕ, ◌<◌, ◌==◌, true, false, cond, if◌then◌else◌, List, [], ◌∷◌, ◌++◌, length, Option, refl, sym, ap, subst, ◌∙◌, ◌⊎◌, inl, inr, append-nil, append_assoc}
-use Rattle.std.specs.List.{AllByRecursion}
-use Rattle.std.proofs.lemmas.Bool.{or_parts}
-use Rattle.std.proofs.lemmas.Bool.Decides.{eqb_tells}
-use Rattle.shard_boxes.specs.Keys.{KeyState, SeatState, seat_at, with_seat, put_seat, taking, putting, lines_at, holds_at, seen_at, added}
+use Rattle.std.{proofs.lemmas.Bool.{Decides.{eqb_tells}, or_parts}, specs.List.{AllByRecursion}}
+use Rattle.shard_boxes.proofs.SeatLemmas.{seat-same, seat-other, taking-same, taking-other, putting-same, putting-other, length-with_seat}
 use Rattle.shard_boxes.specs.Helds.{HeldState}
+use Rattle.shard_boxes.specs.Keys.{KeyState, SeatState, seat_at, with_seat, put_seat, taking, putting, lines_at, holds_at, seen_at, added}
 use Rattle.shard_boxes.specs.Lines.{Line, StartsWith, IsShardHistory}
 use Rattle.shard_boxes.specs.States.{ShardState, state_of}
-use Rattle.shard_boxes.proofs.SeatLemmas.{seat-same, seat-other, taking-same, taking-other, putting-same, putting-other, length-with_seat}
-use Rattle.phase_transactions.specs.Workers.{IsIdle}
-use Rattle.phase_transactions.specs.Putting.{KeepsSeen, HasSameLines}
-use Rattle.phase_transactions.specs.inner.HeldShards.{IsAsTaken}
-use Rattle.phase_transactions.specs.inner.Takens.{is_one_of, numbers_of}
+use Rattle.phase_transactions.specs.{Putting.{KeepsSeen, HasSameLines}, Workers.{IsIdle}}
+use Rattle.phase_transactions.specs.inner.{HeldShards.{IsAsTaken}, Takens.{is_one_of, numbers_of}}
 use borrow.Author.Tests.{eqb-false}
 
 -- what a key has seen goes on where it stays, and from step to step

@@ -1,21 +1,19 @@
 -- A commit keeps a worker lawful.
 use Rattle.std.proofs.Common.{◌≡◌, ℕ, ◌+◌, ◌-◌, ◌<◌, ◌≤◌, List, [], ◌∷◌, length, refl, sym, ap, subst, ◌∙◌, arith, length-append}
-use Rattle.phase_laws.proofs.NumberLemmas.{last-push}
-use Rattle.auction_rows.specs.declared.{requests.Object.Object, requests.Request.Request, replies.Reply.Reply}
-use Rattle.auction_rows.specs.declared.requests.Object.TheVariants.{Item}
-use Rattle.auction_rows.specs.declared.replies.Reply.TheVariants.{ItemStored, BidStored, CommentStored, Bought}
+use Rattle.phase_laws.{proofs.NumberLemmas.{last-push}, specs.Numbers.{last_by}}
 use Rattle.auction_rows.specs.Footprint.{is_hot}
+use Rattle.auction_rows.specs.declared.replies.Reply.TheVariants.{ItemStored, BidStored, CommentStored, Bought}
+use Rattle.auction_rows.specs.declared.requests.Object.TheVariants.{Item}
+use Rattle.auction_rows.specs.declared.{requests.Object.Object, requests.Request.Request, replies.Reply.Reply}
 use Rattle.item_shards.specs.Events.{Event}
-use Rattle.phase_laws.specs.Numbers.{last_by}
 use Rattle.worker_journals.specs.Journals.{JournalView, entry_number, commit_in, with_commit}
-use Rattle.worker_slices.specs.declared.counters.Counters.{Counters}
-use Rattle.worker_slices.specs.declared.slices.Hot.{Hot}
-use Rattle.worker_slices.specs.Slicing.{hot_objects, slices_after_acts, HaveAtMost}
-use Rattle.worker_slices.specs.Stashes.{StashState}
-use Rattle.worker_slices.specs.Counting.{counters_after, AreCounted}
-use Rattle.phase_transactions.specs.Workers.{WorkerState, HasStashRoom, IsLawfulWorker}
-use Rattle.phase_transactions.proofs.HomeLemmas.{same_objects_of}
 use Rattle.worker_slices.proofs.StockLemmas.{stocks-acts}
+use Rattle.worker_slices.specs.Counting.{counters_after, AreCounted}
+use Rattle.worker_slices.specs.Slicing.{hot_objects, slices_after_acts, HaveAtMost}
+use Rattle.worker_slices.specs.{Stashes.{StashState}, declared.counters.Counters.{Counters}}
+use Rattle.worker_slices.specs.declared.slices.Hot.{Hot}
+use Rattle.phase_transactions.proofs.HomeLemmas.{same_objects_of}
+use Rattle.phase_transactions.specs.Workers.{WorkerState, HasStashRoom, IsLawfulWorker}
 
 -- What a commit counts: itself, and at most one store.
 pub record CountsOne (old new : Counters) : Type 0 where

@@ -1,9 +1,7 @@
 -- The number after two clocks, or that they are at the end of numbers.
 use Rattle.std.proofs.Common.{◌≡◌, ◌↔◌, ℕ, suc, max, ◌≤◌, Bool, true, false, Option, Some, None, ok_or, refl, ap, subst, ◌∙◌, arith}
+use Rattle.std.proofs.{Math.Nat.{lt_of_not-le}, lemmas.{Bool.{true≢false}, Option.{same_Some}}}
 use Rattle.std.specs.Prelude.{IsNone, IfNone, IfSome, IfOk, IfErr, if◌then◌else◌, nat_lt}
-use Rattle.std.proofs.Math.Nat.{lt_of_not-le}
-use Rattle.std.proofs.lemmas.Bool.{true≢false}
-use Rattle.std.proofs.lemmas.Option.{same_Some}
 use Rattle.item_shards.specs.CommitNumbers.{last_number, next_number}
 use Rattle.phase_transactions.specs.declared.done.PermitFault.TheVariants.{NumberFull}
 

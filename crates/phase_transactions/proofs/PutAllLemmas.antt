@@ -1,16 +1,14 @@
 -- The shards of a footprint, put back one after the other, with their lines or as they were.
 use Rattle.std.proofs.Common.{◌≡◌, ◌≢◌, ℕ, ◌<◌, ◌==◌, ◌||◌, Bool, true, false, if◌then◌else◌, List, [], ◌∷◌, ◌++◌, Option, Some, None, refl, sym, ap, subst, ◌∙◌, ◌⊎◌, inl, inr, append-nil}
-use Rattle.std.specs.List.{AllByRecursion}
-use Rattle.std.proofs.lemmas.Bool.{false≢true, true≢false}
+use Rattle.std.{proofs.lemmas.Bool.{false≢true, true≢false}, specs.List.{AllByRecursion}}
 use Rattle.shard_boxes.specs.Helds.{HeldState, MayPut, taken_at}
 use Rattle.shard_boxes.specs.Keys.{BoxId, KeyState, SeatState, seat_at, put_seat, putting, lines_at, seen_at, entries, holds_at}
 use Rattle.shard_boxes.specs.Lines.{Line, MayFollow, StartsWith, after_line}
 use Rattle.shard_boxes.specs.States.{ShardState, state_of}
-use Rattle.phase_transactions.specs.Putting.{HasPut, HasPutAll, KeepsSeen}
+use Rattle.phase_transactions.proofs.KeyLemmas.{at_each, many, still_taken, seen_still, starts_on, seen_on, lines_still, lines_on}
+use Rattle.phase_transactions.specs.{Putting.{HasPut, HasPutAll, KeepsSeen}, Workers.{IsIdle}}
 use Rattle.phase_transactions.specs.inner.HeldShards.{IsHeldFor, IsPutWith}
 use Rattle.phase_transactions.specs.inner.Takens.{is_one_of, no_line, numbers_of, HasTakenAll, AreHeldAll, AreBack}
-use Rattle.phase_transactions.specs.Workers.{IsIdle}
-use Rattle.phase_transactions.proofs.KeyLemmas.{at_each, many, still_taken, seen_still, starts_on, seen_on, lines_still, lines_on}
 
 -- a shard that is held was changed as a line says: it can go back with that line
 module _ {initial : List ShardState} {key : KeyState} {held : HeldState} {number : ℕ} (its : IsHeldFor initial key held number) (now : HeldState) (line : Line)

@@ -1,11 +1,10 @@
 -- A shard that was prepared for an item shows what it showed, and has room for it.
 use Rattle.std.proofs.Common.{◌≡◌, Bool, ◌||◌, refl, sym, ap, subst, ◌∙◌}
 use Rattle.std.specs.Prelude.{IsTrue, Result, Ok, Err, OnOk, IfOk}
-use Rattle.auction_rows.specs.declared.requests.ItemId.{ItemId}
-use Rattle.auction_rows.specs.declared.requests.Object.TheVariants.{Item}
 use Rattle.auction_rows.proofs.RequestLemmas.{same_objects}
-use Rattle.item_shards.specs.declared.shard.Shard.{Shard}
+use Rattle.auction_rows.specs.declared.requests.{ItemId.{ItemId}, Object.TheVariants.{Item}}
 use Rattle.item_shards.specs.ShardContents.{HasItemRoom, IsSameShard, clock, contents, rooms, with_room}
+use Rattle.item_shards.specs.declared.shard.Shard.{Shard}
 use Rattle.shard_boxes.specs.States.{state_of}
 
 pub same_state : (old lent new : Shard) → lent ≡ old → IsSameShard lent new → contents new ≡ contents lent → clock new ≡ clock lent → state_of new ≡ state_of old

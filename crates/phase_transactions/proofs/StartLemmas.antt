@@ -3,10 +3,9 @@ use Rattle.std.proofs.Common.{◌≡◌, ◌≤◌, List, [], length, sym, ap, s
 use Rattle.phase_laws.specs.Numbers.{last_by}
 use Rattle.auction_rows.specs.declared.rows.Entry.{Entry}
 use Rattle.worker_journals.specs.Journals.{entry_number}
+use Rattle.worker_slices.proofs.{FewLemmas.{few_more}, RowSlices.{few_rows}}
 use Rattle.worker_slices.specs.Slicing.{stocks_of, HaveAtMost}
 use Rattle.phase_transactions.specs.Workers.{WorkerState, CanStart, IsLawfulWorker}
-use Rattle.worker_slices.proofs.FewLemmas.{few_more}
-use Rattle.worker_slices.proofs.RowSlices.{few_rows}
 
 pub start_lawful : (w : WorkerState) → CanStart w → IsLawfulWorker w
 start_lawful w can =

@@ -1,14 +1,10 @@
 -- The shards of a footprint, taken one after the other before anything is read.
 use Rattle.std.proofs.Common.{◌≡◌, ℕ, ◌<◌, ◌==◌, ◌||◌, Bool, true, false, List, [], ◌∷◌, length, refl, sym, ap, subst, ◌∙◌, inl, inr}
-use Rattle.std.specs.List.{AllByRecursion}
-use Rattle.std.proofs.lemmas.Bool.{true≢false}
-use Rattle.shard_boxes.specs.Helds.{HeldState}
-use Rattle.shard_boxes.specs.Keys.{KeyState, SeatState, taking, seen_at}
-use Rattle.shard_boxes.specs.Lines.{IsShardHistory, StartsWith}
-use Rattle.shard_boxes.specs.States.{ShardState, state_of}
-use Rattle.phase_transactions.specs.Workers.{IsIdle}
-use Rattle.phase_transactions.specs.inner.Takens.{is_one_of, HasTakenAll}
+use Rattle.std.{proofs.lemmas.Bool.{true≢false}, specs.List.{AllByRecursion}}
+use Rattle.shard_boxes.specs.{Helds.{HeldState}, Keys.{KeyState, SeatState, taking, seen_at}}
+use Rattle.shard_boxes.specs.{Lines.{IsShardHistory, StartsWith}, States.{ShardState, state_of}}
 use Rattle.phase_transactions.proofs.KeyLemmas.{at_each, many, still_taken, held_seat, lines_still, lines_on, lines_taken}
+use Rattle.phase_transactions.specs.{Workers.{IsIdle}, inner.Takens.{is_one_of, HasTakenAll}}
 
 -- none
 pub taken_none : (initial : List ShardState) (workers : ℕ) (key : KeyState) → IsIdle key → HasTakenAll initial workers key key [] []

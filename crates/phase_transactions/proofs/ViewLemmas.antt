@@ -1,52 +1,40 @@
 -- A view: its one shard, and what it does there.
 use Rattle.std.proofs.Common.{◌≡◌, ℕ, true, false, cond, List, [], ◌∷◌, length, Option, Some, None, MatchOption, refl, sym, ap, subst, ◌∙◌}
+use Rattle.std.proofs.lemmas.{Bool.{true≢false, false≢true}, Option.{same_Some}}
 use Rattle.std.specs.List.{AllByRecursion}
-use Rattle.std.proofs.lemmas.Bool.{true≢false, false≢true}
-use Rattle.std.proofs.lemmas.Option.{same_Some}
-use Rattle.auction_rows.specs.declared.{values.Stars.Stars, requests.ItemId.ItemId, requests.Facts.Facts, requests.Object.Object, requests.Request.Request, replies.Reply.Reply}
+use Rattle.auction_rows.specs.{Footprint.{is_hot}, Refusals.{number_refusal}}
+use Rattle.auction_rows.specs.Requests.{is_view, shard_of}
+use Rattle.auction_rows.specs.declared.replies.Reply.TheVariants.{Refused}
 use Rattle.auction_rows.specs.declared.requests.Object.TheVariants.{Item, User, Category}
 use Rattle.auction_rows.specs.declared.requests.Request.TheVariants.{StoreItem, StoreBid, StoreComment, BuyNow, ViewItem, ViewBids, ViewCategory, ViewUser}
-use Rattle.auction_rows.specs.declared.replies.Reply.TheVariants.{Refused}
-use Rattle.auction_rows.specs.Footprint.{is_hot}
-use Rattle.auction_rows.specs.Refusals.{number_refusal}
-use Rattle.auction_rows.specs.Requests.{is_view, shard_of}
+use Rattle.auction_rows.specs.declared.{values.Stars.Stars, requests.ItemId.ItemId, requests.Facts.Facts, requests.Object.Object, requests.Request.Request, replies.Reply.Reply}
+use Rattle.item_shards.specs.{Contents.{target}, Looking.{IsTrueOf}}
+use Rattle.item_shards.specs.{ShardContents.{contents, LiesIn}, Writing.{padded, done_on}}
 use Rattle.item_shards.specs.declared.shard.acts.Act.TheVariants.{Look}
 use Rattle.item_shards.specs.declared.shard.acts.Look.{Look as LookedAt}
 use Rattle.item_shards.specs.declared.shard.acts.Look.TheVariants as look
 use Rattle.item_shards.specs.Events as event
 use Rattle.item_shards.specs.Shown as shown
-use Rattle.item_shards.specs.Contents.{target}
-use Rattle.item_shards.specs.Looking.{IsTrueOf}
-use Rattle.item_shards.specs.ShardContents.{contents, LiesIn}
-use Rattle.item_shards.specs.Writing.{padded, done_on}
-use Rattle.shard_boxes.specs.Helds.{HeldState}
-use Rattle.shard_boxes.specs.Keys.{KeyState}
-use Rattle.shard_boxes.specs.States.{ShardState}
-use Rattle.worker_slices.specs.declared.counters.Counters.{Counters}
-use Rattle.phase_transactions.specs.declared.deeds.Deeds.{Deeds}
-use Rattle.worker_slices.specs.declared.homes.Home.{Home}
+use Rattle.shard_boxes.specs.{Helds.{HeldState}, Keys.{KeyState}, States.{ShardState}}
+use Rattle.worker_slices.specs.{Homes.{IsHomeOf, shard_at}, Slicing.{hot_objects}}
+use Rattle.worker_slices.specs.declared.{counters.Counters.{Counters}, homes.Home.{Home}}
+use Rattle.worker_slices.specs.declared.{homes.Homes.{Homes}, slices.Hot.{Hot}}
 use Rattle.worker_slices.specs.declared.homes.Home.TheVariants as home
-use Rattle.worker_slices.specs.declared.homes.Homes.{Homes}
-use Rattle.worker_slices.specs.declared.slices.Hot.{Hot}
-use Rattle.phase_transactions.specs.declared.taken.Begun.{Begun}
-use Rattle.phase_transactions.specs.declared.taken.Taken.{Taken}
-use Rattle.phase_transactions.specs.declared.taken.Taken.TheVariants as taken
-use Rattle.phase_transactions.specs.inner.Begun.{Step, HasBegun, IsOnOne, look_for, viewed}
-use Rattle.phase_transactions.specs.inner.Deeds.{AreDeedsOf, AreGoodOn, acts_for, found_on, event_with, first_dealt, second_dealt, shown_with}
-use Rattle.worker_slices.specs.Homes.{IsHomeOf, shard_at}
-use Rattle.phase_transactions.specs.inner.Homes.{AreHomesOf}
-use Rattle.phase_transactions.specs.Performing.{HasCommittedSome, HaveOpening}
-use Rattle.worker_slices.specs.Slicing.{hot_objects}
-use Rattle.phase_transactions.specs.Putting.{HasPutAll}
-use Rattle.phase_transactions.specs.inner.HeldShards.{IsAsTaken}
-use Rattle.phase_transactions.specs.inner.Takens.{each_once, footprint_of, held_in, numbers_of, is_one_of, dealt, line_among}
-use Rattle.phase_transactions.specs.Txns.{IsReplyTo, IsAnswered, is_put_off, reason_seen, refusal_seen, ReadSet}
-use Rattle.phase_transactions.specs.inner.Viewing.{IsShownBy}
-use Rattle.phase_transactions.specs.Workers.{WorkerState, setting_of, txn_of, with_entry, after_commit}
-use Rattle.phase_transactions.proofs.BegunLemmas.{begun_commits}
-use Rattle.phase_transactions.proofs.DeedLemmas.{done_is, one_owed}
+use Rattle.phase_transactions.proofs.{BegunLemmas.{begun_commits}, DeedLemmas.{done_is, one_owed}}
 use Rattle.phase_transactions.proofs.GoodLemmas.{home_number}
 use Rattle.phase_transactions.proofs.HomeLemmas.{same_objects_of, no_other}
+use Rattle.phase_transactions.specs.Performing.{HasCommittedSome, HaveOpening}
+use Rattle.phase_transactions.specs.Putting.{HasPutAll}
+use Rattle.phase_transactions.specs.Txns.{IsReplyTo, IsAnswered, is_put_off, reason_seen, refusal_seen, ReadSet}
+use Rattle.phase_transactions.specs.Workers.{WorkerState, setting_of, txn_of, with_entry, after_commit}
+use Rattle.phase_transactions.specs.declared.{deeds.Deeds.{Deeds}, taken.Begun.{Begun}}
+use Rattle.phase_transactions.specs.declared.taken.Taken.{Taken}
+use Rattle.phase_transactions.specs.inner.Begun.{Step, HasBegun, IsOnOne, look_for, viewed}
+use Rattle.phase_transactions.specs.inner.Deeds.{AreDeedsOf, AreGoodOn, acts_for, found_on, event_with, first_dealt, second_dealt, shown_with}
+use Rattle.phase_transactions.specs.inner.{HeldShards.{IsAsTaken}, Homes.{AreHomesOf}}
+use Rattle.phase_transactions.specs.inner.Takens.{each_once, footprint_of, held_in, numbers_of, is_one_of, dealt, line_among}
+use Rattle.phase_transactions.specs.inner.Viewing.{IsShownBy}
+use Rattle.phase_transactions.specs.declared.taken.Taken.TheVariants as taken
 
 -- the home of the object that is viewed
 record IsOnlyHome (hots : List (Object × Hot)) (shards : ℕ) (homes : Homes) (object : Object) (h : Home) : Type 0 where

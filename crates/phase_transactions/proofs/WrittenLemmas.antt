@@ -1,35 +1,24 @@
 -- The acts that are dealt to the shards that were taken are those that are done there, and can be done there, and the clocks that were found are theirs.
 use Rattle.std.proofs.Common.{◌≡◌, ◌≢◌, ℕ, max, ◌<◌, ◌≤◌, ◌==◌, ◌||◌, Bool, true, false, cond, List, [], ◌∷◌, Option, Some, None, refl, sym, ap, subst, ◌∙◌, ◌⊎◌, inl, inr, arith}
-use Rattle.std.specs.List.{AllByRecursion, list_any}
-use Rattle.std.proofs.Math.Bool.{or-false}
-use Rattle.std.proofs.lemmas.Bool.{eq-eqb, ne_eqb, false≢true}
-use Rattle.std.proofs.lemmas.Bool.Decides.{eqb_tells}
-use Rattle.phase_laws.specs.Numbers.{greatest_by}
-use Rattle.item_shards.specs.declared.shard.acts.Act.{Act}
-use Rattle.item_shards.specs.declared.shard.acts.Act.TheVariants.{Look}
+use Rattle.std.proofs.{Math.Bool.{or-false}, lemmas.Bool.{eq-eqb, ne_eqb, false≢true}}
+use Rattle.std.{proofs.lemmas.Bool.Decides.{eqb_tells}, specs.List.{AllByRecursion, list_any}}
+use Rattle.phase_laws.specs.{Numbers.{greatest_by}, Replay.{SawInTurn}}
+use Rattle.item_shards.specs.{Acting.{CanActIn}, Contents.{Contents, after_act}, Events.{Event}}
+use Rattle.item_shards.specs.{Looking.{event_at, events_of}, ShardContents.{clock, contents, rooms}}
+use Rattle.item_shards.specs.{Writing.{padded}, declared.shard.acts.Act.{TheVariants.{Look}, Act}}
 use Rattle.item_shards.specs.declared.shard.acts.Look.TheVariants as look
-use Rattle.item_shards.specs.Events.{Event}
 use Rattle.item_shards.specs.Events as event
 use Rattle.item_shards.specs.Shown as shown
-use Rattle.phase_laws.specs.Replay.{SawInTurn}
 use Rattle.auction_rows.specs.declared.{requests.Facts.Facts, replies.Reply.Reply}
-use Rattle.item_shards.specs.Acting.{CanActIn}
-use Rattle.item_shards.specs.Contents.{Contents, after_act}
-use Rattle.item_shards.specs.Looking.{event_at, events_of}
-use Rattle.item_shards.specs.ShardContents.{clock, contents, rooms}
-use Rattle.item_shards.specs.Writing.{padded}
-use Rattle.shard_boxes.specs.Helds.{HeldState}
-use Rattle.shard_boxes.specs.Lines.{first_two}
-use Rattle.worker_slices.specs.declared.homes.Home.{Home}
+use Rattle.shard_boxes.specs.{Helds.{HeldState}, Lines.{first_two}}
+use Rattle.worker_slices.specs.{Homes.{shard_at}, declared.homes.Home.{Home}}
 use Rattle.worker_slices.specs.declared.homes.Home.TheVariants as home
+use Rattle.phase_transactions.{proofs.DeedLemmas.{event_is}, specs.Txns.{clock_in}}
 use Rattle.phase_transactions.specs.declared.taken.Taken.{Taken}
-use Rattle.phase_transactions.specs.declared.taken.Taken.TheVariants as taken
 use Rattle.phase_transactions.specs.inner.Deeds.{is_at, deeds_on, first_dealt, second_dealt, clocks_of, event_with, IsGood, AreGoodOn}
 use Rattle.phase_transactions.specs.inner.HeldShards.{alone_in}
-use Rattle.worker_slices.specs.Homes.{shard_at}
 use Rattle.phase_transactions.specs.inner.Takens.{each_once, greatest_held, held_in, numbers_of, is_one_of, dealt, no_line, line_among, CanBeDoneOn, CanBeDoneOnAll}
-use Rattle.phase_transactions.specs.Txns.{clock_in}
-use Rattle.phase_transactions.proofs.DeedLemmas.{event_is}
+use Rattle.phase_transactions.specs.declared.taken.Taken.TheVariants as taken
 
 -- where two objects lie, whose shards were taken, each once
 abbrev pub LieInOne : ℕ → Option ℕ → Option ℕ → Type 0

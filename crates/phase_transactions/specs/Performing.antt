@@ -1,22 +1,19 @@
 -- What becomes of a request.
 use Rattle.std.specs.Prelude.{◌≡◌, ℕ, suc, max, ◌<◌, ◌≤◌, Bool, true, false, List, [], length, Some, None, Result, Ok, Err, ⊤, slice_get}
 use Rattle.phase_laws.specs.Numbers.{greatest_by}
-use Rattle.auction_rows.specs.declared.{values.Opening.Opening, requests.Request.Request, replies.Reply.Reply, rows.Entry.Entry}
-use Rattle.auction_rows.specs.declared.requests.Request.TheVariants.{StoreItem}
+use Rattle.auction_rows.specs.{Footprint.{footprint, takes_shard}, Refusals.{number_refusal}}
 use Rattle.auction_rows.specs.declared.replies.Reply.TheVariants.{ItemStored}
-use Rattle.auction_rows.specs.Footprint.{footprint, takes_shard}
-use Rattle.auction_rows.specs.Refusals.{number_refusal}
+use Rattle.auction_rows.specs.declared.requests.Request.TheVariants.{StoreItem}
+use Rattle.auction_rows.specs.declared.{values.Opening.Opening, requests.Request.Request, replies.Reply.Reply, rows.Entry.Entry}
 use Rattle.item_shards.specs.CommitNumbers.{last_number}
-use Rattle.shard_boxes.specs.Keys.{BoxId, KeyState, seat_at}
-use Rattle.shard_boxes.specs.States.{ShardState, state_at}
-use Rattle.phase_transactions.specs.declared.done.Done.{Done}
-use Rattle.phase_transactions.specs.declared.done.Done.TheVariants.{Committed, Stashed}
-use Rattle.phase_transactions.specs.declared.done.PermitFault.{PermitFault}
-use Rattle.phase_transactions.specs.declared.done.PermitFault.TheVariants.{Memory, NumberFull}
+use Rattle.shard_boxes.specs.{Keys.{BoxId, KeyState, seat_at}, States.{ShardState, state_at}}
 use Rattle.phase_transactions.specs.Putting.{HasPutAll, clock_seen, HasSameLines}
-use Rattle.worker_slices.specs.Slicing.{hot_objects}
 use Rattle.phase_transactions.specs.Txns.{Setting, Txn, hot_of, txn_number, takes, line_on, greatest_clock, is_put_off, IsAnswered, ReadSet}
 use Rattle.phase_transactions.specs.Workers.{WorkerState, setting_of, next_entry, next_item, txn_of, hot_txn, after_commit, after_putting_off, with_first_unstashed, IsIdle}
+use Rattle.phase_transactions.specs.declared.done.Done.{TheVariants.{Committed, Stashed}, Done}
+use Rattle.phase_transactions.specs.declared.done.PermitFault.{PermitFault}
+use Rattle.phase_transactions.specs.declared.done.PermitFault.TheVariants.{Memory, NumberFull}
+use Rattle.worker_slices.specs.Slicing.{hot_objects}
 
 -- the shards of a phase are those of an auction with as many users and categories
 abbrev pub HaveOpening : List ShardState → Opening → Type 0

@@ -1,20 +1,18 @@
 -- Transactions: the commits of a worker in a phase, each with what its transaction found.
-use Rattle.std.specs.Prelude.{◌≡◌, ℕ, ◌==◌, Bool, false, if◌then◌else◌, List, [], ◌∷◌, map, filter, Option, Some, None, MatchOption, option_map, option_and_then, unwrap_or, ⊤}
 use Rattle.std.specs.Option.{option_or}
+use Rattle.std.specs.Prelude.{◌≡◌, ℕ, ◌==◌, Bool, false, if◌then◌else◌, List, [], ◌∷◌, map, filter, Option, Some, None, MatchOption, option_map, option_and_then, unwrap_or, ⊤}
 use Rattle.phase_laws.specs.Numbers.{greatest_found}
-use Rattle.auction_rows.specs.declared.{values.Opening.Opening, requests.ItemId.ItemId, requests.Facts.Facts, requests.Object.Object, requests.Request.Request, replies.Refusal.Refusal, replies.Reply.Reply, rows.Entry.Entry}
+use Rattle.auction_rows.specs.Footprint.{is_hot, footprint, takes_shard}
+use Rattle.auction_rows.specs.declared.replies.Reply.TheVariants.{ItemStored, BidStored, CommentStored, Bought, BidsSeen, Refused}
 use Rattle.auction_rows.specs.declared.requests.Object.TheVariants.{Item}
 use Rattle.auction_rows.specs.declared.requests.Request.TheVariants.{StoreItem, StoreBid, StoreComment, BuyNow, ViewItem, ViewBids, ViewCategory, ViewUser}
-use Rattle.auction_rows.specs.declared.replies.Reply.TheVariants.{ItemStored, BidStored, CommentStored, Bought, BidsSeen, Refused}
-use Rattle.auction_rows.specs.Footprint.{is_hot, footprint, takes_shard}
+use Rattle.auction_rows.specs.declared.{values.Opening.Opening, requests.ItemId.ItemId, requests.Facts.Facts, requests.Object.Object, requests.Request.Request, replies.Refusal.Refusal, replies.Reply.Reply, rows.Entry.Entry}
 pub use Rattle.auction_rows.specs.Phases.{is_put_off}
-use Rattle.auction_rows.specs.Refusals.{number_refusal, item_refusal}
-use Rattle.auction_rows.specs.Requests.{item_of, is_view}
+use Rattle.auction_rows.specs.{Refusals.{number_refusal, item_refusal}, Requests.{item_of, is_view}}
 use Rattle.item_shards.specs.Writing.{acts_owed}
 use Rattle.shard_boxes.specs.Lines.{Line, first_two}
+use Rattle.worker_slices.specs.{Counting.{counters_after}, Slicing.{hot_objects, stock_of}}
 use Rattle.worker_slices.specs.declared.counters.Counters.{Counters}
-use Rattle.worker_slices.specs.Counting.{counters_after}
-use Rattle.worker_slices.specs.Slicing.{hot_objects, stock_of}
 
 -- what a phase is run with: the users and categories, how many shards there are, and of each hot
 -- object what is fixed

@@ -1,7 +1,7 @@
 -- What the fields of a worker show.
 use Rattle.std.specs.Prelude.{◌≡◌, ℕ, ◌<◌}
-use Rattle.phase_transactions.specs.declared.worker.Worker.TheInside.{Inside}
 use Rattle.phase_transactions.specs.Workers.{WorkerState, IsLawfulWorker}
+use Rattle.phase_transactions.specs.declared.worker.Worker.TheInside.{Inside}
 
 -- the worker with these fields
 abbrev pub state_in : {N : Type 0} → Inside N → WorkerState

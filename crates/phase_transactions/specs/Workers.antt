@@ -1,21 +1,18 @@
 -- A worker in a phase.
 use Rattle.std.specs.Prelude.{◌≡◌, ℕ, suc, ◌+◌, ◌-◌, ◌<◌, ◌≤◌, Bool, true, false, List, [], ◌∷◌, ◌++◌, Option, None, length, option_map, slice_get, ⊤}
 use Rattle.phase_laws.specs.Numbers.{last_by}
-use Rattle.auction_rows.specs.declared.{values.Opening.Opening, requests.ItemId.ItemId, requests.BidId.BidId, requests.Object.Object, requests.Request.Request, replies.Reply.Reply, rows.Entry.Entry}
+use Rattle.auction_rows.specs.{Footprint.{is_hot}, Replies.{row_of}}
 use Rattle.auction_rows.specs.declared.requests.Object.TheVariants.{Item}
-use Rattle.auction_rows.specs.Footprint.{is_hot}
-use Rattle.auction_rows.specs.Replies.{row_of}
+use Rattle.auction_rows.specs.declared.{values.Opening.Opening, requests.ItemId.ItemId, requests.BidId.BidId, requests.Object.Object, requests.Request.Request, replies.Reply.Reply, rows.Entry.Entry}
 use Rattle.item_shards.specs.Writing.{writes_if}
-use Rattle.shard_boxes.specs.declared.limits.TheConstants.{MOST_COMMITS}
 use Rattle.shard_boxes.specs.Keys.{KeyState, lines_at, holds_at}
+use Rattle.shard_boxes.specs.declared.limits.TheConstants.{MOST_COMMITS}
 use Rattle.worker_journals.specs.Journals.{JournalView, entry_number, commit_in, with_commit}
-use Rattle.worker_slices.specs.declared.counters.Counters.{Counters}
-use Rattle.worker_slices.specs.declared.slices.Hot.{Hot}
+use Rattle.worker_slices.specs.Counting.{AreCounted, counters_after}
 use Rattle.worker_slices.specs.Slicing.{hot_objects, slices_of, stocks_of, slices_after_acts, HaveAtMost}
 use Rattle.worker_slices.specs.Stashes.{StashState, without_first}
-use Rattle.phase_transactions.specs.Txns.{Setting, Txn, ReadSet}
-use Rattle.worker_slices.specs.Counting.{AreCounted, counters_after}
-use Rattle.phase_transactions.specs.Works.{Work, IsWorkOf}
+use Rattle.worker_slices.specs.declared.{counters.Counters.{Counters}, slices.Hot.{Hot}}
+use Rattle.phase_transactions.specs.{Txns.{Setting, Txn, ReadSet}, Works.{Work, IsWorkOf}}
 
 -- a worker in a phase: its right to take shards, and what no other worker touches
 pub record WorkerState : Type 0 where

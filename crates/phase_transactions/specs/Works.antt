@@ -1,15 +1,13 @@
 -- What a worker has done in a phase, and by which transactions that is explained.
-use Rattle.std.specs.Prelude.{◌≡◌, ℕ, suc, max, if◌then◌else◌, List, [], ◌∷◌, ◌++◌, map, fold}
 use Rattle.std.specs.List.{AllByRecursion}
-use Rattle.phase_laws.specs.Numbers.{last_by, IsNumberedFrom}
-use Rattle.phase_laws.specs.Replay.{SawInTurn}
-use Rattle.auction_rows.specs.declared.{requests.Object.Object, rows.Entry.Entry}
+use Rattle.std.specs.Prelude.{◌≡◌, ℕ, suc, max, if◌then◌else◌, List, [], ◌∷◌, ◌++◌, map, fold}
+use Rattle.phase_laws.specs.{Numbers.{last_by, IsNumberedFrom}, Replay.{SawInTurn}}
 use Rattle.auction_rows.specs.History.{row_of_entry, rows_of}
+use Rattle.auction_rows.specs.declared.{requests.Object.Object, rows.Entry.Entry}
 use Rattle.item_shards.specs.Writing.{writes_if}
 use Rattle.shard_boxes.specs.Lines.{Line}
-use Rattle.worker_slices.specs.declared.counters.Counters.{Counters}
-use Rattle.worker_slices.specs.declared.slices.Hot.{Hot}
 use Rattle.worker_slices.specs.Slicing.{slices_of, slices_after_acts}
+use Rattle.worker_slices.specs.declared.{counters.Counters.{Counters}, slices.Hot.{Hot}}
 use Rattle.phase_transactions.specs.Txns.{Setting, Txn, entry_of, txn_number, greatest_clock, takes, line_on, lines_owed, IsAnswered, after_txn}
 
 -- what a worker has done: with which counters and which clock it began, its journal, the lines of

@@ -1,23 +1,19 @@
 //! What a store is answered, by what it sees of the item that it needs, and what a view shows.
 ghost use Rattle.std.specs.Prelude.{◌≡◌, ℕ, None, Some, false, true};
+ghost use Rattle.auction_rows.specs.{ItemViews.{item_told}, Requests.{is_view, item_of}};
+ghost use Rattle.auction_rows.specs.StoreReplies.{reply_of};
+ghost use Rattle.auction_rows.specs.declared.requests.Request.TheVariants.{ViewItem};
 ghost use Rattle.auction_rows.specs.declared.requests.ItemId.{ItemId as ItemIdValue};
 ghost use Rattle.auction_rows.specs.declared.requests.Object.{Object as ObjectValue};
-ghost use Rattle.auction_rows.specs.declared.requests.Request.TheVariants.{ViewItem};
-ghost use Rattle.auction_rows.specs.Requests.{is_view, item_of};
-ghost use Rattle.auction_rows.specs.StoreReplies.{reply_of};
-ghost use Rattle.auction_rows.specs.ItemViews.{item_told};
-ghost use Rattle.item_shards.specs.declared.shard.acts.Look.TheVariants as look;
-ghost use Rattle.item_shards.specs.Answering.{bid_request};
-ghost use Rattle.item_shards.specs.Looking.{IsTrueOf};
+ghost use Rattle.item_shards.specs.{Answering.{bid_request}, Looking.{IsTrueOf}};
 ghost use Rattle.item_shards.specs.ShardContents.{contents};
+ghost use Rattle.item_shards.specs.declared.shard.acts.Look.TheVariants as look;
+ghost use Rattle.worker_slices.specs.{Homes.{IsHomeOf, shard_at}, Slicing.{stocks_of, stock_of}};
 ghost use Rattle.worker_slices.specs.declared.counters.Counters.{Counters as CountersValue};
+ghost use Rattle.phase_transactions.specs.Txns.{IsReplyTo};
 ghost use Rattle.phase_transactions.specs.inner.Begun.{CanView, FirstHas, IsOnOne, IsRefusedBy, look_for};
 ghost use Rattle.phase_transactions.specs.inner.Deeds.{IsReplyUnless, shown_with};
-ghost use Rattle.phase_transactions.specs.inner.Homes.{HasHomes};
-ghost use Rattle.worker_slices.specs.Homes.{IsHomeOf, shard_at};
-ghost use Rattle.worker_slices.specs.Slicing.{stocks_of, stock_of};
-ghost use Rattle.phase_transactions.specs.Txns.{IsReplyTo};
-ghost use Rattle.phase_transactions.specs.inner.Viewing.{IsShownBy};
+ghost use Rattle.phase_transactions.specs.inner.{Homes.{HasHomes}, Viewing.{IsShownBy}};
 
 use crate::deeds::BidCall;
 use crate::taken::{Taken, refusal_in};

@@ -1,8 +1,7 @@
 //! What a store does on the shards that it takes.
 ghost use Rattle.std.specs.Prelude.{◌≡◌, ℕ, false, Option};
+ghost use Rattle.auction_rows.specs.{Requests.{is_view}, StoreReplies.{reply_of}};
 ghost use Rattle.auction_rows.specs.declared.requests.Facts.{Facts as FactsValue};
-ghost use Rattle.auction_rows.specs.Requests.{is_view};
-ghost use Rattle.auction_rows.specs.StoreReplies.{reply_of};
 ghost use Rattle.phase_transactions.specs.inner.Begun.{AreGoodFor, AreOwedBy, HaveFootprint};
 ghost use Rattle.phase_transactions.specs.inner.Deeds.{written_of, IsBid};
 

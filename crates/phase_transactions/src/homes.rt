@@ -1,11 +1,10 @@
 //! Where a worker finds the objects of a request.
-ghost use Rattle.std.specs.Prelude.{◌≡◌, ◌<◌, ℕ, None, false, List, length};
 ghost use Rattle.std.specs.List.{AllByRecursion};
+ghost use Rattle.std.specs.Prelude.{◌≡◌, ◌<◌, ℕ, None, false, List, length};
 ghost use Rattle.auction_rows.specs.Footprint.{is_hot};
 ghost use Rattle.auction_rows.specs.declared.requests.Object.{Object as ObjectValue};
+ghost use Rattle.worker_slices.specs.{Homes.{IsHomeOf, shard_at}, Slicing.{hot_objects}};
 ghost use Rattle.worker_slices.specs.declared.slices.Hot.{Hot};
-ghost use Rattle.worker_slices.specs.Homes.{IsHomeOf, shard_at};
-ghost use Rattle.worker_slices.specs.Slicing.{hot_objects};
 ghost use Rattle.phase_transactions.specs.inner.Homes.{AreHomesOf};
 ghost use Rattle.phase_transactions.specs.inner.Takens.{each_once, footprint_of, is_one_of};
 
@@ -16,8 +15,7 @@ use worker_slices::{Home, Homes};
 
 impl<N: PhaseName> Worker<N> {
     ghost use Rattle.auction_rows.specs.Refusals.{number_refusal};
-    ghost use Rattle.phase_transactions.specs.Performing.{asks};
-    ghost use Rattle.phase_transactions.specs.Txns.{is_put_off};
+    ghost use Rattle.phase_transactions.specs.{Performing.{asks}, Txns.{is_put_off}};
 
     /// Where the objects are of a request: the shards among them are its footprint. What it views
     /// or buys is not hot, since it is not put off, nor is the item that it stores.

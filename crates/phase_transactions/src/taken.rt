@@ -1,14 +1,13 @@
 //! The shards that a transaction takes, its number, and how they go back with their lines.
-ghost use Rattle.std.specs.Prelude.{◌≡◌, ◌<◌, ◌≤◌, suc, max, length, Some, IfNone, IfSome, IfOk};
 ghost use Rattle.std.specs.List.{AllByRecursion};
+ghost use Rattle.std.specs.Prelude.{◌≡◌, ◌<◌, ◌≤◌, suc, max, length, Some, IfNone, IfSome, IfOk};
 ghost use Rattle.auction_rows.specs.Requests.{item_of};
 ghost use Rattle.auction_rows.specs.declared.requests.ItemId.{ItemId as ItemIdValue};
-ghost use Rattle.item_shards.specs.Answering.{refusal_with};
-ghost use Rattle.item_shards.specs.CommitNumbers.{last_number};
+ghost use Rattle.item_shards.specs.{Answering.{refusal_with}, CommitNumbers.{last_number}};
 ghost use Rattle.phase_transactions.specs.Putting.{CanDo, line_of, HasPutAll};
-ghost use Rattle.phase_transactions.specs.inner.HeldShards.{written_acts, IsHeldFor, IsPutWith};
 ghost use Rattle.phase_transactions.specs.inner.Begun.{states_in, FirstHas, FirstHasRoom};
 ghost use Rattle.phase_transactions.specs.inner.Deeds.{stock_taken};
+ghost use Rattle.phase_transactions.specs.inner.HeldShards.{written_acts, IsHeldFor, IsPutWith};
 ghost use Rattle.phase_transactions.specs.inner.Takens.{footprint_of, is_one_of, greatest_held, held_in, numbers_of, dealt, line_among, HasTakenAll, AreHeldAll, AreBack, CanBeDoneOnAll, IsReady};
 
 use crate::deeds::Written;

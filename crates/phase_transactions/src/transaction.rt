@@ -1,11 +1,9 @@
 //! What a worker does with a request that is not put off: what it finds, and how it answers.
-ghost use Rattle.std.specs.Prelude.{◌≡◌, ◌<◌, ◌≤◌, ◌↔◌, ℕ, suc, None, Some, IsNone, IfNone, IfSome, IfOk, IfErr, false, true, length};
 ghost use Rattle.std.specs.List.{AllByRecursion};
-ghost use Rattle.auction_rows.specs.Refusals.{number_refusal};
-ghost use Rattle.auction_rows.specs.Requests.{is_view};
+ghost use Rattle.std.specs.Prelude.{◌≡◌, ◌<◌, ◌≤◌, ◌↔◌, ℕ, suc, None, Some, IsNone, IfNone, IfSome, IfOk, IfErr, false, true, length};
+ghost use Rattle.auction_rows.specs.{Refusals.{number_refusal}, Requests.{is_view}};
 ghost use Rattle.auction_rows.specs.StoreReplies.{reply_of};
-ghost use Rattle.item_shards.specs.Answering.{bid_request};
-ghost use Rattle.item_shards.specs.CommitNumbers.{last_number};
+ghost use Rattle.item_shards.specs.{Answering.{bid_request}, CommitNumbers.{last_number}};
 ghost use Rattle.shard_boxes.specs.Keys.{KeyState};
 ghost use Rattle.phase_transactions.specs.declared.done.PermitFault.TheVariants.{NumberFull};
 ghost use Rattle.phase_transactions.specs.inner.Deeds.{IsBid};
@@ -24,18 +22,16 @@ use worker_journals::{Answer, BidRequest, ReplyForm};
 use worker_slices::Homes;
 
 impl<N: PhaseName> Worker<N> {
+    ghost use Rattle.worker_slices.specs.{Homes.{IsHotStore, shard_at}, Slicing.{hot_objects}};
     ghost use Rattle.worker_slices.specs.declared.homes.Homes.{Homes as HomesValue};
+    ghost use Rattle.phase_transactions.specs.Performing.{asks, CanTransact, HasCommitted, HasCommittedSome, HasFailed, HasPerformed, HasStoredSome, HaveOpening, StoresItem};
+    ghost use Rattle.phase_transactions.specs.{Txns.{is_put_off}, Workers.{next_bid}};
     ghost use Rattle.phase_transactions.specs.inner.Begun.{step_of, HasBegun, HasFirst, HasRoomFor, IsAnsweredBy, IsOnOne, states_in};
     ghost use Rattle.phase_transactions.specs.inner.Homes.{AreHomesOf, HasHomes};
-    ghost use Rattle.worker_slices.specs.Homes.{IsHotStore, shard_at};
-    ghost use Rattle.phase_transactions.specs.Performing.{asks, CanTransact, HasCommitted, HasCommittedSome, HasFailed, HasPerformed, HasStoredSome, HaveOpening, StoresItem};
     ghost use Rattle.phase_transactions.specs.inner.Storing.{HasStoredOrIsFull};
-    ghost use Rattle.worker_slices.specs.Slicing.{hot_objects};
     ghost use Rattle.phase_transactions.specs.inner.Takens.{footprint_of, is_one_of, IsReady};
-    ghost use Rattle.phase_transactions.specs.Txns.{is_put_off};
-    ghost use Rattle.request_scripts.specs.Scripts.{request_of};
     ghost use Rattle.phase_transactions.specs.inner.Viewing.{IsShownBy};
-    ghost use Rattle.phase_transactions.specs.Workers.{next_bid};
+    ghost use Rattle.request_scripts.specs.Scripts.{request_of};
 
     /// Performs a request of the quota that is not put off. After a fault nothing has changed but
     /// what the key has seen of the shards of its footprint.

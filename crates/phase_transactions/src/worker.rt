@@ -1,13 +1,10 @@
 //! A worker in a phase, and what it has committed.
 ghost use Rattle.std.specs.Prelude.{◌≡◌, ◌<◌, ◌≤◌, false, true, [], length, slice_get, Some, IfNone, IfSome};
+ghost use Rattle.auction_rows.specs.{Footprint.{is_hot}, StoreReplies.{reply_of}};
 ghost use Rattle.auction_rows.specs.declared.requests.Object.TheVariants.{Item};
-ghost use Rattle.auction_rows.specs.Footprint.{is_hot};
-ghost use Rattle.auction_rows.specs.StoreReplies.{reply_of};
-ghost use Rattle.worker_slices.specs.Homes.{IsWrittenAt};
+ghost use Rattle.worker_slices.specs.{Counting.{IsOwn}, Homes.{IsWrittenAt}};
 ghost use Rattle.worker_slices.specs.Slicing.{hot_objects, HaveAtMost};
-ghost use Rattle.phase_transactions.specs.Txns.{is_put_off};
-ghost use Rattle.worker_slices.specs.Counting.{IsOwn};
-ghost use Rattle.phase_transactions.specs.WorkerFields.{state_in, AreLawful};
+ghost use Rattle.phase_transactions.specs.{Txns.{is_put_off}, WorkerFields.{state_in, AreLawful}};
 ghost use Rattle.phase_transactions.specs.Workers.{WorkerState, CanStart, new_worker, next_bid, next_item, last_reply, with_try, after_putting_off, with_first_unstashed, with_entry, after_commit};
 
 use crate::deeds::{Call, Store};

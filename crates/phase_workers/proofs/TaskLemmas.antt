@@ -1,21 +1,17 @@
 -- The tasks of workers, one after the other.
 use Rattle.std.proofs.Common.{inl, inr, ◌≡◌, ℕ, zero, suc, ◌+◌, ◌<◌, ◌≤◌, Bool, List, [], ◌∷◌, ◌++◌, map, length, drop, get_or, refl, sym, ap, subst, ◌∙◌, append_assoc, arith}
-use Rattle.std.specs.Prelude.{OnOk, IfErr, Result, unwrap_or, None, Some, Ok, Err}
+use Rattle.std.proofs.lemmas.{List.{map-append, length-map}, Slice.Zip.{AllZip-long}}
 use Rattle.std.specs.List.{AllByRecursion, AllZip}
-use Rattle.std.proofs.lemmas.List.{map-append, length-map}
-use Rattle.std.proofs.lemmas.Slice.Zip.{AllZip-long}
+use Rattle.std.specs.Prelude.{OnOk, IfErr, Result, unwrap_or, None, Some, Ok, Err}
 use Rattle.auction_rows.specs.declared.requests.Request.{Request}
-use Rattle.phase_transactions.specs.declared.done.PermitFault.{PermitFault}
-use Rattle.phase_transactions.specs.Workers.{WorkerState}
+use Rattle.phase_transactions.specs.{Workers.{WorkerState}, declared.done.PermitFault.{PermitFault}}
 use Rattle.phase_laws.proofs.ListLemmas.{all-append}
 use Rattle.shard_boxes.specs.States.{ShardState}
-use Rattle.job_threads.specs.declared.fault.JobFault.{JobFault}
+use Rattle.job_threads.specs.{Threads.{IsUnstarted}, declared.fault.JobFault.{JobFault}}
 use Rattle.job_threads.specs.declared.fault.JobFault.TheVariants.{Spawn, Memory}
-use Rattle.job_threads.specs.Threads.{IsUnstarted}
-use Rattle.phase_workers.specs.declared.round.WorkerAnswer.{WorkerAnswer}
 use Rattle.phase_workers.specs.Tasks.{Task, task, tasks, HasDoneTask, HasMetFault, IsFirstFault, IsFaultBy}
+use Rattle.phase_workers.specs.{Threads.{fault_of_jobs}, declared.round.WorkerAnswer.{WorkerAnswer}}
 use Rattle.phase_workers.specs.inner.Answers.{without_fault, fault_or, first_fault}
-use Rattle.phase_workers.specs.Threads.{fault_of_jobs}
 
 -- the next of the scripts that are left
 pub next_script : (scripts : List (List Request)) (n m : ℕ) (script : List Request) → n < length scripts → script ≡ get_or scripts n script → m ≡ n + 1 →

@@ -1,23 +1,18 @@
 -- What a permit's calls are after one more request.
 use Rattle.std.proofs.Common.{◌≡◌, ℕ, zero, suc, ◌+◌, ◌-◌, ◌<◌, ◌≤◌, Bool, true, false, cond, List, [], ◌∷◌, ◌++◌, length, map, take, drop, Some, None, refl, sym, ap, subst, ◌∙◌, append_assoc, arith}
-use Rattle.std.specs.Prelude.{Option, Result, Ok, Err, OnOk, IfOk, IfErr, IsErrAnd, slice_get, not, unwrap_or}
-use Rattle.std.specs.List.{filter, AllByRecursion}
-use Rattle.std.proofs.Math.Seq.{drop-nil}
-use Rattle.std.proofs.lemmas.Bool.{false≢true}
+use Rattle.std.proofs.{Math.Seq.{drop-nil}, lemmas.Bool.{false≢true}}
 use Rattle.std.proofs.lemmas.List.{append-nil, map-append, length-append, take-append-drop, drop-drop, drop_all}
-use Rattle.std.proofs.lemmas.List.Elements.{filter-append}
+use Rattle.std.{proofs.lemmas.List.Elements.{filter-append}, specs.List.{filter, AllByRecursion}}
+use Rattle.std.specs.Prelude.{Option, Result, Ok, Err, OnOk, IfOk, IfErr, IsErrAnd, slice_get, not, unwrap_or}
+use Rattle.auction_rows.specs.{Phases.{is_put_off}, Replies.{row_of}}
 use Rattle.auction_rows.specs.declared.{requests.Object.Object, requests.Request.Request, replies.Reply.Reply, rows.Entry.Entry}
-use Rattle.auction_rows.specs.Phases.{is_put_off}
-use Rattle.auction_rows.specs.Replies.{row_of}
 use Rattle.item_shards.specs.Writing.{writes_if}
-use Rattle.phase_transactions.specs.Workers.{WorkerState, with_try, with_first_unstashed}
-use Rattle.worker_slices.specs.Slicing.{hot_objects, stocks_of}
-use Rattle.phase_transactions.proofs.HomeLemmas.{same_objects_of}
-use Rattle.phase_transactions.proofs.LawfulLemmas.{objects-acts}
-use Rattle.worker_slices.proofs.StockLemmas.{stocks-acts}
-use Rattle.phase_permits.proofs.PermitLemmas.{none_put_off}
-use Rattle.phase_transactions.specs.declared.done.PermitFault.{PermitFault}
+use Rattle.phase_transactions.proofs.{HomeLemmas.{same_objects_of}, LawfulLemmas.{objects-acts}}
 use Rattle.phase_transactions.specs.Performing.{HasFailed, IsCause, HasCommitted, HasFailedFirst, HasDealt, HasPerformedFirstSome}
+use Rattle.phase_transactions.specs.Workers.{WorkerState, with_try, with_first_unstashed}
+use Rattle.phase_transactions.specs.declared.done.PermitFault.{PermitFault}
+use Rattle.worker_slices.{proofs.StockLemmas.{stocks-acts}, specs.Slicing.{hot_objects, stocks_of}}
+use Rattle.phase_permits.proofs.PermitLemmas.{none_put_off}
 use Rattle.phase_laws.proofs.ListLemmas.{all-append}
 use Rattle.job_threads.proofs.ThreadLemmas.{err_as}
 use Rattle.run_laws.specs.Serving.{call_of}

@@ -2,14 +2,12 @@
 use Rattle.std.specs.Prelude.{◌≡◌, ℕ, ◌+◌, ◌-◌, ◌<◌, ◌≤◌, ◌⊎◌, Bool, List, [], ◌∷◌, ◌++◌, length, ⊤}
 use Rattle.auction_rows.specs.declared.limits.TheConstants.{MOST_TRIES, MOST_OF_A_WORKER}
 use Rattle.auction_rows.specs.declared.requests.Request.{Request}
-use Rattle.shard_boxes.specs.Keys.{BoxId}
-use Rattle.shard_boxes.specs.States.{ShardState}
+use Rattle.shard_boxes.specs.{Keys.{BoxId}, States.{ShardState}}
+use Rattle.phase_transactions.specs.{Performing.{HaveOpening}, Workers.{WorkerState}}
 use Rattle.phase_transactions.specs.declared.done.PermitFault.{PermitFault}
-use Rattle.phase_transactions.specs.Workers.{WorkerState}
-use Rattle.phase_transactions.specs.Performing.{HaveOpening}
+use Rattle.phase_workers.specs.Working.{calls_from, committed, stashed, taken, still_waiting, hot_for, put_off, not_put_off, IsSamePermit, HasStopped}
 use Rattle.phase_workers.specs.declared.round.ServingFault.{ServingFault}
 use Rattle.phase_workers.specs.declared.round.ServingFault.TheVariants.{Worker, Spawn, Memory}
-use Rattle.phase_workers.specs.Working.{calls_from, committed, stashed, taken, still_waiting, hot_for, put_off, not_put_off, IsSamePermit, HasStopped}
 
 -- a worker's permit as the phase begins, its script, and the index from which on it is given
 -- requests

@@ -1,15 +1,13 @@
 -- What a worker does in a phase: which calls its permit has committed, and which wait.
-use Rattle.std.specs.Prelude.{ℕ, suc, ◌≡◌, ◌≤◌, ◌+◌, Bool, cond, not, List, [], ◌∷◌, ◌++◌, length, map, take, drop, ⊤}
 use Rattle.std.specs.List.{filter, AllByRecursion}
-use Rattle.auction_rows.specs.declared.requests.{Object.Object, Request.Request}
+use Rattle.std.specs.Prelude.{ℕ, suc, ◌≡◌, ◌≤◌, ◌+◌, Bool, cond, not, List, [], ◌∷◌, ◌++◌, length, map, take, drop, ⊤}
 use Rattle.auction_rows.specs.Phases.{is_put_off}
+use Rattle.auction_rows.specs.declared.requests.{Object.Object, Request.Request}
 use Rattle.shard_boxes.specs.States.{ShardState}
 use Rattle.worker_slices.specs.Slicing.{hot_objects, stocks_of}
+use Rattle.phase_transactions.specs.{Performing.{IsCause}, Workers.{WorkerState}}
 use Rattle.phase_transactions.specs.declared.done.PermitFault.{PermitFault}
-use Rattle.phase_transactions.specs.Performing.{IsCause}
-use Rattle.phase_transactions.specs.Workers.{WorkerState}
-use Rattle.run_laws.specs.Turns.{numbered}
-use Rattle.run_laws.specs.Serving.{call_of}
+use Rattle.run_laws.specs.{Serving.{call_of}, Turns.{numbered}}
 
 -- so many calls of a script, from an index on
 abbrev pub calls_from : ℕ → ℕ → List Request → List (ℕ × Request)

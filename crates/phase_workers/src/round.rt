@@ -1,10 +1,10 @@
 //! The workers of a phase, each but the first on a thread of its own, unless threads save no time;
 //! and why they are not done.
-ghost use Rattle.std.specs.Prelude.{◌≡◌, ◌≤◌, Some, length, map, vec_len, vec_capacity, IfOk, IfErr, OnOk};
 ghost use Rattle.std.specs.List.{AllByRecursion, AllZip};
+ghost use Rattle.std.specs.Prelude.{◌≡◌, ◌≤◌, Some, length, map, vec_len, vec_capacity, IfOk, IfErr, OnOk};
 ghost use Rattle.phase_workers.specs.Tasks.{task, tasks, CanBeDone, HasDoneTask, HasMetFault, IsFirstFault, IsFaultBy};
-ghost use Rattle.phase_workers.specs.inner.Answers.{without_fault, first_fault};
 ghost use Rattle.phase_workers.specs.Working.{IsPermitOf, ArePermitsOf};
+ghost use Rattle.phase_workers.specs.inner.Answers.{without_fault, first_fault};
 
 use crate::meeting::is_for_one_thread;
 use crate::worker::{Gate, Post, perform_task};

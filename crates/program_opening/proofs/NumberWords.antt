@@ -1,8 +1,7 @@
 -- The program's options of numbers.
 use Rattle.std.proofs.Common.{codes, refl}
 use Rattle.auction_rows.specs.declared.limits.TheConstants.{MOST_HOT, MOST_SHARDS, MOST_WORKERS}
-use Rattle.program_options.proofs.NumberOptions.{has_number}
-use Rattle.program_options.specs.Words.{HasNumberOption}
+use Rattle.program_options.{proofs.NumberOptions.{has_number}, specs.Words.{HasNumberOption}}
 use Rattle.program_options.specs.declared.options.TheConstants.{MOST_ASKED}
 use Rattle.program_opening.specs.Words.{program}
 

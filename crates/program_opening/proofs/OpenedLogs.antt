@@ -1,16 +1,13 @@
 -- What a log opens that was read and then cut.
 use Rattle.std.proofs.Common.{◌≡◌, ◌++◌, ◌∙◌, [], ℕ, List, Option, Some, None, IfSome, arith, false, length, subst, sym}
-use Rattle.std.proofs.lemmas.List.{take-append-drop, take_all}
-use Rattle.std.specs.Io.KnownBytes.{Appends}
+use Rattle.std.{proofs.lemmas.List.{take-append-drop, take_all}, specs.Io.KnownBytes.{Appends}}
 use Rattle.auction_rows.specs.Book.{Book}
 use Rattle.auction_text.specs.RowLines.{rows_text}
 use Rattle.log_opening.specs.Opening.{HasRowsAndTail, Opens, OpensWith, TellsFirst}
-use Rattle.log_opening.specs.declared.opening.LoggedAuction.{LoggedAuction}
+use Rattle.log_opening.specs.declared.opening.{LoggedAuction.{LoggedAuction}, OpenFault.{OpenFault}}
 use Rattle.part_log.specs.Files.{LogState}
-use Rattle.log_opening.specs.declared.opening.OpenFault.{OpenFault}
 use Rattle.program_opening.specs.Opened.{IsOpenedFrom, IsTextOf, NamesFile, text_cause, text_fault}
-use Rattle.program_opening.specs.declared.faults.Fault.{Fault}
-use Rattle.program_opening.specs.declared.faults.Fault.TheVariants.{OpenLog}
+use Rattle.program_opening.specs.declared.faults.Fault.{TheVariants.{OpenLog}, Fault}
 use Rattle.program_opening.specs.declared.log_file.LogCause.{LogCause}
 use Rattle.program_opening.specs.declared.log_file.LogFileFault.{LogFileFault}
 use Rattle.program_opening.specs.declared.log_file.LogFileFault.TheVariants.{At, Memory}

@@ -1,8 +1,7 @@
 -- The program's options are simple ones, and what their numbers are with --fast.
 use Rattle.std.proofs.Common.{◌≡◌, ◌∙◌, ℕ, Bool, true, false, refl, ap}
 use Rattle.std.specs.Prelude.{if◌then◌else◌}
-use Rattle.clap.specs.Faults.{is_simple_and_free}
-use Rattle.clap.specs.Simple.{App}
+use Rattle.clap.specs.{Faults.{is_simple_and_free}, Simple.{App}}
 use Rattle.program_opening.specs.Words.{program}
 
 free : is_simple_and_free program ≡ true

@@ -2,8 +2,7 @@
 use Rattle.std.proofs.Common.{◌≡◌, ℕ, zero, suc, replicate, ◌∙◌, [], refl, sym, ap, subst, arith}
 use Rattle.closing_laws.specs.Standing.{counters_at}
 use Rattle.phase_transactions.specs.Workers.{no_counters}
-use Rattle.phase_floor.specs.Adding.{IsStartOf}
-use Rattle.phase_floor.specs.NextRun.{lasting}
+use Rattle.phase_floor.specs.{Adding.{IsStartOf}, NextRun.{lasting}}
 use Rattle.phase_floor.specs.States.{JoinedState, StandsFor}
 
 none_counted : (workers w : ℕ) → counters_at (replicate workers no_counters) w ≡ no_counters

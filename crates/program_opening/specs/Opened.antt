@@ -1,17 +1,13 @@
 -- What a start opens of a log.
-use Rattle.std.specs.Prelude.{◌≡◌, ◌++◌, ℕ, true, false, List, [], Option, None, Some, IfSome, length, string_bytes}
 use Rattle.std.specs.Io.KnownBytes.{Appends}
+use Rattle.std.specs.Prelude.{◌≡◌, ◌++◌, ℕ, true, false, List, [], Option, None, Some, IfSome, length, string_bytes}
 use Rattle.auction_rows.specs.Book.{Book}
-use Rattle.phase_floor.specs.Adding.{IsStartOf}
-use Rattle.phase_floor.specs.States.{JoinedState}
+use Rattle.phase_floor.specs.{Adding.{IsStartOf}, States.{JoinedState}}
 use Rattle.auction_text.specs.RowLines.{rows_text}
 use Rattle.part_log.specs.Files.{LogState}
-use Rattle.log_opening.specs.CutRows.{is_cut_row}
-use Rattle.log_opening.specs.declared.opening.OpenFault.{OpenFault}
-use Rattle.program_opening.specs.declared.faults.Fault.{Fault}
-use Rattle.program_opening.specs.declared.faults.Fault.TheVariants.{OpenLog}
-use Rattle.program_opening.specs.declared.log_file.LogCause.{LogCause}
-use Rattle.program_opening.specs.declared.log_file.LogCause.TheVariants.{Text}
+use Rattle.log_opening.specs.{CutRows.{is_cut_row}, declared.opening.OpenFault.{OpenFault}}
+use Rattle.program_opening.specs.declared.faults.Fault.{TheVariants.{OpenLog}, Fault}
+use Rattle.program_opening.specs.declared.log_file.LogCause.{TheVariants.{Text}, LogCause}
 use Rattle.program_opening.specs.declared.log_file.LogFileFault.{LogFileFault}
 use Rattle.program_opening.specs.declared.log_file.LogFileFault.TheVariants.{At, Memory}
 

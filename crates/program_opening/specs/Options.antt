@@ -1,10 +1,9 @@
 -- What options say of an auction and of its run.
 use Rattle.std.specs.Prelude.{ℕ, ◌≡◌, ◌≤◌, List, length, if◌then◌else◌}
+use Rattle.auction_rows.specs.Book.{Book}
 use Rattle.auction_rows.specs.declared.limits.TheConstants.{MOST_HOT, MOST_SHARDS, MOST_WORKERS}
 use Rattle.auction_rows.specs.declared.{limits.Policy.Policy, values.Opening.Opening, rows.Entry.Entry}
-use Rattle.auction_rows.specs.Book.{Book}
-use Rattle.auction_text.specs.Replies.{history_text, replies_text}
-use Rattle.auction_text.specs.RowLines.{rows_text}
+use Rattle.auction_text.specs.{Replies.{history_text, replies_text}, RowLines.{rows_text}}
 use Rattle.phase_floor.specs.States.{JoinedState}
 use Rattle.program_options.specs.declared.options.TheConstants.{MOST_ASKED}
 use Rattle.shard_boxes.specs.declared.limits.TheConstants.{MOST_COMMITS}

@@ -1,8 +1,7 @@
 -- What the program's words say of its options, by the parser of words (`clap`).
 use Rattle.std.specs.Prelude.{◌≡◌, ◌≤◌, ◌⊎◌, ◌&&◌, ◌*◌, ℕ, Bool, true, false, not, List, [], ◌∷◌, Option, None, Some, fold, codes, option_map, string_bytes, if◌then◌else◌}
 use Rattle.auction_rows.specs.declared.limits.TheConstants.{MOST_HOT, MOST_SHARDS, MOST_WORKERS}
-use Rattle.clap.specs.Simple.{App, with_rule}
-use Rattle.clap.specs.Walk.{Rule}
+use Rattle.clap.specs.{Simple.{App, with_rule}, Walk.{Rule}}
 use Rattle.program_options.specs.Options.{file_rule, flag_rule, is_set, named_rule, number_of, versioned_program}
 use Rattle.program_options.specs.declared.options.TheConstants.{MOST_ASKED}
 use Rattle.program_opening.specs.declared.options.Options.{Options}

@@ -1,12 +1,8 @@
 -- The rules of options that are added in turn.
 use Rattle.std.proofs.Common.{◌≡◌, ◌∙◌, false, List, [], ◌∷◌, map, ap, sym}
-use Rattle.std.specs.List.{AllByRecursion}
-use Rattle.std.specs.Prelude.{fold}
-use Rattle.clap.specs.Built.{AddsArg, AddsInTurn}
-use Rattle.clap.specs.Simple.{app_of, with_rule}
-use Rattle.clap.specs.Walk.{rule_of}
-use Rattle.clap.specs.declared.builder.arg.Arg.{Arg}
-use Rattle.clap.specs.declared.builder.command.Command.{Command}
+use Rattle.std.specs.{List.{AllByRecursion}, Prelude.{fold}}
+use Rattle.clap.specs.{Built.{AddsArg, AddsInTurn}, Simple.{app_of, with_rule}, Walk.{rule_of}}
+use Rattle.clap.specs.declared.builder.{arg.Arg.{Arg}, command.Command.{Command}}
 
 pub rules_added : (old new : Command) (options : List Arg) → AllByRecursion (λ a. a.global ≡ false) options → AddsInTurn AddsArg old options new
     → app_of new ≡ fold with_rule (app_of old) (map rule_of options)

@@ -1,10 +1,9 @@
 -- An option of numbers that a program has, and the number that was found for it.
 use Rattle.std.proofs.Common.{◌≡◌, ℕ, [], ◌∷◌, Option, Some, refl, sym, subst, arith}
-use Rattle.clap.specs.Simple.{App, built}
-use Rattle.clap.specs.Walk.{Rule, Text}
+use Rattle.clap.specs.{Simple.{App, built}, Walk.{Rule, Text}}
+use Rattle.program_options.proofs.Numerals.{number_said}
 use Rattle.program_options.specs.Options.{SaysNumber, number_of, number_rule}
 use Rattle.program_options.specs.Words.{HasNumberOption, HaveNumbers, IsOneNumber, rules_of}
-use Rattle.program_options.proofs.Numerals.{number_said}
 
 -- its rule, where help has so many words for its number, and how that is built
 abbrev given_rule : Text → ℕ → ℕ → Text → ℕ → Rule

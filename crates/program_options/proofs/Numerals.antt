@@ -1,12 +1,9 @@
 -- A text that passed a range of numbers.
 use Rattle.std.proofs.Common.{◌≡◌, ◌==◌, ℕ, Bool, true, false, cond, List, [], ◌∷◌, drop, Option, Some, None, refl, sym, ap, subst, arith}
+use Rattle.std.proofs.lemmas.{Bool.{ne_eqb}, Int.{ints}, Str.Parse.{digit_from_value}}
 use Rattle.std.specs.Prelude.{pos, unwrap_or}
 use Rattle.std.specs.Str.Parse.{IsNumeral, starts_with_minus, without_leading_plus}
-use Rattle.std.proofs.lemmas.Bool.{ne_eqb}
-use Rattle.std.proofs.lemmas.Int.{ints}
-use Rattle.std.proofs.lemmas.Str.Parse.{digit_from_value}
-use Rattle.clap.specs.Lexer.{without_minus}
-use Rattle.clap.specs.Values.{IsSignedIn}
+use Rattle.clap.specs.{Lexer.{without_minus}, Values.{IsSignedIn}}
 use Rattle.program_options.specs.Options.{IsNumberIn, SaysNumber, number_of}
 
 minus_cut : (t : List ℕ) → without_minus t ≡ cond (starts_with_minus t) (drop 1 t) t

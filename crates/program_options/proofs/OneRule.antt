@@ -1,8 +1,7 @@
 -- The one argument of a command with an id.
 use Rattle.std.proofs.Common.{◌≡◌, ◌∙◌, ◌<◌, ℕ, Bool, true, false, zero, suc, cond, List, [], ◌∷◌, length, map, refl, sym, ap, true≢false, arith}
 use Rattle.std.specs.List.{Any, filter, slice_index_or}
-use Rattle.clap.specs.Walk.{Rule, rule_of}
-use Rattle.clap.specs.declared.builder.arg.Arg.{Arg}
+use Rattle.clap.specs.{Walk.{Rule, rule_of}, declared.builder.arg.Arg.{Arg}}
 
 abbrev first_of : Rule → List Rule → Rule
 first_of rule [] = rule

@@ -1,32 +1,22 @@
 -- What a parse found for the option of an id.
 use Rattle.std.proofs.Common.{◌≡◌, ◌∙◌, ◌<◌, ◌≤◌, ℕ, zero, suc, Bool, true, false, cond, not, List, [], ◌∷◌, length, is_some, map, Option, Some, None, refl, sym, ap, subst, inl, inr, true≢false, arith}
-use Rattle.std.specs.Borrow.{Bor}
+use Rattle.std.proofs.lemmas.List.{Elements.{All-get_or}, get_or_default}
+use Rattle.std.{proofs.lemmas.Slice.Eq.{bytes_eq-Decides}, specs.Borrow.{Bor}}
 use Rattle.std.specs.List.{All, Any, filter, find, slice_index_or}
-use Rattle.std.specs.Prelude.{option_map, pos, slice_get, unwrap_or}
-use Rattle.std.specs.Str.{bytes_eq}
-use Rattle.std.proofs.lemmas.List.{get_or_default}
-use Rattle.std.proofs.lemmas.List.Elements.{All-get_or}
-use Rattle.std.proofs.lemmas.Slice.Eq.{bytes_eq-Decides}
+use Rattle.std.specs.{Prelude.{option_map, pos, slice_get, unwrap_or}, Str.{bytes_eq}}
+use Rattle.clap.proofs.{CallerLemmas.{entry_by_id}, SimpleLemmas.{is_false, is_nil}}
+use Rattle.clap.proofs.WalkLemmas.{both}
 use Rattle.clap.specs.Facts.{AllowsNone, Entry, EntryPasses, HasId, HasIn, HasReading, IsCountArg, IsParsed, MayBeEmpty, PassesArg, args_of, groups_of, least_values, parser_of_value, unwrap_or_range}
-use Rattle.clap.specs.Matches.{matched_of, one_text}
-use Rattle.clap.specs.Texts.{items_of}
+use Rattle.clap.specs.{Matches.{matched_of, one_text}, Texts.{items_of}}
 use Rattle.clap.specs.Values.{Accepts, read_as, reading_of}
 use Rattle.clap.specs.Walk.{Rule, Text, is_empty, rule_of, texts}
-use Rattle.clap.specs.declared.builder.action.ArgAction.{ArgAction}
-use Rattle.clap.specs.declared.builder.action.ArgAction.TheVariants.{Count, Set}
-use Rattle.clap.specs.declared.builder.arg.Arg.{Arg}
-use Rattle.clap.specs.declared.builder.command.Command.{Command}
-use Rattle.clap.specs.declared.builder.value_parser.Reading.{Reading}
-use Rattle.clap.specs.declared.builder.value_parser.ValueParser.{ValueParser}
+use Rattle.clap.specs.declared.builder.action.ArgAction.{TheVariants.{Count, Set}, ArgAction}
+use Rattle.clap.specs.declared.builder.{arg.Arg.{Arg}, command.Command.{Command}}
+use Rattle.clap.specs.declared.builder.value_parser.{Reading.{Reading}, ValueParser.{ValueParser}}
 use Rattle.clap.specs.declared.builder.value_parser.ValueParser.TheVariants.{Signed}
-use Rattle.clap.specs.declared.parser.matches.Found.{Found}
-use Rattle.clap.specs.declared.parser.matches.MatchedArg.{MatchedArg}
-use Rattle.clap.proofs.CallerLemmas.{entry_by_id}
-use Rattle.clap.proofs.SimpleLemmas.{is_false, is_nil}
-use Rattle.clap.proofs.WalkLemmas.{both}
+use Rattle.clap.specs.declared.parser.matches.{Found.{Found}, MatchedArg.{MatchedArg}}
+use Rattle.program_options.proofs.{Numerals.{number_in_range}, OneRule.{only_one, there_is}}
 use Rattle.program_options.specs.Options.{IsNumberIn}
-use Rattle.program_options.proofs.Numerals.{number_in_range}
-use Rattle.program_options.proofs.OneRule.{only_one, there_is}
 
 -- the text is one that passed the parser, as the parser reads it
 abbrev pub IsRead : ValueParser → Text → Type 0

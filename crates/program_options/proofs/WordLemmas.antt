@@ -1,28 +1,22 @@
 -- What a parse of a program's words found.
 use Rattle.std.proofs.Common.{◌≡◌, ◌∙◌, ◌⊎◌, ℕ, Bool, true, false, List, [], ◌∷◌, Option, Some, None, map, refl, ap, sym, subst, inl, inr}
-use Rattle.std.specs.List.{filter, find}
-use Rattle.std.specs.Prelude.{option_and_then, option_map}
-use Rattle.std.specs.Str.{bytes_eq}
+use Rattle.std.specs.{List.{filter, find}, Prelude.{option_and_then, option_map}, Str.{bytes_eq}}
+use Rattle.clap.proofs.SimpleLemmas.{is_false, is_nil}
+use Rattle.clap.proofs.WalkLemmas.{both, find-map, first_value-rows, one_text-rows}
 use Rattle.clap.specs.Built.{BuildsOrBreaks, is_broken}
 use Rattle.clap.specs.Facts.{Entry, IsParsed, args_of, groups_of}
-use Rattle.clap.specs.Faults.{fault_of, is_simple_and_free}
-use Rattle.clap.specs.Kinds.{HasKind, IsAmong}
+use Rattle.clap.specs.{Faults.{fault_of, is_simple_and_free}, Kinds.{HasKind, IsAmong}}
 use Rattle.clap.specs.Matches.{first_value, matched_of, one_text}
 use Rattle.clap.specs.Simple.{App, HasMatchesOf, app_of, built, is_buildable, is_simple}
 use Rattle.clap.specs.Walk.{Row, Rule, Text, first_of, one_of, row_of, rows_of, rule_of}
-use Rattle.clap.specs.Words.{found_of, kind_of}
-use Rattle.clap.specs.declared.builder.command.Command.{Command}
-use Rattle.clap.specs.declared.builder.command.Command.TheViews.{out-Command}
-use Rattle.clap.specs.declared.error.Error.{Error}
+use Rattle.clap.specs.{Words.{found_of, kind_of}, declared.builder.command.Command.{Command}}
+use Rattle.clap.specs.declared.{builder.command.Command.TheViews.{out-Command}, error.Error.{Error}}
 use Rattle.clap.specs.declared.error.kind.ErrorKind.TheVariants.{OutOfMemory}
-use Rattle.clap.specs.declared.parser.matches.ArgMatches.{ArgMatches}
-use Rattle.clap.specs.declared.parser.matches.Found.{Found}
+use Rattle.clap.specs.declared.parser.matches.{ArgMatches.{ArgMatches}, Found.{Found}}
 use Rattle.clap.specs.declared.parser.matches.MatchedArg.{MatchedArg}
-use Rattle.clap.proofs.SimpleLemmas.{is_false, is_nil}
-use Rattle.clap.proofs.WalkLemmas.{both, find-map, first_value-rows, one_text-rows}
+use Rattle.program_options.proofs.Parsed.{number_found}
 use Rattle.program_options.specs.Options.{IsNumberIn, is_from_words, is_given}
 use Rattle.program_options.specs.Words.{AreTaken, HaveNumbers, IsOneNumber, given_in, source_of, text_in, value_in}
-use Rattle.program_options.proofs.Parsed.{number_found}
 
 -- what is found for an option has its text from where its row has it
 source-rows : (f : Found) (id : Text) → option_and_then (λ (a : MatchedArg). a.source) (matched_of f id) ≡ source_of id (rows_of f)

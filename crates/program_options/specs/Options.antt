@@ -1,15 +1,11 @@
 -- Options of numbers and texts, and flags, as rules of the parser of words (`clap`), and what their texts say.
 use Rattle.std.specs.Prelude.{◌≡◌, ◌≤◌, ℕ, Bool, true, false, List, [], ◌∷◌, Option, Some, None, codes, option_and_then, pos, ⊤}
-use Rattle.std.specs.Str.{bytes_eq}
-use Rattle.std.specs.Str.Parse.{IsNumeral, digits_value, without_leading_plus}
+use Rattle.std.specs.Str.{Parse.{IsNumeral, digits_value, without_leading_plus}, bytes_eq}
+use Rattle.clap.specs.{Matches.{matched_of}, Simple.{App, new_app, new_rule, on_top}, Walk.{Rule}}
 use Rattle.clap.specs.declared.builder.action.ArgAction.TheVariants.{Set, SetTrue}
 use Rattle.clap.specs.declared.builder.value_parser.ValueParser.TheVariants.{Signed}
-use Rattle.clap.specs.declared.parser.matches.Found.{Found}
-use Rattle.clap.specs.declared.parser.matches.ValueSource.{ValueSource}
+use Rattle.clap.specs.declared.parser.matches.{Found.{Found}, ValueSource.{ValueSource}}
 use Rattle.clap.specs.declared.parser.matches.ValueSource.TheVariants.{DefaultValue, CommandLine}
-use Rattle.clap.specs.Matches.{matched_of}
-use Rattle.clap.specs.Simple.{App, new_app, new_rule, on_top}
-use Rattle.clap.specs.Walk.{Rule}
 
 -- `--id NUMBER`, with a number from the least to the greatest; the usual one where the words don't have it
 abbrev pub number_rule : List ℕ → ℕ → ℕ → List ℕ → Rule

@@ -1,17 +1,14 @@
 -- What a program's words say of its options, by the parser of words (`clap`).
-use Rattle.std.specs.Prelude.{◌≡◌, ◌<◌, ◌≤◌, ℕ, Bool, true, List, [], ◌∷◌, length, Option, Some, None, find, option_and_then, pos, string_bytes}
 use Rattle.std.specs.List.{filter}
+use Rattle.std.specs.Prelude.{◌≡◌, ◌<◌, ◌≤◌, ℕ, Bool, true, List, [], ◌∷◌, length, Option, Some, None, find, option_and_then, pos, string_bytes}
 use Rattle.std.specs.Str.{bytes_eq}
+use Rattle.clap.specs.{Facts.{unwrap_or_range}, Faults.{fault_of}, Simple.{App, built, matches_of}}
+use Rattle.clap.specs.Walk.{Rule, Row, first_of, one_of}
 use Rattle.clap.specs.declared.builder.action.ArgAction.TheVariants.{Set}
 use Rattle.clap.specs.declared.builder.value_parser.ValueParser.TheVariants.{Signed}
 use Rattle.clap.specs.declared.parser.matches.ValueSource.{ValueSource}
-use Rattle.clap.specs.Facts.{unwrap_or_range}
-use Rattle.clap.specs.Faults.{fault_of}
-use Rattle.clap.specs.Simple.{App, built, matches_of}
-use Rattle.clap.specs.Walk.{Rule, Row, first_of, one_of}
 use Rattle.program_options.specs.Options.{IsNumberIn, is_from_words}
-use Rattle.program_options.specs.declared.words.UsageFault.{UsageFault}
-use Rattle.program_options.specs.declared.words.UsageFault.TheVariants.{Text, Memory}
+use Rattle.program_options.specs.declared.words.UsageFault.{TheVariants.{Text, Memory}, UsageFault}
 
 -- The parser finds no fault in the words: after the program's name they are options of it, each once at most, with its number in its range.
 abbrev pub AreTaken : App → List (List ℕ) → Type 0

@@ -1,13 +1,13 @@
 //! What a parse finds in a program's words, and why these are refused.
-ghost use Rattle.std.specs.Prelude.{◌≡◌, ℕ, List, IfOk, IfErr, OnOk, true, map, string_bytes};
 ghost use Rattle.std.specs.IoError.{error_kind};
+ghost use Rattle.std.specs.Prelude.{◌≡◌, ℕ, List, IfOk, IfErr, OnOk, true, map, string_bytes};
 ghost use Rattle.std.specs.declared.io.ErrorKind.{ErrorKind as IoErrorKind};
+ghost use Rattle.clap.specs.Faults.{is_simple_and_free};
 ghost use Rattle.clap.specs.Words.{kind_of, app_of, first_value, found_of, one_text};
 ghost use Rattle.clap.specs.declared.error.kind.ErrorKind.{ErrorKind};
-ghost use Rattle.clap.specs.Faults.{is_simple_and_free};
-ghost use Rattle.program_options.specs.declared.words.UsageFault.{UsageFault};
 ghost use Rattle.program_options.specs.Options.{is_given};
 ghost use Rattle.program_options.specs.Words.{AreTaken, HaveNumbers, given_in, text_in, value_in};
+ghost use Rattle.program_options.specs.declared.words.UsageFault.{UsageFault};
 
 use clap::error::ErrorKind;
 use clap::{ArgMatches, Command};

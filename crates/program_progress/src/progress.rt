@@ -1,7 +1,5 @@
 //! The note of how far a program is, a line of standard error that is written over.
-ghost use Rattle.std.specs.Prelude.{◌↔◌, ◌≤◌, IsTrue};
-ghost use Rattle.std.specs.Io.{StartsWith};
-ghost use Rattle.std.specs.Duration.{as_nanos};
+ghost use Rattle.std.specs.{Duration.{as_nanos}, Io.{StartsWith}, Prelude.{◌↔◌, ◌≤◌, IsTrue}};
 
 use crate::terminals::Terminals;
 use std::cell::Cell;

@@ -1,13 +1,9 @@
 -- Why serving goes no further.
 use Rattle.std.proofs.Common.{ℕ, List, Option, inl, inr}
 use Rattle.auction_rows.specs.Book.{Book}
-use Rattle.auction_text.specs.Moved.{Gone}
-use Rattle.auction_text.specs.Scripts.{asked_in}
-use Rattle.auction_text.specs.ReadFault.{ReadFault}
-use Rattle.auction_text.specs.Said.{Said}
+use Rattle.auction_text.specs.{Moved.{Gone}, ReadFault.{ReadFault}, Said.{Said}, Scripts.{asked_in}}
 use Rattle.part_log.specs.declared.log.Teller.{Teller}
-use Rattle.program_opening.specs.declared.faults.Fault.{Fault}
-use Rattle.program_opening.specs.declared.faults.Fault.TheVariants.{Read}
+use Rattle.program_opening.specs.declared.faults.Fault.{TheVariants.{Read}, Fault}
 use Rattle.program_opening.specs.declared.options.Options.{Options}
 use Rattle.program_serving.specs.ServeFaults.{AreToldAt, IsPartFault, IsStop, StopsAtAnswer, StopsAtPart}
 

@@ -1,16 +1,14 @@
 -- The histories of parts are one.
 use Rattle.std.proofs.Common.{◌≡◌, ◌++◌, ◌∷◌, ◌∙◌, ◌||◌, true, false, ℕ, List, [], Option, Some, ap, append_assoc, append-nil, if◌then◌else◌, inl, inr, refl, subst, sym}
 use Rattle.std.proofs.lemmas.Grind.{flat_map-append}
+use Rattle.auction_rows.specs.{Book.{Book}, History.{ReplaysFrom, after_entry, book_after}}
 use Rattle.auction_rows.specs.declared.{values.Opening.Opening, rows.Entry.Entry}
-use Rattle.auction_rows.specs.Book.{Book}
-use Rattle.auction_rows.specs.History.{ReplaysFrom, after_entry, book_after}
 use Rattle.auction_text.specs.Moved.{Gone, all_moved}
 use Rattle.auction_text.specs.Replies.{history_line, history_text, replies_text}
 use Rattle.auction_text.specs.RowLines.{rows_text}
 use Rattle.auction_text.specs.Said.TheVariants as says
 use Rattle.shard_boxes.specs.declared.limits.TheConstants.{MOST_COMMITS}
-use Rattle.program_opening.specs.Options.{opening_asked}
-use Rattle.program_opening.specs.declared.options.Options.{Options}
+use Rattle.program_opening.specs.{Options.{opening_asked}, declared.options.Options.{Options}}
 use Rattle.program_serving.specs.FaultLines.{fault_text, limit_text}
 use Rattle.program_serving.specs.Serving.{AreStepRuns, Part, Answer, RowsComeFirst, Step, added_rows, book_past, gone_past, named_answer, served_history, served_text, step_history, step_text, turned_answer}
 

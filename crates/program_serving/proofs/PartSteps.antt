@@ -1,23 +1,19 @@
 -- A part of what an input has yet to say is served, or is not.
 use Rattle.std.proofs.Common.{◌≡◌, ◌<◌, ◌≤◌, ◌+◌, ◌∙◌, false, ℕ, List, Option, None, Some, IfSome, ap, length, refl, sym}
 use Rattle.std.proofs.lemmas.List.FromFn.{length-map-range_with_len}
-use Rattle.auction_rows.specs.declared.limits.TheConstants.{MOST_OF_A_WORKER}
-use Rattle.auction_rows.specs.Book.{Book}
-use Rattle.auction_text.specs.Moved.{gone_by}
-use Rattle.auction_text.specs.Scripts.{Asked, script}
-use Rattle.auction_text.specs.Said.{Said}
+use Rattle.auction_rows.specs.{Book.{Book}, declared.limits.TheConstants.{MOST_OF_A_WORKER}}
+use Rattle.auction_text.specs.{Moved.{gone_by}, Said.{Said}, Scripts.{Asked, script}}
 use Rattle.part_log.specs.declared.log.Teller.{Teller}
-use Rattle.program_opening.specs.declared.faults.Fault.{Fault}
-use Rattle.program_opening.specs.declared.options.Options.{Options}
-use Rattle.program_serving.specs.ServeFaults.{IsServeFault}
-use Rattle.program_serving.specs.Serving.{AreTold, book_left, ends_at_fault}
-use Rattle.program_serving.specs.inner.Parts.{AreDoneOf, BeginsAt, FailsPart, HasRoomForPart, ServesPart, done_of}
-use Rattle.program_serving.specs.inner.Sessions.{IsSession}
-use Rattle.program_serving.specs.declared.parts.Served.{Served}
+use Rattle.program_opening.specs.declared.{faults.Fault.{Fault}, options.Options.{Options}}
 use Rattle.program_serving.proofs.FaultLemmas.{part_stops_all}
 use Rattle.program_serving.proofs.PastLimits.{AtPast, LeftBehind, ReadsPart, done_reads, grown, left_behind}
 use Rattle.program_serving.proofs.RowsBefore.{HasNoLateRow}
 use Rattle.program_serving.proofs.Sessions.{done_goes_on, part_begins, part_stops, session_part, session_stops}
+use Rattle.program_serving.specs.ServeFaults.{IsServeFault}
+use Rattle.program_serving.specs.Serving.{AreTold, book_left, ends_at_fault}
+use Rattle.program_serving.specs.declared.parts.Served.{Served}
+use Rattle.program_serving.specs.inner.Parts.{AreDoneOf, BeginsAt, FailsPart, HasRoomForPart, ServesPart, done_of}
+use Rattle.program_serving.specs.inner.Sessions.{IsSession}
 
 -- all rows are added
 rows_done : (past : Option ℕ) (asked : Asked) → (done_of past asked).rows ≡ asked.rows

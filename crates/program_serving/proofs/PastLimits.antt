@@ -1,38 +1,30 @@
 -- A part whose only request is past its worker's limit: its rows are served, and the request is left.
 use Rattle.std.proofs.Common.{◌≡◌, ◌<◌, ◌≤◌, ◌+◌, ◌++◌, ◌∷◌, ◌∙◌, ◌&&◌, ◌==◌, not, cond, suc, zero, ℕ, Bool, false, true, List, [], Option, None, Some, append-nil, ap, arith, get_or, if◌then◌else◌, inl, inr, length, map, option_to_list, refl, subst, sym}
-use Rattle.std.proofs.lemmas.Bool.{cases_Bool, cases_lt, eqb-true}
-use Rattle.std.proofs.lemmas.List.{length-map}
-use Rattle.std.proofs.lemmas.List.FromFn.{get_or-map-range_with_len, length-map-range_with_len}
+use Rattle.std.proofs.lemmas.{Bool.{cases_Bool, cases_lt, eqb-true}, List.{length-map}}
 use Rattle.std.proofs.lemmas.List.Elements.{filter_map-append}
-use Rattle.std.proofs.lemmas.List.Sums.{sum_by_push}
-use Rattle.std.specs.List.{cons_option, range_with_len}
+use Rattle.std.proofs.lemmas.List.FromFn.{get_or-map-range_with_len, length-map-range_with_len}
+use Rattle.std.{proofs.lemmas.List.Sums.{sum_by_push}, specs.List.{cons_option, range_with_len}}
+use Rattle.auction_rows.specs.{Book.{Book, worker_of}, History.{book_after}}
+use Rattle.auction_rows.specs.Replies.{reply, row_of}
 use Rattle.auction_rows.specs.declared.limits.TheConstants.{MOST_OF_A_WORKER}
 use Rattle.auction_rows.specs.declared.{values.Opening.Opening, requests.Request.Request, requests.Opened.Opened, rows.Row.Row, rows.Entry.Entry}
-use Rattle.auction_rows.specs.Book.{Book, worker_of}
-use Rattle.auction_rows.specs.History.{book_after}
-use Rattle.auction_rows.specs.Replies.{reply, row_of}
 use Rattle.auction_run.specs.GoingOn.{AreShortOn, HasScripts, IsShortOn}
-use Rattle.auction_text.specs.LiveParts.{rows_said}
-use Rattle.auction_text.specs.LiveReading.{records_said}
-use Rattle.auction_text.specs.Scripts.{Asked, asked_in, requests_in, row_in, rows, script}
-use Rattle.auction_text.specs.InputLimits.{MOST_ROWS_OF_A_PART}
+use Rattle.auction_text.specs.{InputLimits.{MOST_ROWS_OF_A_PART}, LiveParts.{rows_said}}
+use Rattle.auction_text.specs.{LiveReading.{records_said}, Moved.{Gone}, Record.{Record}}
 use Rattle.auction_text.specs.Said.{Said}
+use Rattle.auction_text.specs.Scripts.{Asked, asked_in, requests_in, row_in, rows, script}
 use Rattle.auction_text.specs.Said.TheVariants as says
-use Rattle.auction_text.specs.Record.{Record}
 use Rattle.closing_laws.specs.Standing.{counters_at, stores}
 use Rattle.item_shards.specs.OpeningRows.{rows_by, with_opened}
 use Rattle.log_opening.specs.Parts.{rows_from}
 use Rattle.phase_floor.specs.States.{JoinedState}
 use Rattle.run_laws.specs.Serving.{script_of}
 use Rattle.shard_boxes.specs.declared.limits.TheConstants.{MOST_COMMITS}
-use Rattle.program_opening.specs.Options.{opening_asked}
-use Rattle.program_opening.specs.declared.options.Options.{Options}
-use Rattle.program_serving.specs.PartRuns.{IsStart}
-use Rattle.program_serving.specs.inner.Parts.{AreDoneOf, AreWithinLimit, HasRoomForPart, IsPastLimit, ServesPart, done_of}
-use Rattle.program_serving.specs.declared.parts.Served.{Served}
-use Rattle.auction_text.specs.Moved.{Gone}
+use Rattle.program_opening.specs.{Options.{opening_asked}, declared.options.Options.{Options}}
 use Rattle.program_serving.proofs.RowsBefore.{HasNoLateRow, no_entries, no_script, one_more, request_begins, rows_of_both}
-use Rattle.program_serving.proofs.StoppedRuns.{stored}
+use Rattle.program_serving.{proofs.StoppedRuns.{stored}, specs.PartRuns.{IsStart}}
+use Rattle.program_serving.specs.declared.parts.Served.{Served}
+use Rattle.program_serving.specs.inner.Parts.{AreDoneOf, AreWithinLimit, HasRoomForPart, IsPastLimit, ServesPart, done_of}
 
 -- A part is read of what an input has yet to say, with at most so many requests.
 pub record ReadsPart (options : Options) (most : ℕ) (rest : List Said) (asked : Asked) (Next : List Said → Type 0) : Type 0 where

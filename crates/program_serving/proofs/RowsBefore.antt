@@ -1,24 +1,18 @@
 -- The rows that an input adds come before its requests.
 use Rattle.std.proofs.Common.{◌≡◌, ◌≤◌, ◌+◌, ◌++◌, ◌∷◌, ◌∙◌, ◌⊎◌, ◌&&◌, ◌==◌, not, cond, suc, zero, ℕ, Bool, false, true, List, [], Option, None, Some, append_assoc, append-nil, ap, arith, flat_map, if◌then◌else◌, inl, inr, map, refl, slice_get, subst, sym, unwrap_or}
-use Rattle.std.proofs.lemmas.Bool.{cases_Bool}
-use Rattle.std.proofs.lemmas.List.{append_cancel_left}
-use Rattle.std.proofs.lemmas.List.Elements.{filter_map-append}
-use Rattle.std.proofs.lemmas.List.Sums.{sum_by-cons}
+use Rattle.std.proofs.lemmas.{Bool.{cases_Bool}, List.{append_cancel_left}}
+use Rattle.std.proofs.lemmas.List.{Elements.{filter_map-append}, Sums.{sum_by-cons}}
 use Rattle.std.specs.List.{AllByRecursion, cons_option, range_with_len}
-use Rattle.auction_rows.specs.declared.{values.Opening.Opening, requests.Request.Request, requests.Opened.Opened, rows.Entry.Entry}
 use Rattle.auction_rows.specs.Book.{Book}
+use Rattle.auction_rows.specs.declared.{values.Opening.Opening, requests.Request.Request, requests.Opened.Opened, rows.Entry.Entry}
+use Rattle.auction_text.{proofs.LivePartLemmas.{no_rows_said}, specs.LiveInput.{LiveInput}}
 use Rattle.auction_text.specs.LiveLines.{begun_after, line_says, lines_say, then_say}
 use Rattle.auction_text.specs.LiveParts.{HasToSay, row_said, rows_said}
-use Rattle.auction_text.specs.LiveReading.{records_said}
+use Rattle.auction_text.specs.{LiveReading.{records_said}, Record.{Record}, Said.{Said}}
 use Rattle.auction_text.specs.Scripts.{requests_in, row_in, rows, script}
-use Rattle.auction_text.specs.Said.{Said}
 use Rattle.auction_text.specs.Said.TheVariants as says
-use Rattle.auction_text.specs.LiveInput.{LiveInput}
-use Rattle.auction_text.specs.Record.{Record}
-use Rattle.auction_text.proofs.LivePartLemmas.{no_rows_said}
 use Rattle.run_laws.specs.Serving.{script_of}
-use Rattle.program_opening.specs.Options.{opening_asked}
-use Rattle.program_opening.specs.declared.options.Options.{Options}
+use Rattle.program_opening.specs.{Options.{opening_asked}, declared.options.Options.{Options}}
 use Rattle.program_serving.specs.Serving.{AddsRows, AreStepRuns, Part, Answer, RowsComeFirst, Step, added_rows, book_past, scripts_in, step_history, step_said}
 
 -- behind a request no row is said

@@ -1,29 +1,22 @@
 -- What a log has of an auction that is served.
 use Rattle.std.proofs.Common.{◌≡◌, ◌++◌, ◌∷◌, ◌∙◌, ◌⊎◌, ℕ, List, [], Option, None, Some, IfErr, IfSome, OnOk, Result, Ok, Err, append_assoc, append-nil, inl, inr, ap, sym}
-use Rattle.std.proofs.lemmas.Option.{IfSome_then}
-use Rattle.std.specs.Io.KnownBytes.{Appends}
+use Rattle.std.{proofs.lemmas.Option.{IfSome_then}, specs.Io.KnownBytes.{Appends}}
 use Rattle.std.specs.Result.{IsErr, IsErrAnd}
-use Rattle.auction_rows.specs.declared.values.Opening.{Opening}
-use Rattle.auction_rows.specs.Book.{Book}
-use Rattle.auction_rows.specs.History.{book_after, rows_of}
-use Rattle.auction_rows.proofs.HistoryLemmas.{book_after-replays}
-use Rattle.auction_text.specs.Moved.{Gone}
-use Rattle.auction_text.specs.Replies.{lines}
-use Rattle.auction_text.specs.RowLines.{row_line, rows_text}
-use Rattle.auction_text.specs.Scripts.{asked_in}
-use Rattle.auction_text.specs.Said.{Said}
+use Rattle.auction_rows.{proofs.HistoryLemmas.{book_after-replays}, specs.Book.{Book}}
+use Rattle.auction_rows.specs.{History.{book_after, rows_of}, declared.values.Opening.{Opening}}
+use Rattle.auction_text.specs.{Moved.{Gone}, Replies.{lines}, RowLines.{row_line, rows_text}}
+use Rattle.auction_text.specs.{Said.{Said}, Scripts.{asked_in}}
 use Rattle.log_opening.proofs.AcceptedLemmas.{joined, rows_alone}
 use Rattle.part_log.specs.declared.log.Teller.{Teller}
-use Rattle.program_opening.specs.Options.{opening_asked}
-use Rattle.phase_floor.specs.States.{JoinedState}
-use Rattle.program_opening.specs.declared.faults.Fault.{Fault}
+use Rattle.program_opening.specs.{Options.{opening_asked}, declared.faults.Fault.{Fault}}
 use Rattle.program_opening.specs.declared.faults.Fault.TheVariants.{Usage, Read, Resume, Row, Make, Run, Limit, Write, Report, OpenLog, Log}
 use Rattle.program_opening.specs.declared.options.Options.{Options}
+use Rattle.phase_floor.specs.States.{JoinedState}
+use Rattle.program_serving.proofs.Sessions.{all_more, each_more, runs_more, text_more}
+use Rattle.program_serving.proofs.ToldLemmas.{part_kept, part_more, told_at, whole_part}
 use Rattle.program_serving.specs.PartRuns.{IsStart, rows_before}
 use Rattle.program_serving.specs.ServeFaults.{AreToldAt, IsPartFault, IsServeFault, IsStop, StopsAtAnswer, StopsAtPart}
 use Rattle.program_serving.specs.Serving.{AreStepRuns, ArePartTold, AreTold, HasServedBook, IsLoggedBefore, IsNothingTold, IsStepRun, LogHasBook, Part, Answer, PartRun, ServesAll, ServesFirst, Step, book_left, book_past, gone_after, line_answer, nothing_gone, served_rows, served_text, step_rows, step_said, step_text}
-use Rattle.program_serving.proofs.Sessions.{all_more, each_more, runs_more, text_more}
-use Rattle.program_serving.proofs.ToldLemmas.{part_kept, part_more, told_at, whole_part}
 
 -- nothing is said of a success that there is not
 pub no_success : {T E : Type 0} (r : Result T E) (e : E) (P : Type 0) → IsErr r × IsErrAnd r (λ x. x ≡ e) → OnOk r P

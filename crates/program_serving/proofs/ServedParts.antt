@@ -1,27 +1,23 @@
 -- A part that begins, or does not.
 use Rattle.std.proofs.Common.{◌≡◌, ◌≤◌, ◌++◌, ◌∙◌, ℕ, Bool, true, false, List, [], Option, None, Some, IfNone, IfSome, ap, arith, inl, inr, length, map, refl, sym, subst}
 use Rattle.std.proofs.lemmas.List.{length-map}
-use Rattle.auction_rows.specs.declared.limits.TheConstants.{MOST_WORKERS}
+use Rattle.auction_rows.specs.{Book.{Book}, declared.limits.TheConstants.{MOST_WORKERS}}
 use Rattle.auction_rows.specs.declared.{values.Opening.Opening, requests.Request.Request, requests.Opened.Opened}
-use Rattle.auction_rows.specs.Book.{Book}
-use Rattle.auction_run.specs.Beginning.{AreShortFor}
-use Rattle.auction_run.specs.GoingOn.{AreShortOn, HasScripts}
-use Rattle.auction_text.specs.Moved.{BeforeView, CannotCount, Gone, gone_by}
-use Rattle.auction_text.specs.Scripts.{Asked}
+use Rattle.auction_run.specs.{Beginning.{AreShortFor}, GoingOn.{AreShortOn, HasScripts}}
+use Rattle.auction_text.specs.{Moved.{BeforeView, CannotCount, Gone, gone_by}, Scripts.{Asked}}
 use Rattle.item_shards.specs.OpeningRows.{rows_by}
 use Rattle.log_opening.specs.Parts.{HasAdded, rows_from}
-use Rattle.phase_floor.specs.Adding.{HasBook, IsSameAuction, IsStartOf}
-use Rattle.phase_floor.specs.NextRun.{for_next_run}
+use Rattle.phase_floor.specs.{Adding.{HasBook, IsSameAuction, IsStartOf}, NextRun.{for_next_run}}
 use Rattle.phase_floor.specs.States.{JoinedState, StandsFor}
 use Rattle.shard_boxes.specs.declared.limits.TheConstants.{MOST_COMMITS}
 use Rattle.program_opening.specs.Options.{FitsOptions, opening_asked}
 use Rattle.program_opening.specs.declared.faults.Fault.{Fault}
 use Rattle.program_opening.specs.declared.faults.Fault.TheVariants.{Usage, Read, Resume, Row, Make, Run, Limit, Write, Report, OpenLog, Log}
 use Rattle.program_opening.specs.declared.options.Options.{Options}
+use Rattle.program_serving.proofs.StoppedRuns.{added_fits, next_fits, next_start, short_behind, stored}
 use Rattle.program_serving.specs.ServeFaults.{AreNotRunOn, IsFirstBadRow, IsPartRefused, IsPastCounts}
 use Rattle.program_serving.specs.Serving.{AddsRows, ends_at_fault}
 use Rattle.program_serving.specs.inner.Parts.{AreDoneOf, BeginsAt, IsBegun, IsFirstNotAdded, IsPastOn, done_of}
-use Rattle.program_serving.proofs.StoppedRuns.{added_fits, next_fits, next_start, short_behind, stored}
 
 -- before another run an auction has its book yet
 pub next_has : (state next : JoinedState) → next ≡ for_next_run state → ((b : Book) → StandsFor state b → StandsFor next b) → HasBook state → (book : Book) × IsStartOf next book

@@ -1,43 +1,34 @@
 -- An input that is served step by step: one part or one answer more.
 use Rattle.std.proofs.Common.{◌≡◌, ◌≤◌, ◌+◌, ◌++◌, ◌∷◌, ◌∙◌, Bool, false, ℕ, List, [], Option, None, Some, IfSome, MatchOption, flat_map, fold, if◌then◌else◌, length, refl, sym, ap, subst, append_assoc, append-nil, arith}
-use Rattle.std.proofs.lemmas.Grind.{flat_map-append}
-use Rattle.std.proofs.lemmas.List.{length-append}
-use Rattle.std.proofs.lemmas.List.Elements.{filter_map-append}
-use Rattle.std.proofs.lemmas.List.Sums.{fold-append}
+use Rattle.std.proofs.lemmas.{Grind.{flat_map-append}, List.{length-append}}
+use Rattle.std.proofs.lemmas.List.{Elements.{filter_map-append}, Sums.{fold-append}}
 use Rattle.std.specs.List.{cons_option}
-use Rattle.auction_rows.specs.declared.requests.{Request.Request, Opened.Opened}
 use Rattle.auction_rows.specs.Book.{Book}
-use Rattle.auction_text.specs.LiveParts.{GoesOnAfter, IsLivePart, KeepsLiveWorkers, row_said, rows_said}
-use Rattle.auction_text.specs.LiveReading.{records_said}
-use Rattle.auction_text.specs.Moved.{Gone, gone_by}
-use Rattle.auction_text.specs.Reading.{IsInputFault}
-use Rattle.auction_text.specs.Scripts.{Asked, asked_in, asked_of}
-use Rattle.auction_text.specs.ReadFault.{ReadFault}
-use Rattle.auction_text.specs.LineFault.{LineFault}
-use Rattle.auction_text.specs.Said.{Said}
-use Rattle.auction_text.specs.Said.TheVariants as says
-use Rattle.auction_text.specs.LiveEnd.{LiveEnd}
-use Rattle.auction_text.specs.LiveEnd.TheVariants.{More, Fault, All}
-use Rattle.auction_text.specs.LiveInput.{LiveInput}
+use Rattle.auction_rows.specs.declared.requests.{Request.Request, Opened.Opened}
+use Rattle.auction_text.specs.{LineFault.{LineFault}, LiveEnd.{LiveEnd}}
+use Rattle.auction_text.specs.{LiveEnd.TheVariants.{More, Fault, All}, LiveInput.{LiveInput}}
 use Rattle.auction_text.specs.LivePart.{LivePart}
-use Rattle.auction_text.specs.Record.{Record}
+use Rattle.auction_text.specs.LiveParts.{GoesOnAfter, IsLivePart, KeepsLiveWorkers, row_said, rows_said}
+use Rattle.auction_text.specs.{LiveReading.{records_said}, Moved.{Gone, gone_by}}
+use Rattle.auction_text.specs.{ReadFault.{ReadFault}, Reading.{IsInputFault}, Record.{Record}}
+use Rattle.auction_text.specs.{Said.{Said}, Scripts.{Asked, asked_in, asked_of}}
+use Rattle.auction_text.specs.Said.TheVariants as says
 use Rattle.item_shards.specs.OpeningRows.{rows_by}
 use Rattle.part_log.specs.declared.log.Teller.{Teller}
 use Rattle.shard_boxes.specs.declared.limits.TheConstants.{MOST_COMMITS}
-use Rattle.program_opening.specs.declared.faults.Fault.{Fault as AnyFault}
 use Rattle.program_opening.specs.declared.faults.Fault.TheVariants.{Read}
 use Rattle.program_opening.specs.declared.options.Options.{Options}
+use Rattle.program_opening.specs.declared.faults.Fault.{Fault as AnyFault}
+use Rattle.program_serving.proofs.FaultLemmas.{answer_stops}
+use Rattle.program_serving.proofs.PastLimits.{IsNextPast, LeftBehind, ReadsPart}
+use Rattle.program_serving.proofs.{RowsBefore.{same_rows}, StoppedRuns.{stored}}
+use Rattle.program_serving.proofs.ToldLemmas.{nothing_told, told_more, told_none}
 use Rattle.program_serving.specs.PartRuns.{IsStart, rows_before}
 use Rattle.program_serving.specs.ServeFaults.{AreToldAt, IsPartFault, IsServeFault, IsStop, StopsAtPart}
 use Rattle.program_serving.specs.Serving.{AreStepRuns, AreTold, IsStepRun, Part, Answer, PartRun, ServesAll, Step, book_left, book_past, ends_at_fault, gone_past, line_answer, nothing_gone, served_rows, served_text, step_rows, step_said, step_text}
+use Rattle.program_serving.specs.declared.parts.Served.{Served}
 use Rattle.program_serving.specs.inner.Parts.{AreDoneOf, BeginsAt, ServesPart}
 use Rattle.program_serving.specs.inner.Sessions.{GoesOnTo, IsSession, MayHaveToSay, PassesFault, fault_answer, fault_said, past_answer}
-use Rattle.program_serving.specs.declared.parts.Served.{Served}
-use Rattle.program_serving.proofs.FaultLemmas.{answer_stops}
-use Rattle.program_serving.proofs.PastLimits.{IsNextPast, LeftBehind, ReadsPart}
-use Rattle.program_serving.proofs.RowsBefore.{same_rows}
-use Rattle.program_serving.proofs.StoppedRuns.{stored}
-use Rattle.program_serving.proofs.ToldLemmas.{nothing_told, told_more, told_none}
 
 -- what each step gives, with one more
 pub each_more : {X Y : Type 0} (f : X → List Y) (xs : List X) (x : X) → flat_map f (xs ++ x ∷ []) ≡ flat_map f xs ++ f x

@@ -1,23 +1,18 @@
 -- A run of a part that goes on from an auction: what it leaves, and why it stops.
 use Rattle.std.proofs.Common.{arith, ◌≡◌, ◌==◌, ◌<◌, ◌+◌, ◌∷◌, ◌∙◌, ℕ, cond, List, [], All, length, map, ap, sym, subst}
 use Rattle.std.proofs.lemmas.List.Sums.{sum_by-append}
-use Rattle.auction_rows.specs.declared.{limits.Policy.Policy, values.Opening.Opening, requests.Request.Request}
 use Rattle.auction_rows.specs.Book.{Book, bids_stored, buys_stored, comments_stored, items_stored, worker_of}
 use Rattle.auction_rows.specs.History.{book_after}
-use Rattle.auction_run.specs.Beginning.{AreShortFor}
-use Rattle.auction_run.specs.GoingOn.{AreShortOn, IsStopped}
-use Rattle.auction_run.specs.Outcomes.{IsOutcome}
+use Rattle.auction_rows.specs.declared.{limits.Policy.Policy, values.Opening.Opening, requests.Request.Request}
+use Rattle.auction_run.specs.{Beginning.{AreShortFor}, GoingOn.{AreShortOn, IsStopped}}
+use Rattle.auction_run.specs.{Outcome.{Outcome}, Outcomes.{IsOutcome}}
+use Rattle.auction_run.specs.declared.checks.Stopped.{TheVariants.{Refused, Failed}, Stopped}
 use Rattle.auction_run.specs.RunFault.TheVariants as run
-use Rattle.auction_run.specs.declared.checks.Stopped.{Stopped}
-use Rattle.auction_run.specs.declared.checks.Stopped.TheVariants.{Refused, Failed}
-use Rattle.auction_run.specs.Outcome.{Outcome}
 use Rattle.closing_laws.specs.Standing.{counters_at, stores}
 use Rattle.item_shards.specs.OpeningRows.{rows_by}
+use Rattle.phase_floor.proofs.{BookSize.{one_more}, NextRunLemmas.{at_next, many}}
 use Rattle.phase_floor.specs.Adding.{IsSameAuction, IsStartOf}
-use Rattle.phase_floor.specs.NextRun.{for_next_run, stores_as_commits}
-use Rattle.phase_floor.specs.Resuming.{counters_in}
-use Rattle.phase_floor.proofs.BookSize.{one_more}
-use Rattle.phase_floor.proofs.NextRunLemmas.{at_next, many}
+use Rattle.phase_floor.specs.{NextRun.{for_next_run, stores_as_commits}, Resuming.{counters_in}}
 use Rattle.phase_floor.specs.States.{IsBookOf, JoinedState, StandsFor}
 use Rattle.program_opening.specs.Options.{FitsOptions, opening_asked, policy_of}
 use Rattle.program_opening.specs.declared.options.Options.{Options}

@@ -1,7 +1,6 @@
 -- Two texts, written one after the other.
 use Rattle.std.proofs.Common.{ℕ, ◌+◌, List, ◌++◌, Option, length, take, sym, subst}
-use Rattle.std.proofs.KnownBytes.{Appends-trans}
-use Rattle.std.proofs.Math.Seq.{take-append-add}
+use Rattle.std.proofs.{KnownBytes.{Appends-trans}, Math.Seq.{take-append-add}}
 use Rattle.std.specs.Io.KnownBytes.{Appends}
 use Rattle.byte_texts.specs.Writing.{IsPartWritten}
 

@@ -1,32 +1,23 @@
 -- What is told of a part, and how far at a fault.
 use Rattle.std.proofs.Common.{◌≡◌, ◌∙◌, ◌⊎◌, ◌++◌, true, if◌then◌else◌, ℕ, List, [], ◌∷◌, Option, None, Some, IfErr, IfSome, Result, ap, inl, inr, length, refl, subst, sym}
 use Rattle.std.proofs.KnownBytes.{Appends-kept, Appends-nil, Appends-trans, Keeps-refl}
-use Rattle.std.proofs.Math.Seq.{take-length}
-use Rattle.std.specs.Io.KnownBytes.{Appends}
-use Rattle.std.specs.List.{cons_option}
+use Rattle.std.{proofs.Math.Seq.{take-length}, specs.{Io.KnownBytes.{Appends}, List.{cons_option}}}
 use Rattle.std.specs.Result.{IsErr, IsErrAnd}
+use Rattle.auction_rows.specs.{Book.{Book}, History.{row_of_entry, rows_of}}
 use Rattle.auction_rows.specs.declared.rows.Entry.{Entry}
-use Rattle.auction_rows.specs.Book.{Book}
-use Rattle.auction_rows.specs.History.{row_of_entry, rows_of}
-use Rattle.auction_text.specs.Moved.{Gone, all_moved}
+use Rattle.auction_text.specs.{Moved.{Gone, all_moved}, Replies.{history_text, lines, replies_text}}
 use Rattle.auction_text.specs.RowLines.{row_line, rows_text}
-use Rattle.auction_text.specs.Replies.{history_text, lines, replies_text}
-use Rattle.byte_texts.specs.Writing.{IsPartWritten}
-use Rattle.byte_texts.specs.declared.writing.WriteFault.{WriteFault}
+use Rattle.byte_texts.specs.{Writing.{IsPartWritten}, declared.writing.WriteFault.{WriteFault}}
 use Rattle.byte_texts.specs.declared.writing.WriteFault.TheVariants as write
-use Rattle.part_log.specs.Telling.{IsToldSoFar}
-use Rattle.part_log.specs.declared.log.TellFault.{TellFault}
-use Rattle.part_log.specs.declared.log.TellFault.TheVariants as telling
+use Rattle.part_log.specs.{Telling.{IsToldSoFar}, declared.log.TellFault.{TellFault}}
 use Rattle.part_log.specs.declared.log.Teller.{Teller}
-use Rattle.program_opening.specs.Options.{commits_text}
-use Rattle.program_opening.specs.Faults.{of_telling}
-use Rattle.program_opening.specs.declared.faults.Fault.{Fault}
+use Rattle.part_log.specs.declared.log.TellFault.TheVariants as telling
+use Rattle.program_opening.{proofs.ErrorLemmas.{error_is}, specs.Faults.{of_telling}}
+use Rattle.program_opening.specs.{Options.{commits_text}, declared.faults.Fault.{Fault}}
 use Rattle.program_opening.specs.declared.faults.Fault.TheVariants.{Usage, Read, Resume, Row, Make, Run, Limit, Write, Report, OpenLog, Log}
 use Rattle.program_opening.specs.declared.options.Options.{Options}
-use Rattle.program_serving.specs.ServeFaults.{AreToldAt}
+use Rattle.program_serving.{proofs.TextLemmas.{part_of_added}, specs.ServeFaults.{AreToldAt}}
 use Rattle.program_serving.specs.Serving.{ArePartTold, AreTold, IsNothingTold}
-use Rattle.program_opening.proofs.ErrorLemmas.{error_is}
-use Rattle.program_serving.proofs.TextLemmas.{part_of_added}
 
 -- what is appended to known bytes
 pub appends_known : (old new : Option (List ℕ)) (bytes others : List ℕ) → IfSome old (λ _. bytes ≡ others) → Appends old new bytes → Appends old new others

@@ -1,10 +1,8 @@
 -- The texts of faults and limits, and the answers to lines that are turned away.
 use Rattle.std.specs.Prelude.{ℕ, List, ◌++◌, codes, decimal}
-use Rattle.auction_text.specs.Cause.{Cause}
+use Rattle.auction_text.specs.{Cause.{Cause}, InputLimits.{MOST_RECORDS}, ReadFault.{ReadFault}}
 use Rattle.auction_text.specs.Cause.TheVariants as cause
-use Rattle.auction_text.specs.ReadFault.{ReadFault}
 use Rattle.auction_text.specs.ReadFault.TheVariants as fault
-use Rattle.auction_text.specs.InputLimits.{MOST_RECORDS}
 use Rattle.byte_texts.specs.Labels.{labelled}
 
 abbrev pub cause_text : Cause → List ℕ

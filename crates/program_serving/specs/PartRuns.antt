@@ -1,10 +1,8 @@
 -- From what serving begins, and what a part does.
 use Rattle.std.specs.Prelude.{ℕ, ◌++◌, List, flat_map, length}
-use Rattle.auction_rows.specs.declared.{requests.Object.Object, rows.Entry.Entry}
 use Rattle.auction_rows.specs.Book.{Book}
-use Rattle.auction_text.specs.LiveParts.{rows_said}
-use Rattle.auction_text.specs.Moved.{Gone}
-use Rattle.auction_text.specs.Scripts.{Asked}
+use Rattle.auction_rows.specs.declared.{requests.Object.Object, rows.Entry.Entry}
+use Rattle.auction_text.specs.{LiveParts.{rows_said}, Moved.{Gone}, Scripts.{Asked}}
 use Rattle.phase_floor.specs.States.{IsBookOf, JoinedState}
 use Rattle.run_laws.specs.Answers.{IsAnswer}
 use Rattle.program_opening.specs.Options.{FitsOptions, opening_asked, policy_of}

@@ -1,27 +1,21 @@
 -- Why serving ends with a fault, and how far was told by then.
 use Rattle.std.specs.Prelude.{ℕ, ◌≡◌, ◌<◌, ◌≤◌, ◌+◌, ◌++◌, ◌∷◌, ◌⊎◌, List, [], Option, false, true, length, slice_index_or}
-use Rattle.auction_rows.specs.declared.{values.Opening.Opening, requests.Request.Request, requests.Opened.Opened}
 use Rattle.auction_rows.specs.Book.{Book}
-use Rattle.auction_run.specs.Beginning.{AreShortFor, HasQuotas}
-use Rattle.auction_run.specs.Phases.{HaveMetLastNumber}
+use Rattle.auction_rows.specs.declared.{values.Opening.Opening, requests.Request.Request, requests.Opened.Opened}
+use Rattle.auction_run.specs.{Beginning.{AreShortFor, HasQuotas}, Phases.{HaveMetLastNumber}}
 use Rattle.auction_run.specs.RunFault.{RunFault}
 use Rattle.auction_run.specs.RunFault.TheVariants as run
-use Rattle.auction_text.specs.LiveReading.{records_said}
-use Rattle.auction_text.specs.Moved.{Gone, IsPastCount}
-use Rattle.auction_text.specs.Reading.{IsInputFault}
+use Rattle.auction_text.specs.{LineFault.{LineFault}, LiveReading.{records_said}}
+use Rattle.auction_text.specs.{Moved.{Gone, IsPastCount}, ReadFault.{ReadFault}}
+use Rattle.auction_text.specs.{Reading.{IsInputFault}, Record.{Record}, Said.{Said}}
 use Rattle.auction_text.specs.Scripts.{Asked, asked_in, requests_in}
-use Rattle.auction_text.specs.ReadFault.{ReadFault}
-use Rattle.auction_text.specs.LineFault.{LineFault}
-use Rattle.auction_text.specs.Said.{Said}
 use Rattle.auction_text.specs.Said.TheVariants as says
-use Rattle.auction_text.specs.Record.{Record}
 use Rattle.byte_texts.specs.declared.writing.WriteFault.TheVariants as write
 use Rattle.log_opening.specs.Parts.{IsFirstRefused, rows_from}
 use Rattle.part_log.specs.declared.log.Teller.{Teller}
 use Rattle.phase_floor.specs.declared.adding.AddFault.{AddFault}
 use Rattle.shard_boxes.specs.declared.limits.TheConstants.{MOST_COMMITS}
-use Rattle.program_opening.specs.Options.{opening_asked, policy_of}
-use Rattle.program_opening.specs.declared.faults.Fault.{Fault}
+use Rattle.program_opening.specs.{Options.{opening_asked, policy_of}, declared.faults.Fault.{Fault}}
 use Rattle.program_opening.specs.declared.faults.Fault.TheVariants.{Read, Row, Run, Limit, Write, Log}
 use Rattle.program_opening.specs.declared.options.Options.{Options}
 use Rattle.program_serving.specs.PartRuns.{RunsPart, rows_before}

@@ -1,17 +1,13 @@
 -- What the program answers while requests come.
-use Rattle.std.specs.Prelude.{ℕ, ◌≡◌, ◌==◌, ◌≤◌, ◌+◌, ◌++◌, ◌⊎◌, ◌||◌, Bool, false, List, [], ◌∷◌, Option, None, Some, flat_map, fold, length, slice_index_or, if◌then◌else◌}
 use Rattle.std.specs.Io.KnownBytes.{Appends, Keeps}
+use Rattle.std.specs.Prelude.{ℕ, ◌≡◌, ◌==◌, ◌≤◌, ◌+◌, ◌++◌, ◌⊎◌, ◌||◌, Bool, false, List, [], ◌∷◌, Option, None, Some, flat_map, fold, length, slice_index_or, if◌then◌else◌}
+use Rattle.auction_rows.specs.{Book.{Book}, History.{book_after}}
 use Rattle.auction_rows.specs.declared.{values.Opening.Opening, requests.Object.Object, requests.Request.Request, requests.Opened.Opened, rows.Entry.Entry}
-use Rattle.auction_rows.specs.Book.{Book}
-use Rattle.auction_rows.specs.History.{book_after}
 use Rattle.program_serving.specs.FaultLines.{answer_line, fault_text, limit_text}
-use Rattle.auction_text.specs.LiveReading.{records_said}
-use Rattle.auction_text.specs.Moved.{Gone, all_moved}
-use Rattle.auction_text.specs.RowLines.{rows_text}
+use Rattle.auction_text.specs.{LiveReading.{records_said}, Moved.{Gone, all_moved}, Record.{Record}}
+use Rattle.auction_text.specs.{RowLines.{rows_text}, Said.{Said}}
 use Rattle.auction_text.specs.Scripts.{asked_in, requests_in, rows}
-use Rattle.auction_text.specs.Said.{Said}
 use Rattle.auction_text.specs.Said.TheVariants as says
-use Rattle.auction_text.specs.Record.{Record}
 use Rattle.byte_texts.specs.Writing.{IsPartWritten}
 use Rattle.item_shards.specs.OpeningRows.{rows_by}
 use Rattle.log_opening.specs.Parts.{AreRowsFrom, rows_from}

@@ -2,8 +2,7 @@
 ghost use Rattle.std.specs.Prelude.{◌≡◌, ◌++◌, [], IfErr, IfOk, OnOk};
 ghost use Rattle.auction_text.specs.Moved.{gone_by};
 ghost use Rattle.program_serving.specs.FaultLines.{answer_line, cause_text, fault_line, fault_text, record_text};
-ghost use Rattle.program_serving.specs.ServeFaults.{AreToldAt};
-ghost use Rattle.program_serving.specs.Serving.{AreTold};
+ghost use Rattle.program_serving.specs.{ServeFaults.{AreToldAt}, Serving.{AreTold}};
 ghost use Rattle.program_serving.specs.inner.Sessions.{answer_to, turned_text};
 
 use crate::parts::LiveTeller;

@@ -3,8 +3,8 @@ ghost use Rattle.std.specs.Prelude.{◌≡◌, ◌<◌, ◌≤◌, [], false, le
 ghost use Rattle.auction_run.specs.GoingOn.{AreShortOn, HasScripts};
 ghost use Rattle.closing_laws.specs.Standing.{counters_at, stores};
 ghost use Rattle.shard_boxes.specs.declared.limits.TheConstants.{MOST_COMMITS};
-ghost use Rattle.program_serving.specs.inner.Parts.{AreWithinLimit, HasRoomForPart, IsPastOn};
 ghost use Rattle.program_serving.specs.Serving.{ends_at_fault};
+ghost use Rattle.program_serving.specs.inner.Parts.{AreWithinLimit, HasRoomForPart, IsPastOn};
 
 use auction_rows::MOST_OF_A_WORKER;
 use auction_text::MOST_ROWS_OF_A_PART;

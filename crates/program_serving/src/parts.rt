@@ -1,14 +1,11 @@
 //! The run of one part, and what is logged and written of it.
 ghost use Rattle.std.specs.Prelude.{ℕ, ◌<◌, ◌+◌, ◌^◌, IfErr, IfOk, ◌≡◌, IfSome, OnOk, length};
-ghost use Rattle.auction_rows.specs.Book.{Book};
-ghost use Rattle.auction_rows.specs.History.{book_after};
-ghost use Rattle.auction_text.specs.Moved.{gone_by};
-ghost use Rattle.auction_text.specs.RowLines.{rows_text};
+ghost use Rattle.auction_rows.specs.{Book.{Book}, History.{book_after}};
+ghost use Rattle.auction_text.specs.{Moved.{gone_by}, RowLines.{rows_text}};
 ghost use Rattle.auction_text.specs.Scripts.{Asked, asked_of};
 ghost use Rattle.byte_texts.specs.Writing.{WritesText};
 ghost use Rattle.log_opening.specs.Parts.{HasAdded};
-ghost use Rattle.phase_floor.specs.Adding.{HasBook, IsSameAuction, IsStartOf};
-ghost use Rattle.phase_floor.specs.States.{IsBookOf};
+ghost use Rattle.phase_floor.specs.{Adding.{HasBook, IsSameAuction, IsStartOf}, States.{IsBookOf}};
 ghost use Rattle.program_opening.specs.Options.{FitsOptions, opening_asked};
 ghost use Rattle.program_serving.specs.ServeFaults.{AreNotRunOn, AreToldAt};
 ghost use Rattle.program_serving.specs.Serving.{AreTold, OfPart, part_text};

@@ -1,10 +1,8 @@
 //! Replies while requests come: the input is performed part by part; and what holds of an input
 //! that is served so.
 ghost use Rattle.std.specs.Prelude.{ℕ, ◌≡◌, ◌++◌, ◌≤◌, List, [], Option, Some, false, true, IfErr, IfOk, IfSome, MatchOption, OnOk};
-ghost use Rattle.auction_rows.specs.Book.{Book};
-ghost use Rattle.auction_rows.specs.History.{ReplaysFrom};
-ghost use Rattle.auction_text.specs.LiveLines.{live_says};
-ghost use Rattle.auction_text.specs.Moved.{Gone, gone_by};
+ghost use Rattle.auction_rows.specs.{Book.{Book}, History.{ReplaysFrom}};
+ghost use Rattle.auction_text.specs.{LiveLines.{live_says}, Moved.{Gone, gone_by}};
 ghost use Rattle.auction_text.specs.Replies.{history_text};
 ghost use Rattle.auction_text.specs.Said.{Said as Says};
 ghost use Rattle.part_log.specs.declared.log.Teller.{Teller as Told};

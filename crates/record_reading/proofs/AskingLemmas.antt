@@ -6,8 +6,8 @@ use Rattle.std.proofs.lemmas.List.Elements.{filter_map-append}
 use Rattle.std.proofs.lemmas.List.FromFn.{get_or-map-range_with_len, length-map-range_with_len}
 use Rattle.std.specs.List.{range_with_len}
 use Rattle.auction_rows.specs.declared.requests.Request.{Request}
-use Rattle.record_reading.specs.declared.record.Record.{Record}
 use Rattle.record_reading.specs.Asking.{AskFor, Asked, asked_in, nothing_asked, request_by, row_in, rows, script, with_record}
+use Rattle.record_reading.specs.declared.record.Record.{Record}
 
 -- one more record adds its row
 rows_more : (said : List Record) (first : Record) (asked : Asked) → rows said ≡ asked.rows → rows (said ++ (first ∷ [])) ≡ (with_record first asked).rows

@@ -1,9 +1,7 @@
 -- Bytes that are read into a buffer, and moved to its front.
 use Rattle.std.proofs.Common.{arith, ◌≡◌, ◌≤◌, ◌+◌, ◌-◌, get_or, ◌++◌, ◌∙◌, ℕ, List, Option, Some, None, IfSome, drop, length, take, refl, sym, ap, ap₂, take-add}
-use Rattle.std.proofs.Math.Seq.{drop_at, paste, take-paste}
-use Rattle.std.proofs.lemmas.Grind.{common_steps}
-use Rattle.std.proofs.lemmas.List.{drop-drop, drop-take}
-use Rattle.std.proofs.lemmas.Slice.{take-put_mid_below}
+use Rattle.std.proofs.{Math.Seq.{drop_at, paste, take-paste}, lemmas.Grind.{common_steps}}
+use Rattle.std.proofs.lemmas.{List.{drop-drop, drop-take}, Slice.{take-put_mid_below}}
 use Rattle.std.specs.Io.KnownBytes.{Consumes}
 use Rattle.record_reading.specs.Lines.{EndsLine}
 use borrow.Rule.Slice.PartMut.{put_mid}

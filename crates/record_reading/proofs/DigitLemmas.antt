@@ -1,16 +1,11 @@
 -- Digits that are read in place.
 use Rattle.std.proofs.Common.{arith, [], cond, nat_lt, ◌&&◌, ◌⊎◌, None, add-one, ◌≡◌, ◌==◌, ◌≤◌, ◌<◌, ◌+◌, ◌-◌, ◌*◌, ◌%◌, ◌^◌, ◌∷◌, ◌++◌, ◌∙◌, ℕ, List, Some, Bool, true, false, drop, get_or, length, take, refl, sym, ap, subst, inl, inr, get_or-drop}
-use Rattle.std.proofs.lemmas.Grind.{common_steps}
+use Rattle.std.proofs.Math.{Nat.{pow-le-pow_right}, Seq.{drop-cons}}
 use Rattle.std.proofs.lemmas.Bool.{cases_lt, cases_Bool, and_parts, and_from, eqb-true, false_from_ne_true, lt-ltb}
-use Rattle.std.specs.Char.{is_ascii_digit}
-use Rattle.std.specs.List.{list_all}
-use Rattle.std.specs.Str.Parse.{digits_value}
+use Rattle.std.proofs.lemmas.{Grind.{common_steps}, List.{take-append-drop, drop-drop}}
+use Rattle.std.specs.{Char.{is_ascii_digit}, List.{list_all}, Str.Parse.{digits_value}}
 use Rattle.record_reading.proofs.NumberLemmas.{digit_bound, digits_more, next_bound, next_digit, room}
-use Rattle.std.proofs.Math.Nat.{pow-le-pow_right}
-use Rattle.std.proofs.Math.Seq.{drop-cons}
-use Rattle.std.proofs.lemmas.List.{take-append-drop, drop-drop}
-use Rattle.record_reading.specs.Fields.{is_numeral, number}
-use Rattle.record_reading.specs.Lines.{EndsLine}
+use Rattle.record_reading.specs.{Fields.{is_numeral, number}, Lines.{EndsLine}}
 use Rattle.record_reading.specs.inner.PlainLines.{IsFieldTo, IsNumberTo}
 
 -- the bytes from a place up to another

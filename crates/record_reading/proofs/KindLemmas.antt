@@ -1,8 +1,7 @@
 -- A word names a row where it begins with a plus, and else a request.
 use Rattle.std.proofs.Common.{◌≡◌, ◌==◌, ◌≤◌, ◌-◌, ◌∙◌, ℕ, List, [], ◌∷◌, Option, Some, None, cond, drop, get_or, length, take, ap, arith, refl, sym}
+use Rattle.std.proofs.lemmas.{Bool.{eqb-true, false_from_ne_true}, List.{take_rest}}
 use Rattle.std.specs.Option.{option_map, option_or}
-use Rattle.std.proofs.lemmas.Bool.{eqb-true, false_from_ne_true}
-use Rattle.std.proofs.lemmas.List.{take_rest}
 use Rattle.record_reading.specs.Kinds.{kind_of, request, row, store_of, view_of}
 use Rattle.record_reading.specs.declared.fields.RequestKind.{RequestKind}
 

@@ -1,19 +1,14 @@
 -- After a request no record without a fault is a row.
 use Rattle.std.proofs.Common.{◌≡◌, ◌&&◌, ℕ, Bool, true, false, List, Option, Some, None, Result, Ok, Err, sym, ap, if◌then◌else◌, nat_lt, inl, inr}
-use Rattle.std.proofs.lemmas.Bool.{cases_Bool}
-use Rattle.std.specs.Option.{ok_or}
-use Rattle.std.specs.Result.{result_map_both}
+use Rattle.std.{proofs.lemmas.Bool.{cases_Bool}, specs.{Option.{ok_or}, Result.{result_map_both}}}
 use Rattle.auction_rows.specs.declared.requests.Request.{Request}
-use Rattle.record_reading.specs.declared.inputs.Cause.{Cause}
-use Rattle.record_reading.specs.declared.inputs.Cause.TheVariants as cause
-use Rattle.record_reading.specs.declared.inputs.ReadFault.{ReadFault}
-use Rattle.record_reading.specs.declared.inputs.ReadFault.TheVariants as fault
-use Rattle.record_reading.specs.declared.fields.Kind.{Kind}
-use Rattle.record_reading.specs.declared.fields.RequestKind.{RequestKind}
-use Rattle.record_reading.specs.declared.record.Record.{Record}
-use Rattle.record_reading.specs.Fields.{number}
-use Rattle.record_reading.specs.Kinds.{has_count}
+use Rattle.record_reading.specs.{Fields.{number}, Kinds.{has_count}}
 use Rattle.record_reading.specs.Records.{and_then, checked, field, kind_in, read_record, request_of}
+use Rattle.record_reading.specs.declared.fields.{Kind.{Kind}, RequestKind.{RequestKind}}
+use Rattle.record_reading.specs.declared.inputs.{Cause.{Cause}, ReadFault.{ReadFault}}
+use Rattle.record_reading.specs.declared.record.Record.{Record}
+use Rattle.record_reading.specs.declared.inputs.Cause.TheVariants as cause
+use Rattle.record_reading.specs.declared.inputs.ReadFault.TheVariants as fault
 
 row_of_count : (enough : Bool) (r : Result Request Cause) (row : Bool) (w : ℕ) (said : Record)
     → (if enough then and_then {B = Record} r (λ request. Ok (record { is_row = row; worker = w; request = request })) else Err cause.Fields) ≡ Ok said → row ≡ said.is_row

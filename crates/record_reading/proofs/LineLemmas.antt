@@ -1,16 +1,14 @@
 -- What `csv` reads of plain fields and lines.
 use Rattle.std.proofs.Common.{arith, ◌≡◌, ◌==◌, ◌&&◌, ◌<◌, ◌+◌, not, ◌++◌, ◌∷◌, ◌∙◌, [], ℕ, zero, suc, List, Option, Some, None, refl, ap, true, false, append_assoc, length, inl, inr}
+use Rattle.std.proofs.lemmas.{Bool.{and_parts, not-true}, List.{append-nil}}
 use Rattle.std.specs.List.{list_all}
-use Rattle.std.proofs.lemmas.List.{append-nil}
-use Rattle.std.proofs.lemmas.Bool.{and_parts, not-true}
 use Rattle.csv.specs.Machine.{Read, ends_at_end, next_record}
 use Rattle.csv.specs.Reading.{default_config, records, records_from, records_next, strip_bom}
 use Rattle.csv.specs.declared.parser.State.{State}
 use Rattle.csv.specs.declared.parser.State.TheVariants as st
-use Rattle.record_reading.specs.Lines.{ReadsFirst}
-use Rattle.record_reading.specs.inner.PlainLines.{HasRead, IsLineEnd, is_plain, joins}
-use Rattle.record_reading.specs.RecordsLeft.{Left}
 use Rattle.record_reading.proofs.RecordsLeft.{left_all, left_more, shorter}
+use Rattle.record_reading.specs.{Lines.{ReadsFirst}, RecordsLeft.{Left}}
+use Rattle.record_reading.specs.inner.PlainLines.{HasRead, IsLineEnd, is_plain, joins}
 
 -- a byte that joins a field is no mark
 joins_no_mark : (b : ℕ) → joins b ≡ true → ((b == 44) ≡ false) × ((b == 13) ≡ false) × ((b == 10) ≡ false)

@@ -1,14 +1,9 @@
 -- Numbers that are read a digit at a time.
 use Rattle.std.proofs.Common.{arith, ◌≡◌, true, ◌≤◌, ◌<◌, ℕ, ◌+◌, ◌-◌, ◌*◌, ◌^◌, length, List, take, slice_index_or}
-use Rattle.std.proofs.Math.Nat.{pow-le-pow_right}
-use Rattle.std.proofs.lemmas.Grind.{common_steps, pow_more}
-use Rattle.std.proofs.lemmas.Str.{digit_value_digit}
-use Rattle.std.proofs.lemmas.Str.Parse.{digits_value-take-le}
-use Rattle.std.proofs.lemmas.Int.Digits.{digits_value_more}
-use Rattle.std.proofs.lemmas.List.Folds.{list_all_more}
-use Rattle.std.specs.List.{list_all}
-use Rattle.std.specs.Char.{is_ascii_digit, digit_value}
-use Rattle.std.specs.Str.Parse.{digits_value}
+use Rattle.std.proofs.{Math.Nat.{pow-le-pow_right}, lemmas.Grind.{common_steps, pow_more}}
+use Rattle.std.proofs.lemmas.{Int.Digits.{digits_value_more}, List.Folds.{list_all_more}}
+use Rattle.std.proofs.lemmas.Str.{Parse.{digits_value-take-le}, digit_value_digit}
+use Rattle.std.specs.{Char.{is_ascii_digit, digit_value}, List.{list_all}, Str.Parse.{digits_value}}
 
 digit_is : (c : ℕ) → is_ascii_digit c ≡ true → digit_value c ≡ c - 48
 digit_is c h = grind (arith, common_steps, digit_value_digit c)

@@ -1,9 +1,7 @@
 -- Digits that begin with no zero, and the number that they write.
 use Rattle.std.proofs.Common.{◌≡◌, ◌≤◌, ◌^◌, ◌<◌, ◌==◌, ◌∙◌, ◌&&◌, ℕ, true, false, List, [], ◌∷◌, Option, Some, None, length, get_or, cond, IfSome, MatchOption, ap, sym, subst, arith}
-use Rattle.std.specs.Prelude.{nat_lt}
 use Rattle.std.proofs.lemmas.Bool.{and_from, and_parts, eqb-true, false_from_ne_true, false≢true, lt-ltb, ltb-true}
-use Rattle.std.specs.List.{list_all}
-use Rattle.std.specs.Char.{is_ascii_digit}
+use Rattle.std.specs.{Char.{is_ascii_digit}, List.{list_all}, Prelude.{nat_lt}}
 use Rattle.std.specs.Str.Parse.{digits_value}
 use Rattle.record_reading.specs.Fields.{is_empty, is_numeral, number}
 

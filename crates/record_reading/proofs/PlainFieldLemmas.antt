@@ -1,17 +1,15 @@
 -- Fields that are read in place are the fields that `csv` reads.
 use Rattle.std.proofs.Common.{arith, ◌≡◌, ◌==◌, ◌&&◌, ◌≤◌, ◌<◌, ◌+◌, ◌-◌, ◌∷◌, ◌++◌, ◌∙◌, [], ℕ, List, Some, Bool, true, false, not, nat_lt, add-one, drop, get_or, get_or-drop, length, take, refl, sym, ap, ap₂, append_assoc, drop-cons, inl, inr}
 use Rattle.std.proofs.Math.Seq.{drop-append-add}
-use Rattle.std.proofs.lemmas.Grind.{common_steps}
 use Rattle.std.proofs.lemmas.Bool.{and_from, and_parts, eqb-true, false_from_ne_true, false≢true, lt-ltb, ne_eqb}
-use Rattle.std.proofs.lemmas.List.Folds.{list_all-append, list_all_more}
-use Rattle.std.specs.Char.{is_ascii_digit}
-use Rattle.std.specs.List.{list_all, position, position_or_len}
+use Rattle.std.proofs.lemmas.{Grind.{common_steps}, List.Folds.{list_all-append, list_all_more}}
+use Rattle.std.specs.{Char.{is_ascii_digit}, List.{list_all, position, position_or_len}}
 use Rattle.csv.specs.Reading.{strip_bom}
+use Rattle.record_reading.proofs.DigitLemmas.{span}
+use Rattle.record_reading.proofs.LineLemmas.{last_and_end, next_and_comma, no_bom}
 use Rattle.record_reading.specs.Fields.{id_of_parts, is_point, item_id, item_id_at, number}
 use Rattle.record_reading.specs.Lines.{ReadsFirst}
 use Rattle.record_reading.specs.inner.PlainLines.{HasRead, IsFieldTo, IsItemTo, IsLastField, IsLastItem, IsLastNumber, IsNumberTo, is_plain, is_quoted, joins}
-use Rattle.record_reading.proofs.DigitLemmas.{span}
-use Rattle.record_reading.proofs.LineLemmas.{last_and_end, next_and_comma, no_bom}
 
 -- a digit is no byte of another sort
 digit_not : (c d : ℕ) → is_ascii_digit d ≡ false → is_ascii_digit c ≡ true → (c == d) ≡ false

@@ -1,20 +1,17 @@
 -- Plain lines that are read in place say what their records say.
 use Rattle.std.proofs.Common.{arith, ◌≡◌, ◌<◌, ◌+◌, ◌∷◌, ◌++◌, ◌∙◌, [], ℕ, suc, List, Ok, Option, Some, None, IfSome, Bool, true, false, nat_lt, drop, get_or, length, refl, sym, ap, append_assoc, add-one, drop-cons}
-use Rattle.std.proofs.lemmas.Grind.{common_steps}
-use Rattle.std.proofs.lemmas.Bool.{lt-ltb}
+use Rattle.std.proofs.lemmas.{Bool.{lt-ltb}, Grind.{common_steps}}
 use Rattle.csv.specs.Records.{field_at}
 use Rattle.auction_rows.specs.declared.{values.Stars.Stars, requests.ItemId.ItemId, requests.Request.Request}
 use Rattle.auction_rows.specs.declared.requests.Request.TheVariants as request
-use Rattle.record_reading.specs.Fields.{name, quantity, stars}
-use Rattle.record_reading.specs.Kinds.{has_count, kind_of}
-use Rattle.record_reading.specs.Records.{put_up, request_of}
-use Rattle.record_reading.specs.declared.fields.RequestKind.{RequestKind}
-use Rattle.record_reading.specs.declared.fields.RequestKind.TheVariants as kind
-use Rattle.record_reading.specs.Lines.{IsLine}
-use Rattle.record_reading.specs.inner.PlainLines.{HasRead, HasWordAt, IsEndOfItem, IsFieldTo, IsItemTo, IsLastField, IsLastItem, IsLastNumber, IsNumberTo, IsPutUp, IsRequestAt, IsRestOf, is_plain}
-use Rattle.record_reading.specs.inner.QuotedFields.{HasNextField}
 use Rattle.record_reading.proofs.LineLemmas.{first_and_comma, next_and_comma}
 use Rattle.record_reading.proofs.PlainFieldLemmas.{comma_in_place, digits_no_bom, digits_plain, end_in_place}
+use Rattle.record_reading.specs.{Fields.{name, quantity, stars}, Kinds.{has_count, kind_of}}
+use Rattle.record_reading.specs.{Lines.{IsLine}, Records.{put_up, request_of}}
+use Rattle.record_reading.specs.declared.fields.RequestKind.{RequestKind}
+use Rattle.record_reading.specs.inner.PlainLines.{HasRead, HasWordAt, IsEndOfItem, IsFieldTo, IsItemTo, IsLastField, IsLastItem, IsLastNumber, IsNumberTo, IsPutUp, IsRequestAt, IsRestOf, is_plain}
+use Rattle.record_reading.specs.inner.QuotedFields.{HasNextField}
+use Rattle.record_reading.specs.declared.fields.RequestKind.TheVariants as kind
 
 -- the fields of a bid
 pub bid_in_place : (text : List ℕ) (at bidder at_item : ℕ) (item : ItemId) (at_amount amount at_time time next : ℕ)

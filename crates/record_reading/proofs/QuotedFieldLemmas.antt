@@ -1,14 +1,12 @@
 -- Fields in quotes that are read in place are the fields that `csv` reads.
 use Rattle.std.proofs.Common.{arith, ◌≡◌, ◌==◌, ◌≤◌, ◌<◌, ◌+◌, ◌-◌, ◌∷◌, ◌++◌, ◌∙◌, [], ℕ, List, true, not, add-one, drop, drop-cons, get_or, length, refl, ap, append_assoc}
-use Rattle.std.proofs.lemmas.Bool.{and_parts, ne_eqb, not-true}
-use Rattle.std.proofs.lemmas.List.{append-nil}
-use Rattle.csv.specs.Machine.{next_record}
-use Rattle.csv.specs.Reading.{default_config}
+use Rattle.std.proofs.lemmas.{Bool.{and_parts, ne_eqb, not-true}, List.{append-nil}}
+use Rattle.csv.specs.{Machine.{next_record}, Reading.{default_config}}
 use Rattle.csv.specs.declared.parser.State.TheVariants as st
-use Rattle.record_reading.specs.inner.PlainLines.{IsFieldTo, is_plain}
-use Rattle.record_reading.specs.inner.QuotedFields.{HasNextField, IsQuotedTo, has_no_quote}
 use Rattle.record_reading.proofs.DigitLemmas.{span, split_at}
 use Rattle.record_reading.proofs.PlainFieldLemmas.{comma_in_place, span_more}
+use Rattle.record_reading.specs.inner.PlainLines.{IsFieldTo, is_plain}
+use Rattle.record_reading.specs.inner.QuotedFields.{HasNextField, IsQuotedTo, has_no_quote}
 
 -- between quotes, bytes other than a quote join the field at hand
 quoted_run : (fields : List (List ℕ)) (field x tail : List ℕ) → has_no_quote x ≡ true

@@ -1,15 +1,12 @@
 -- The records that are left of a text, after some were read.
 use Rattle.std.proofs.Common.{◌≡◌, ◌<◌, ◌≤◌, ◌+◌, ◌∷◌, ◌∙◌, ℕ, zero, suc, Bool, true, false, List, [], Option, Some, None, length, refl, arith, if◌then◌else◌, ◌==◌, ◌&&◌}
+use Rattle.csv.proofs.ReadFacts.{rows-end, rows-more}
 use Rattle.csv.specs.Machine.{Read, ends_at_end, field_after, fields_after, is_end, next_record, step, ends_with, after_end, in_field, start_field, start_record, is_byte}
 use Rattle.csv.specs.Reading.{ReadRecord, Reached, records, records_from, source_of, default_config}
-use Rattle.csv.specs.declared.parser.Config.{Config}
-use Rattle.csv.specs.declared.parser.State.{State}
+use Rattle.csv.specs.declared.parser.{Action.{Action}, Config.{Config}, State.{State}}
+use Rattle.csv.specs.declared.{parser.Terminator.{Terminator}, reader.Reader.{Reader}}
 use Rattle.csv.specs.declared.parser.State.TheVariants as st
-use Rattle.csv.specs.declared.parser.Action.{Action}
-use Rattle.csv.specs.declared.parser.Terminator.{Terminator}
 use Rattle.csv.specs.declared.parser.Terminator.TheVariants as term
-use Rattle.csv.specs.declared.reader.Reader.{Reader}
-use Rattle.csv.proofs.ReadFacts.{rows-end, rows-more}
 use Rattle.record_reading.specs.RecordsLeft.{Left}
 
 -- a choice between two steps has what both have

@@ -1,17 +1,16 @@
 -- Fields that are read in place are those of a whole line, whatever is behind it.
 use Rattle.std.proofs.Common.{arith, ◌≡◌, ◌==◌, ◌≤◌, ◌<◌, ◌+◌, ◌-◌, ◌&&◌, ◌∷◌, ◌++◌, ◌∙◌, [], ℕ, suc, Bool, List, true, false, not, drop, get_or, length, take, refl, sym, ap, append_assoc}
+use Rattle.std.proofs.Math.Seq.{take-append-add, take-append_seam}
 use Rattle.std.proofs.lemmas.Bool.{and_from, and_parts}
 use Rattle.std.proofs.lemmas.List.{drop-take, get_or-take, length-append, length-drop, length-take-le}
-use Rattle.std.proofs.Math.Seq.{take-append-add, take-append_seam}
-use Rattle.std.specs.Char.{is_ascii_digit}
-use Rattle.std.specs.List.{list_all}
+use Rattle.std.specs.{Char.{is_ascii_digit}, List.{list_all}}
 use Rattle.auction_rows.specs.declared.requests.ItemId.{ItemId}
 use Rattle.auction_rows.specs.declared.requests.Request.TheVariants as request
-use Rattle.record_reading.specs.declared.fields.RequestKind.TheVariants as kind
-use Rattle.record_reading.specs.Lines.{IsWhole, has_no_feed}
-use Rattle.record_reading.specs.inner.PlainLines.{HasLineTo, HasWordAt, IsFieldTo, IsItemTo, IsNumberTo, IsRestOf, is_plain, is_quoted, joins}
 use Rattle.record_reading.proofs.PlainFieldLemmas.{digits_join, number_to_feed}
 use Rattle.record_reading.proofs.PlainLineLemmas.{bid_in_place}
+use Rattle.record_reading.specs.Lines.{IsWhole, has_no_feed}
+use Rattle.record_reading.specs.inner.PlainLines.{HasLineTo, HasWordAt, IsFieldTo, IsItemTo, IsNumberTo, IsRestOf, is_plain, is_quoted, joins}
+use Rattle.record_reading.specs.declared.fields.RequestKind.TheVariants as kind
 
 -- no feed in two texts
 pub no_feed_both : (x y : List ℕ) → has_no_feed x ≡ true → has_no_feed y ≡ true → has_no_feed (x ++ y) ≡ true

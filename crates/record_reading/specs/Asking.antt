@@ -1,6 +1,6 @@
 -- What records ask for: rows to open with, and a script for each worker.
-use Rattle.std.specs.Prelude.{ℕ, ◌≡◌, ◌<◌, ◌++◌, not, ◌==◌, ◌&&◌, List, [], ◌∷◌, count_by, get_or, length, map, replicate, slice_index_or, slice_set, Option, Some, None, if◌then◌else◌}
 use Rattle.std.specs.List.{filter_map, range_with_len}
+use Rattle.std.specs.Prelude.{ℕ, ◌≡◌, ◌<◌, ◌++◌, not, ◌==◌, ◌&&◌, List, [], ◌∷◌, count_by, get_or, length, map, replicate, slice_index_or, slice_set, Option, Some, None, if◌then◌else◌}
 use Rattle.auction_rows.specs.declared.requests.{Request.Request, Opened.Opened}
 use Rattle.record_reading.specs.declared.inputs.CompactInput.{CompactInput}
 use Rattle.record_reading.specs.declared.record.Record.{Record}

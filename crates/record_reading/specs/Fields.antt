@@ -1,11 +1,9 @@
 -- What one field of a record says.
+use Rattle.std.specs.{Char.{is_ascii_digit}, List.{list_all, position}}
 use Rattle.std.specs.Prelude.{ℕ, ◌+◌, ◌-◌, pos, negsuc, ◌==◌, ◌^◌, take, drop, length, List, [], ◌∷◌, Bool, true, false, ◌&&◌, nat_lt, nat_le, Option, Some, None, if◌then◌else◌}
-use Rattle.std.specs.List.{list_all, position}
-use Rattle.std.specs.Char.{is_ascii_digit}
 use Rattle.std.specs.Str.Parse.{digits_value}
+use Rattle.auction_rows.specs.{Stars.{stars_of}, declared.limits.TheConstants.{MOST_QUANTITY}}
 use Rattle.auction_rows.specs.declared.{values.Stars.Stars, requests.ItemId.ItemId}
-use Rattle.auction_rows.specs.declared.limits.TheConstants.{MOST_QUANTITY}
-use Rattle.auction_rows.specs.Stars.{stars_of}
 
 abbrev pub is_empty : List ℕ → Bool
 is_empty [] = true

@@ -1,9 +1,8 @@
 -- The kinds of records.
-use Rattle.std.specs.Prelude.{ℕ, ◌==◌, List, [], ◌∷◌, Bool, true, false, ◌||◌, codes, Option, Some, None, if◌then◌else◌}
 use Rattle.std.specs.Option.{option_map, option_or}
+use Rattle.std.specs.Prelude.{ℕ, ◌==◌, List, [], ◌∷◌, Bool, true, false, ◌||◌, codes, Option, Some, None, if◌then◌else◌}
 use Rattle.std.specs.Str.{bytes_eq}
-use Rattle.record_reading.specs.declared.fields.Kind.{Kind}
-use Rattle.record_reading.specs.declared.fields.RequestKind.{RequestKind}
+use Rattle.record_reading.specs.declared.fields.{Kind.{Kind}, RequestKind.{RequestKind}}
 use Rattle.record_reading.specs.declared.fields.RequestKind.TheVariants as kind
 
 -- a request of a kind, and a row that such a request would add

@@ -1,9 +1,8 @@
 -- Lines of a text, and what `csv` reads of them.
-use Rattle.std.specs.Prelude.{ℕ, Bool, true, false, not, ◌==◌, ◌&&◌, ◌≡◌, ◌≤◌, ◌<◌, ◌-◌, Ok, List, [], ◌∷◌, ◌++◌, drop, get_or, length}
 use Rattle.std.specs.List.{list_all}
+use Rattle.std.specs.Prelude.{ℕ, Bool, true, false, not, ◌==◌, ◌&&◌, ◌≡◌, ◌≤◌, ◌<◌, ◌-◌, Ok, List, [], ◌∷◌, ◌++◌, drop, get_or, length}
 use Rattle.csv.specs.Reading.{default_config, records, strip_bom}
-use Rattle.record_reading.specs.Records.{read_record}
-use Rattle.record_reading.specs.declared.record.Record.{Record}
+use Rattle.record_reading.specs.{Records.{read_record}, declared.record.Record.{Record}}
 
 -- the bytes of a quote and a line feed
 abbrev pub quote : ℕ

@@ -1,20 +1,17 @@
 -- What one record says: a worker's request, or a row, or the first fault.
-use Rattle.std.specs.Prelude.{ℕ, Bool, ◌&&◌, ◌==◌, List, [], length, nat_lt, Option, Some, None, Result, Ok, Err, if◌then◌else◌}
 use Rattle.std.specs.Option.{unwrap_or, ok_or}
+use Rattle.std.specs.Prelude.{ℕ, Bool, ◌&&◌, ◌==◌, List, [], length, nat_lt, Option, Some, None, Result, Ok, Err, if◌then◌else◌}
 use Rattle.std.specs.Result.{result_map_both}
 use Rattle.csv.specs.Records.{field_at}
 use Rattle.auction_rows.specs.declared.{values.Stars.Stars, requests.ItemId.ItemId, requests.Request.Request}
 use Rattle.auction_rows.specs.declared.requests.Request.TheVariants as request
 use Rattle.record_reading.specs.Fields.{number, item_id, name, quantity, stars}
-use Rattle.record_reading.specs.Kinds.{kind_of, has_count}
-use Rattle.record_reading.specs.declared.inputs.Cause.{Cause}
+use Rattle.record_reading.specs.{Kinds.{kind_of, has_count}, declared.fields.Kind.{Kind}}
+use Rattle.record_reading.specs.declared.{fields.RequestKind.{RequestKind}, inputs.Cause.{Cause}}
+use Rattle.record_reading.specs.declared.{inputs.ReadFault.{ReadFault}, record.Record.{Record}}
 use Rattle.record_reading.specs.declared.inputs.Cause.TheVariants as cause
-use Rattle.record_reading.specs.declared.inputs.ReadFault.{ReadFault}
 use Rattle.record_reading.specs.declared.inputs.ReadFault.TheVariants as fault
-use Rattle.record_reading.specs.declared.fields.Kind.{Kind}
-use Rattle.record_reading.specs.declared.fields.RequestKind.{RequestKind}
 use Rattle.record_reading.specs.declared.fields.RequestKind.TheVariants as kind
-use Rattle.record_reading.specs.declared.record.Record.{Record}
 
 -- the field at a place, empty past the last
 abbrev pub field : List (List ℕ) → ℕ → List ℕ

@@ -1,7 +1,6 @@
 -- The records that a reader of records has left.
 use Rattle.std.specs.Prelude.{ℕ, ◌≡◌, ◌<◌, false, List, length}
-use Rattle.csv.specs.Machine.{ends_at_end}
-use Rattle.csv.specs.Reading.{default_config, records_from}
+use Rattle.csv.specs.{Machine.{ends_at_end}, Reading.{default_config, records_from}}
 use Rattle.csv.specs.declared.parser.State.{State}
 
 -- These are the records that are left in state s with the bytes y.

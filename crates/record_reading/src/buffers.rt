@@ -1,8 +1,7 @@
 //! Bytes that are read into a buffer, and the whole lines among them.
-ghost use Rattle.std.specs.Prelude.{ℕ, ◌≡◌, ◌<◌, ◌≤◌, ◌++◌, drop, length, take, true, List, Some, IfOk, OnOk};
 ghost use Rattle.std.specs.Io.KnownBytes.{IsAtEnd};
-ghost use Rattle.record_reading.specs.Lines.{EndsLine, has_no_feed};
-ghost use Rattle.record_reading.specs.Reading.{HasNoInputFault};
+ghost use Rattle.std.specs.Prelude.{ℕ, ◌≡◌, ◌<◌, ◌≤◌, ◌++◌, drop, length, take, true, List, Some, IfOk, OnOk};
+ghost use Rattle.record_reading.specs.{Lines.{EndsLine, has_no_feed}, Reading.{HasNoInputFault}};
 
 use crate::inputs::ReadFault;
 use memchr::memrchr;

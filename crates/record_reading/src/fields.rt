@@ -1,10 +1,9 @@
 //! The kinds of records, and what one field of a record says.
+ghost use Rattle.std.specs.{Char.{is_ascii_digit}, List.{list_all, position}};
 ghost use Rattle.std.specs.Prelude.{◌≡◌, ◌≤◌, ◌<◌, ◌^◌, true, false, length, IfSome, MatchOption};
-ghost use Rattle.std.specs.List.{list_all, position};
-ghost use Rattle.std.specs.Char.{is_ascii_digit};
 ghost use Rattle.std.specs.Str.Parse.{digits_value};
-ghost use Rattle.record_reading.specs.Kinds.{has_count, kind_of, request, row, store_of, view_of};
 ghost use Rattle.record_reading.specs.Fields.{is_point, item_id, name, number, quantity, stars};
+ghost use Rattle.record_reading.specs.Kinds.{has_count, kind_of, request, row, store_of, view_of};
 
 use auction_rows::{ItemId, Name, Quantity, Stars};
 

@@ -1,7 +1,7 @@
 //! What records ask for, and what is wrong with one that has a fault.
 ghost use Rattle.std.specs.Prelude.{◌≡◌, ◌<◌, vec_len, IfOk, OnOk};
-ghost use Rattle.record_reading.specs.Reading.{HasNoInputFault};
 ghost use Rattle.record_reading.specs.Asking.{asked_of, nothing_asked, with_record};
+ghost use Rattle.record_reading.specs.Reading.{HasNoInputFault};
 
 use crate::record::Record;
 use auction_rows::{MOST_ROWS, Opened};

@@ -1,9 +1,8 @@
 //! Lines of plain fields, of which an item's name may be in quotes, read where they lie.
 ghost use Rattle.std.specs.Prelude.{ℕ, ◌≡◌, ◌+◌, ◌-◌, ◌<◌, drop, false, true, get_or, length, take, IfSome};
-ghost use Rattle.record_reading.specs.declared.fields.RequestKind.TheVariants as kind;
-ghost use Rattle.record_reading.specs.Kinds.{plus};
-ghost use Rattle.record_reading.specs.Lines.{EndsLine, IsLine, IsWhole};
+ghost use Rattle.record_reading.specs.{Kinds.{plus}, Lines.{EndsLine, IsLine, IsWhole}};
 ghost use Rattle.record_reading.specs.inner.PlainLines.{HasLineTo, IsEndOfItem, IsRequestAt, IsRestOf};
+ghost use Rattle.record_reading.specs.declared.fields.RequestKind.TheVariants as kind;
 
 use crate::fields::{read_name, read_quantity, read_stars};
 use crate::plain_fields::{

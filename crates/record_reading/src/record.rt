@@ -1,8 +1,7 @@
 //! Records: the fields of the next one, as `csv` reads them, and what they say: a worker's request,
 //! or a row, or the first fault.
 ghost use Rattle.std.specs.Prelude.{◌≡◌, ◌==◌, ◌∷◌, [], true, IfOk, if◌then◌else◌, ◌<◌};
-ghost use Rattle.csv.specs.Reading.{ReadRecord};
-ghost use Rattle.csv.specs.Records.{fields_of};
+ghost use Rattle.csv.specs.{Reading.{ReadRecord}, Records.{fields_of}};
 ghost use Rattle.record_reading.specs.Lines.{line_feed};
 ghost use Rattle.record_reading.specs.Reading.{HasNoInputFault, IsInputFault, IsPlain};
 ghost use Rattle.record_reading.specs.Records.{field, item_at, kind_in, name_at, number_at, put_up, quantity_at, read_record, request_of, stars_at, worker_of};

@@ -1,8 +1,7 @@
 //! Room that is refused, and the entries of several journals in one order.
 ghost use Rattle.std.specs.Prelude.{◌≡◌, ◌<◌, ◌≤◌, vec_len};
 ghost use Rattle.phase_laws.specs.Numbers.{last_by};
-ghost use Rattle.worker_journals.specs.Journals.{entry_number};
-ghost use Rattle.worker_journals.specs.Merged.{AreByWorker};
+ghost use Rattle.worker_journals.specs.{Journals.{entry_number}, Merged.{AreByWorker}};
 
 use crate::testing::assert_same;
 use auction_rows::{Entry, Request};

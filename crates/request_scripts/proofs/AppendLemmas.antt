@@ -1,14 +1,12 @@
 -- The requests of two scripts, one after the other.
 use Rattle.std.proofs.Common.{◌≡◌, ◌<◌, ◌+◌, ◌-◌, ℕ, zero, suc, List, [], ◌∷◌, ◌++◌, map, length, take, get_or, refl, ap, ◌∙◌, arith, length-append, append_assoc}
 use Rattle.std.proofs.lemmas.List.{get_or-append_right}
-use Rattle.auction_rows.specs.declared.requests.Facts.{Facts}
-use Rattle.auction_rows.specs.declared.requests.Request.TheVariants.{StoreItem}
-use Rattle.request_scripts.specs.declared.short_request.ShortRequest.{ShortRequest}
-use Rattle.request_scripts.specs.declared.short_request.ShortRequest.TheVariants as ask
+use Rattle.auction_rows.specs.declared.requests.{Facts.{Facts}, Request.TheVariants.{StoreItem}}
+use Rattle.request_scripts.proofs.{RequestLemmas.{request_stays}, ScriptLemmas.{one_more}}
 use Rattle.request_scripts.specs.ShortRequests.{HasRequest, HaveRequests, SaysRequest, request_from, requests_from}
+use Rattle.request_scripts.specs.declared.short_request.ShortRequest.{ShortRequest}
 use Rattle.request_scripts.specs.inner.Shifting.{shifted}
-use Rattle.request_scripts.proofs.RequestLemmas.{request_stays}
-use Rattle.request_scripts.proofs.ScriptLemmas.{one_more}
+use Rattle.request_scripts.specs.declared.short_request.ShortRequest.TheVariants as ask
 
 -- a short request that lies after others
 facts_after : (front back : List Facts) (n : ℕ) (d : Facts) → get_or (front ++ back) (length front + n) d ≡ get_or back n d

@@ -1,11 +1,11 @@
 -- What a short request says, with facts at the end of the list and with more of them.
 use Rattle.std.proofs.Common.{◌≡◌, ◌≤◌, ℕ, List, [], ◌∷◌, ◌++◌, length, ap, refl, sym, ◌∙◌, arith, length-append}
 use Rattle.std.proofs.lemmas.List.{get_or_append_left, get_or_push}
-use Rattle.auction_rows.specs.declared.requests.{Facts.Facts, Request.Request}
 use Rattle.auction_rows.specs.declared.requests.Request.TheVariants.{StoreItem, StoreBid, StoreComment, BuyNow, ViewItem, ViewBids, ViewCategory, ViewUser}
+use Rattle.auction_rows.specs.declared.requests.{Facts.Facts, Request.Request}
+use Rattle.request_scripts.specs.ShortRequests.{facts_at, facts_in, request_from, HasRequest, SaysRequest}
 use Rattle.request_scripts.specs.declared.short_request.ShortRequest.{ShortRequest}
 use Rattle.request_scripts.specs.declared.short_request.ShortRequest.TheVariants as ask
-use Rattle.request_scripts.specs.ShortRequests.{facts_at, facts_in, request_from, HasRequest, SaysRequest}
 
 -- the facts at the end of a list are said with their place
 pub says_facts : (all old : List Facts) (facts : Facts) (place time : ℕ) (request : Request) → all ≡ old ++ facts ∷ [] → place ≡ length old →

@@ -2,9 +2,9 @@
 use Rattle.std.proofs.Common.{◌≡◌, ◌<◌, ◌+◌, ℕ, List, [], ◌∷◌, ◌++◌, map, length, take, get_or, refl, sym, ap, ◌∙◌, subst}
 use Rattle.std.proofs.lemmas.List.{map-append, map_push, take_more}
 use Rattle.auction_rows.specs.declared.requests.{Facts.Facts, Request.Request}
-use Rattle.request_scripts.specs.declared.short_request.ShortRequest.{ShortRequest}
-use Rattle.request_scripts.specs.ShortRequests.{HasRequest, HaveRequests, SaysRequest, request_from, requests_from}
 use Rattle.request_scripts.proofs.RequestLemmas.{request_stays}
+use Rattle.request_scripts.specs.ShortRequests.{HasRequest, HaveRequests, SaysRequest, request_from, requests_from}
+use Rattle.request_scripts.specs.declared.short_request.ShortRequest.{ShortRequest}
 
 -- what short requests say stays where facts are added
 requests_stay : (all more : List Facts) (shorts : List ShortRequest) → HaveRequests all shorts →

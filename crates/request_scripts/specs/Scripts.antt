@@ -1,7 +1,6 @@
 -- What a script gives of its requests.
 use Rattle.std.specs.Prelude.{ℕ, List, [], Option, Some, None, slice_get, unwrap_or}
-use Rattle.auction_rows.specs.declared.requests.Request.{Request}
-use Rattle.auction_rows.specs.declared.requests.Request.TheVariants.{StoreBid}
+use Rattle.auction_rows.specs.declared.requests.Request.{TheVariants.{StoreBid}, Request}
 use Rattle.request_scripts.specs.declared.script.BidRequest.{BidRequest}
 
 -- a bid that a script asks for, as a request

@@ -1,8 +1,8 @@
 -- A request in few bytes, and what is said with the facts that are kept beside it.
-use Rattle.std.specs.Prelude.{◌≡◌, ℕ, ◌+◌, ◌<◌, ◌≤◌, List, [], ◌∷◌, ⊤, map, length, slice_index_or}
 use Rattle.std.specs.List.{AllByRecursion}
-use Rattle.auction_rows.specs.declared.requests.{Facts.Facts, Request.Request}
+use Rattle.std.specs.Prelude.{◌≡◌, ℕ, ◌+◌, ◌<◌, ◌≤◌, List, [], ◌∷◌, ⊤, map, length, slice_index_or}
 use Rattle.auction_rows.specs.declared.requests.Request.TheVariants.{StoreItem, StoreBid, StoreComment, BuyNow, ViewItem, ViewBids, ViewCategory, ViewUser}
+use Rattle.auction_rows.specs.declared.requests.{Facts.Facts, Request.Request}
 use Rattle.request_scripts.specs.declared.short_request.ShortRequest.{ShortRequest}
 use Rattle.request_scripts.specs.declared.short_request.ShortRequest.TheVariants as ask
 

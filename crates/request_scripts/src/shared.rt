@@ -16,8 +16,7 @@ pub struct SharedScripts {
 }
 
 impl Model for SharedScripts {
-    ghost use Rattle.std.specs.Prelude.{List};
-    ghost use Rattle.std.specs.Arc.{arc_value};
+    ghost use Rattle.std.specs.{Arc.{arc_value}, Prelude.{List}};
     ghost use Rattle.auction_rows.specs.declared.requests.Request.{Request as Asked};
 
     ghost Value = { List (List Asked) };
@@ -61,8 +60,7 @@ pub struct OwnScript {
 }
 
 impl Model for OwnScript {
-    ghost use Rattle.std.specs.Prelude.{List};
-    ghost use Rattle.std.specs.Arc.{arc_value};
+    ghost use Rattle.std.specs.{Arc.{arc_value}, Prelude.{List}};
     ghost use Rattle.auction_rows.specs.declared.requests.Request.{Request as Asked};
     ghost use Rattle.request_scripts.specs.Scripts.{script_at};
 

@@ -15,10 +15,9 @@ pub struct SideIndex {
 }
 
 impl Model for SideIndex {
-    ghost use Rattle.std.specs.Prelude.{ℕ, ◌+◌, ◌*◌, ◌^◌, ◌<◌, ◌/◌, ◌%◌};
-    ghost use Rattle.std.proofs.Common.{◌∙◌};
-    ghost use Rattle.std.proofs.Math.Nat.{mul-add-mod_self_right, mod-eq_of_lt};
+    ghost use Rattle.std.proofs.{Common.{◌∙◌}, Math.Nat.{mul-add-mod_self_right, mod-eq_of_lt}};
     ghost use Rattle.std.proofs.lemmas.Nat.{div-mul-add};
+    ghost use Rattle.std.specs.Prelude.{ℕ, ◌+◌, ◌*◌, ◌^◌, ◌<◌, ◌/◌, ◌%◌};
 
     ghost Value = { ℕ };
 

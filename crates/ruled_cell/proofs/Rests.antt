@@ -1,6 +1,5 @@
 -- A pass between its calls.
-use Rattle.std.proofs.Common.{◌∙◌}
-use Rattle.std.specs.Prelude.{Bool, true, false}
+use Rattle.std.{proofs.Common.{◌∙◌}, specs.Prelude.{Bool, true, false}}
 use Rattle.ruled_cell.specs.Passes.{Pass, Carries, KeepsSlot}
 
 module _ {T V : Type 0} where

@@ -4,16 +4,14 @@ use mathlib.Core.Option.{some, some-injective, some-ne-none}
 use mathlib.Core.Option as maybe
 use lib.ListN.{get_elem?}
 use prog.Atomic.{either}
-use Rattle.std.specs.Prelude.{Option, Some, None}
 use Rattle.std.proofs.lemmas.List.{map-set, map-append, set-get_or}
-use Rattle.atomic_table.specs.Table.{State, Me, Act, keeps, takes, gives, Valid, carried_after, stepped, Allows, Splits, Joins, opening, rest}
+use Rattle.std.specs.Prelude.{Option, Some, None}
 use Rattle.atomic_table.proofs.Lists.{at_set, set_here, set_again, at_map, at_snoc, exchanged}
+use Rattle.atomic_table.specs.Table.{State, Me, Act, keeps, takes, gives, Valid, carried_after, stepped, Allows, Splits, Joins, opening, rest}
 use Rattle.crossbeam_queue.specs.Fifo.{Pushes, Pops, Learns, Forks, Merges}
-use Rattle.ruled_cell.specs.declared.Stage.{Stage}
-use Rattle.ruled_cell.specs.declared.Stage.TheVariants.{Making, Idle, Holding}
-use Rattle.ruled_cell.specs.declared.Turn.{Turn}
 use Rattle.ruled_cell.specs.Cell.{Place, home, out, face, held, Lies, Knows, client, CellRule, staged, making}
-use Rattle.ruled_cell.specs.inner.Steps.{idle, holding, began, took, gave}
+use Rattle.ruled_cell.specs.declared.Stage.{TheVariants.{Making, Idle, Holding}, Stage}
+use Rattle.ruled_cell.specs.{declared.Turn.{Turn}, inner.Steps.{idle, holding, began, took, gave}}
 
 -- a word of 1 shows a value at home, any other shows the slot out
 is_full : {T : Type 0} (p : Place T) → face p ≡ 1 → (x : T) × (p ≡ home x)

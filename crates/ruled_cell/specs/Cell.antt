@@ -5,8 +5,7 @@ use mathlib.Core.Option.{some}
 use mathlib.Core.Option as maybe
 use lib.ListN.{get_elem?}
 use Rattle.atomic_table.specs.Table.{State}
-use Rattle.ruled_cell.specs.declared.Stage.{Stage}
-use Rattle.ruled_cell.specs.declared.Stage.TheVariants.{Making, Idle, Holding}
+use Rattle.ruled_cell.specs.declared.Stage.{TheVariants.{Making, Idle, Holding}, Stage}
 use Rattle.ruled_cell.specs.declared.Turn.{Turn}
 
 -- the slot is at home with a value, or it is for the pass of this number

@@ -1,9 +1,8 @@
 -- What a clause says of a cell, and of its passes.
 use Rattle.std.specs.Prelude.{◌≡◌, Bool, true, false, Option, None, [], ◌∷◌}
 use Rattle.atomic_table.specs.declared.shared.Seat.{Seat}
-use Rattle.ruled_cell.specs.declared.Stage.TheVariants.{Idle, Holding}
+use Rattle.ruled_cell.specs.declared.{RuledCell.{RuledCell}, Stage.TheVariants.{Idle, Holding}}
 use Rattle.ruled_cell.specs.declared.Turn.{Turn}
-use Rattle.ruled_cell.specs.declared.RuledCell.{RuledCell}
 
 abbrev pub Pass : Type 0 → Type 0 → Type 0
 Pass T V = Seat (Option T) (Turn V)

@@ -1,6 +1,5 @@
 //! What each step tells. These types are for the proofs alone.
-ghost use Rattle.ruled_cell.specs.Cell.{staged};
-ghost use Rattle.ruled_cell.specs.inner.Steps.{idle, began, took, gave};
+ghost use Rattle.ruled_cell.specs.{Cell.{staged}, inner.Steps.{idle, began, took, gave}};
 
 use crate::Turn;
 use atomic_table::Play;

@@ -1,19 +1,15 @@
 -- What one worker's entries of a phase are determined by.
 use Rattle.std.proofs.Common.{◌≡◌, ℕ, suc, ◌+◌, max, ◌==◌, ◌&&◌, Bool, true, false, cond, List, [], ◌∷◌, ◌++◌, map, length, refl, subst, sym, ap, ◌∙◌, arith, eq-eqb}
+use Rattle.std.proofs.lemmas.{Bool.{or_left}, List.{append_assoc}}
 use Rattle.std.specs.List.{list_any, AllByRecursion}
-use Rattle.std.proofs.lemmas.Bool.{or_left}
-use Rattle.std.proofs.lemmas.List.{append_assoc}
-use Rattle.auction_rows.specs.declared.{values.Opening.Opening, requests.Object.Object, rows.Entry.Entry}
-use Rattle.auction_rows.specs.Book.{Book}
-use Rattle.auction_rows.specs.Footprint.{footprint, takes_shard}
+use Rattle.auction_rows.specs.{Book.{Book}, Footprint.{footprint, takes_shard}}
 use Rattle.auction_rows.specs.History.{after_entry, ReplaysFrom}
-use Rattle.auction_rows.specs.Phases.{has_in_common, IsNumbered}
-use Rattle.auction_rows.specs.Replies.{reply}
-use Rattle.phase_laws.specs.Numbers.{greatest_by, IsNumberedFrom, FollowsWhatItShares}
+use Rattle.auction_rows.specs.{Phases.{has_in_common, IsNumbered}, Replies.{reply}}
+use Rattle.auction_rows.specs.declared.{values.Opening.Opening, requests.Object.Object, rows.Entry.Entry}
 use Rattle.phase_laws.proofs.OrderLemmas.{all-weaker, all_push}
-use Rattle.run_laws.proofs.CountLemmas.{how_many}
+use Rattle.phase_laws.specs.Numbers.{greatest_by, IsNumberedFrom, FollowsWhatItShares}
+use Rattle.run_laws.proofs.{CountLemmas.{how_many}, CutLemmas.{filter_true}}
 use Rattle.run_laws.specs.Serving.{call_of}
-use Rattle.run_laws.proofs.CutLemmas.{filter_true}
 
 -- ---- lists of one element, repeated
 

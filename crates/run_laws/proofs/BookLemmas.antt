@@ -1,9 +1,9 @@
 -- What a phase more does to the book that a run starts from.
 use Rattle.std.proofs.Common.{◌≡◌, List, [], ◌∷◌, ◌++◌, refl, subst, sym}
-use Rattle.auction_rows.specs.declared.{values.Opening.Opening, rows.Entry.Entry}
+use Rattle.auction_rows.proofs.HistoryLemmas.{book_after-replays, rows_go_on, longer_book}
 use Rattle.auction_rows.specs.Book.{Book}
 use Rattle.auction_rows.specs.History.{IsRight, after_entry, ReplaysFrom, book_after, rows_of, IsBook}
-use Rattle.auction_rows.proofs.HistoryLemmas.{book_after-replays, rows_go_on, longer_book}
+use Rattle.auction_rows.specs.declared.{values.Opening.Opening, rows.Entry.Entry}
 use Rattle.phase_laws.proofs.ReplayLemmas.{replays_append}
 use Rattle.run_laws.specs.Books.{HasReplayed, ReplaysOn}
 

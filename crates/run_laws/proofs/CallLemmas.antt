@@ -1,12 +1,12 @@
 -- A script's calls, and its turns in the first phases.
 use Rattle.std.proofs.Common.{◌≡◌, ℕ, zero, suc, ◌+◌, ◌<◌, ◌≤◌, ◌==◌, ◌⊎◌, ◌&&◌, nat_lt, Bool, true, cond, List, [], ◌∷◌, ◌++◌, length, slice_get, Some, refl, subst, sym, ap, ◌∙◌, inl, inr, arith, eq-eqb, eqb-true}
-use Rattle.std.specs.List.{AllByRecursion}
 use Rattle.std.proofs.lemmas.Bool.{lt-ltb, le-ltb, ne_eqb, cases_lt, cases_eq, cases_order}
-use Rattle.phase_laws.specs.Order.{IsOrderedBy}
-use Rattle.phase_laws.proofs.OrderLemmas.{all-filter, all-weaker, ordered-filter}
-use Rattle.run_laws.specs.Turns.{numbered, turn, turns}
+use Rattle.std.specs.List.{AllByRecursion}
 use Rattle.phase_laws.proofs.ListLemmas.{all-append, all-left, all-right, all-both, all-any, all-unfilter, all-kept, filter_same, ordered-append, ordered-with}
+use Rattle.phase_laws.proofs.OrderLemmas.{all-filter, all-weaker, ordered-filter}
+use Rattle.phase_laws.specs.Order.{IsOrderedBy}
 use Rattle.run_laws.proofs.CountLemmas.{how_many, count-append, count-filter, count-sum, count-same}
+use Rattle.run_laws.specs.Turns.{numbered, turn, turns}
 
 module _ {R : Type 0} where
   -- an index from k on stands once in what is numbered from k, if it is there

@@ -1,18 +1,14 @@
 -- The hot sets and the numbers of the phases so far.
 use Rattle.std.proofs.Common.{◌≡◌, ℕ, zero, suc, ◌+◌, ◌-◌, ◌<◌, ◌≤◌, ◌==◌, ◌⊎◌, true, false, List, [], ◌∷◌, ◌++◌, length, refl, subst, sym, ap, ◌∙◌, inl, inr, arith, eq-eqb}
-use Rattle.std.specs.List.{AllByRecursion}
 use Rattle.std.proofs.lemmas.Bool.{ne_eqb, cases_eq, cases_order, cond-true}
-use Rattle.std.proofs.lemmas.List.{length-append, append-nil}
-use Rattle.std.proofs.lemmas.List.Elements.{filter-append}
+use Rattle.std.proofs.lemmas.List.{Elements.{filter-append}, length-append, append-nil}
+use Rattle.std.specs.List.{AllByRecursion}
+use Rattle.auction_rows.specs.{Choosing.{choose}, Phases.{IsNumbered}}
 use Rattle.auction_rows.specs.declared.{limits.Policy.Policy, values.Opening.Opening, requests.Object.Object, requests.Request.Request, rows.Entry.Entry}
-use Rattle.auction_rows.specs.Choosing.{choose}
-use Rattle.auction_rows.specs.Phases.{IsNumbered}
-use Rattle.phase_laws.proofs.OrderLemmas.{all-weaker}
-use Rattle.run_laws.specs.Phases.{is_split}
-use Rattle.phase_laws.proofs.ListLemmas.{filter_false}
-use Rattle.run_laws.specs.Serving.{hot_in, segment_of, AreNumbered}
+use Rattle.phase_laws.proofs.{ListLemmas.{filter_false}, OrderLemmas.{all-weaker}}
+use Rattle.run_laws.{proofs.CommitLemmas.{hot_at_end, hot_elsewhere}, specs.Phases.{is_split}}
 use Rattle.run_laws.specs.Run.{HasRun, IsPhasePerformed, AreChosen}
-use Rattle.run_laws.proofs.CommitLemmas.{hot_at_end, hot_elsewhere}
+use Rattle.run_laws.specs.Serving.{hot_in, segment_of, AreNumbered}
 
 nothing_follows : {X : Type 0} (xs : List X) (x : X) (ys : List X) → [] ≡ xs ++ (x ∷ ys) → ⊥
 nothing_follows [] x ys e = cc

@@ -1,15 +1,13 @@
 -- Calls of entries, the phases that they commit in, and hot sets.
 use Rattle.std.proofs.Common.{◌≡◌, ℕ, zero, suc, ◌≤◌, List, [], ◌∷◌, ◌++◌, map, length, refl, ap, ◌∙◌, arith}
-use Rattle.std.specs.List.{AllByRecursion}
-use Rattle.std.proofs.lemmas.List.{map-append}
-use Rattle.auction_rows.specs.declared.{limits.Policy.Policy, requests.Object.Object, requests.Request.Request, rows.Entry.Entry}
+use Rattle.std.{proofs.lemmas.List.{map-append}, specs.List.{AllByRecursion}}
 use Rattle.auction_rows.specs.Phases.{is_put_off}
-use Rattle.phase_laws.specs.Order.{IsOrderedBy, part}
+use Rattle.auction_rows.specs.declared.{limits.Policy.Policy, requests.Object.Object, requests.Request.Request, rows.Entry.Entry}
 use Rattle.phase_laws.proofs.OrderLemmas.{all-weaker, all-from_map}
-use Rattle.run_laws.proofs.TurnLemmas.{commit_from, commit_until}
+use Rattle.phase_laws.specs.Order.{IsOrderedBy, part}
 use Rattle.run_laws.proofs.PartLemmas.{all_of_parts, part-append}
+use Rattle.run_laws.{proofs.TurnLemmas.{commit_from, commit_until}, specs.Run.{calls_of}}
 use Rattle.run_laws.specs.Serving.{call_of, hot_in, phase_reached, commit_phase}
-use Rattle.run_laws.specs.Run.{calls_of}
 
 pub ordered_all : {X : Type 0} (P : X → Type 0) (S : X → X → Type 0) → ((x y : X) → P x → P y → S x y) → (xs : List X) → AllByRecursion P xs → IsOrderedBy S xs
 ordered_all P S f [] h = tt

@@ -1,7 +1,6 @@
 -- How many elements pass a test.
 use Rattle.std.proofs.Common.{◌≡◌, ℕ, ◌+◌, ◌&&◌, Bool, true, false, cond, List, [], ◌∷◌, ◌++◌, map, count_by, refl, ap, ◌∙◌, arith}
-use Rattle.std.specs.List.{filter, AllByRecursion}
-use Rattle.std.proofs.lemmas.List.Recursion.{is_count_by}
+use Rattle.std.{proofs.lemmas.List.Recursion.{is_count_by}, specs.List.{filter, AllByRecursion}}
 
 -- how many elements pass a test, by recursion
 abbrev pub how_many : {X : Type 0} → (X → Bool) → List X → ℕ

@@ -1,10 +1,9 @@
 -- Lists in the order of their phases, cut before a phase.
 use Rattle.std.proofs.Common.{◌≡◌, ℕ, suc, ◌<◌, ◌≤◌, ◌==◌, ◌⊎◌, ◌&&◌, not, nat_lt, Bool, true, false, cond, List, [], ◌∷◌, ◌++◌, refl, sym, ap, ◌∙◌, inl, inr, arith, eq-eqb}
-use Rattle.std.specs.List.{filter, AllByRecursion}
 use Rattle.std.proofs.lemmas.Bool.{lt-ltb, le-ltb, ne_eqb, cases_lt, cases_eq, cases_order, and_left, and_right, cond-true}
-use Rattle.phase_laws.specs.Order.{IsOrderedBy}
-use Rattle.phase_laws.proofs.OrderLemmas.{all-weaker, ordered-filter}
+use Rattle.std.specs.List.{filter, AllByRecursion}
 use Rattle.phase_laws.proofs.ListLemmas.{all-any, filter_false, filter_same}
+use Rattle.phase_laws.{proofs.OrderLemmas.{all-weaker, ordered-filter}, specs.Order.{IsOrderedBy}}
 use Rattle.run_laws.proofs.TurnLemmas.{filter_twice}
 
 pub filter_true : {X : Type 0} (p : X → Bool) (xs : List X) → AllByRecursion (λ x. p x ≡ true) xs → filter p xs ≡ xs

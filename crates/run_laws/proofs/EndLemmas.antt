@@ -1,26 +1,21 @@
 -- What a run gives at its end.
 use Rattle.std.proofs.Common.{◌≡◌, ℕ, suc, ◌+◌, ◌*◌, ◌<◌, ◌≤◌, ◌==◌, ◌⊎◌, ◌&&◌, not, nat_lt, true, false, List, length, slice_get, Some, subst, sym, ap, ◌∙◌, inl, inr, arith, eqb-true}
-use Rattle.std.specs.List.{AllByRecursion, list_any}
-use Rattle.std.specs.Option.{option_map_or}
-use Rattle.std.proofs.lemmas.Bool.{eqb-false, lt-ltb, cases_lt, and_left}
-use Rattle.std.proofs.lemmas.List.{nil_from_length}
-use Rattle.auction_rows.specs.declared.{limits.Policy.Policy, values.Opening.Opening, requests.Object.Object, requests.Request.Request, rows.Entry.Entry}
+use Rattle.std.proofs.lemmas.{Bool.{eqb-false, lt-ltb, cases_lt, and_left}, List.{nil_from_length}}
+use Rattle.std.specs.{List.{AllByRecursion, list_any}, Option.{option_map_or}}
+use Rattle.auction_rows.specs.{Footprint.{is_hot}, Phases.{is_put_off}}
 use Rattle.auction_rows.specs.Requests.{touches, is_splittable}
-use Rattle.auction_rows.specs.Footprint.{is_hot}
-use Rattle.auction_rows.specs.Phases.{is_put_off}
-use Rattle.phase_laws.specs.Numbers.{greatest_by}
-use Rattle.phase_laws.specs.Order.{IsOrderedBy, part}
-use Rattle.phase_laws.proofs.OrderLemmas.{all-filter, all-weaker, all-map, ordered-weaker, ordered_from_map, all-from_map}
-use Rattle.run_laws.specs.Turns.{numbered}
-use Rattle.run_laws.proofs.ReachLemmas.{reach_until, reach_rises, reach_most}
-use Rattle.run_laws.proofs.TurnLemmas.{commit_free}
+use Rattle.auction_rows.specs.declared.{limits.Policy.Policy, values.Opening.Opening, requests.Object.Object, requests.Request.Request, rows.Entry.Entry}
 use Rattle.phase_laws.proofs.ListLemmas.{all-both, all-kept, filter_empty, ordered-with, greatest_bounds, greatest_least}
-use Rattle.run_laws.proofs.PartLemmas.{all_of_parts, ordered_of_parts}
-use Rattle.run_laws.proofs.CountLemmas.{how_many, how_many-is, count-filter, count-map}
+use Rattle.phase_laws.proofs.OrderLemmas.{all-filter, all-weaker, all-map, ordered-weaker, ordered_from_map, all-from_map}
+use Rattle.phase_laws.specs.{Numbers.{greatest_by}, Order.{IsOrderedBy, part}}
 use Rattle.run_laws.proofs.CallLemmas.{numbered_until, all_from_turns, turns_ordered, once_in_turns, requests_in_turns}
-use Rattle.run_laws.specs.Serving.{call_of, script_of, hot_in, phase_reached, commit_phase, AreNumbered, Serves}
-use Rattle.run_laws.specs.Run.{first_index, HasRun, IsDone}
 use Rattle.run_laws.proofs.CommitLemmas.{from, until}
+use Rattle.run_laws.proofs.CountLemmas.{how_many, how_many-is, count-filter, count-map}
+use Rattle.run_laws.proofs.PartLemmas.{all_of_parts, ordered_of_parts}
+use Rattle.run_laws.proofs.ReachLemmas.{reach_until, reach_rises, reach_most}
+use Rattle.run_laws.{proofs.TurnLemmas.{commit_free}, specs.Run.{first_index, HasRun, IsDone}}
+use Rattle.run_laws.specs.Serving.{call_of, script_of, hot_in, phase_reached, commit_phase, AreNumbered, Serves}
+use Rattle.run_laws.specs.Turns.{numbered}
 
 module _ (opening : Opening) (policy : Policy) (some : 0 < policy.joined_quota + policy.split_quota) (scripts : List (List Request)) where
   -- THE END

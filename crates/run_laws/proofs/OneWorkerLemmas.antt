@@ -1,25 +1,20 @@
 -- With one worker a script has one answer: by induction over the phases.
 use Rattle.std.proofs.Common.{◌≡◌, ℕ, zero, suc, ◌+◌, ◌-◌, ◌<◌, ◌≤◌, ◌==◌, ◌⊎◌, ◌&&◌, nat_lt, Bool, true, false, cond, List, [], ◌∷◌, ◌++◌, map, length, slice_get, Option, Some, None, refl, subst, sym, ap, ◌∙◌, inl, inr, arith, eq-eqb, eqb-true}
-use Rattle.std.specs.List.{AllByRecursion}
 use Rattle.std.proofs.lemmas.Bool.{lt-ltb, ne_eqb, cases_lt, cases_Bool, and_right}
-use Rattle.std.proofs.lemmas.List.Sums.{length-filter}
-use Rattle.std.proofs.lemmas.Option.{slice_get_within}
+use Rattle.std.proofs.lemmas.{List.Sums.{length-filter}, Option.{slice_get_within}}
+use Rattle.std.specs.List.{AllByRecursion}
+use Rattle.auction_rows.specs.{Book.{Book}, Choosing.{choose}}
+use Rattle.auction_rows.specs.{History.{after_entry, ReplaysFrom, book_after}, Phases.{is_put_off}}
 use Rattle.auction_rows.specs.declared.{limits.Policy.Policy, values.Opening.Opening, requests.Object.Object, requests.Request.Request, rows.Entry.Entry}
-use Rattle.auction_rows.specs.Book.{Book}
-use Rattle.auction_rows.specs.Choosing.{choose}
-use Rattle.auction_rows.specs.History.{after_entry, ReplaysFrom, book_after}
-use Rattle.auction_rows.specs.Phases.{is_put_off}
-use Rattle.phase_laws.specs.Numbers.{greatest_by}
-use Rattle.phase_laws.specs.Order.{Precedes, IsAscending, part}
-use Rattle.phase_laws.proofs.OrderLemmas.{all-filter, all-weaker, all-map, ordered-filter, ordered-map, same_parts}
-use Rattle.run_laws.specs.Phases.{is_split}
 use Rattle.phase_laws.proofs.ListLemmas.{all-both, all-kept, filter_false, ordered-with, greatest_bounds}
-use Rattle.run_laws.proofs.CountLemmas.{how_many, how_many-is, count-filter, count-map, count-same}
-use Rattle.run_laws.specs.Serving.{call_of, script_of, hot_in, segment_of, phase_reached, commit_phase}
-use Rattle.run_laws.specs.Answers.{IsAnswer}
-use Rattle.run_laws.proofs.CommitLemmas.{from}
-use Rattle.run_laws.proofs.CutLemmas.{until, since, until_none, until_all, until_next, cut_in_two, earlier_until}
+use Rattle.phase_laws.proofs.OrderLemmas.{all-filter, all-weaker, all-map, ordered-filter, ordered-map, same_parts}
+use Rattle.phase_laws.specs.{Numbers.{greatest_by}, Order.{Precedes, IsAscending, part}}
 use Rattle.run_laws.proofs.AloneLemmas.{same_repeated, count_none, count_where, one_after_another, AreAlone, same_entries}
+use Rattle.run_laws.proofs.CommitLemmas.{from}
+use Rattle.run_laws.proofs.CountLemmas.{how_many, how_many-is, count-filter, count-map, count-same}
+use Rattle.run_laws.proofs.CutLemmas.{until, since, until_none, until_all, until_next, cut_in_two, earlier_until}
+use Rattle.run_laws.specs.{Answers.{IsAnswer}, Phases.{is_split}}
+use Rattle.run_laws.specs.Serving.{call_of, script_of, hot_in, segment_of, phase_reached, commit_phase}
 
 -- the calls of a phase's entries
 abbrev pub calls_in : ℕ → List Entry → List (ℕ × Request)

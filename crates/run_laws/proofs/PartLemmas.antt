@@ -1,10 +1,8 @@
 -- Entries of several workers in one list, by each worker's part.
 use Rattle.std.proofs.Common.{◌≡◌, ℕ, ◌==◌, Bool, true, false, cond, List, [], ◌∷◌, ◌++◌, refl, sym, eq-eqb}
-use Rattle.std.specs.List.{AllByRecursion}
-use Rattle.std.proofs.lemmas.List.Elements.{filter-append}
+use Rattle.std.{proofs.lemmas.List.Elements.{filter-append}, specs.List.{AllByRecursion}}
+use Rattle.phase_laws.proofs.{ListLemmas.{all-uncond, all-unfilter}, OrderLemmas.{all-weaker}}
 use Rattle.phase_laws.specs.Order.{IsOrderedBy, part}
-use Rattle.phase_laws.proofs.OrderLemmas.{all-weaker}
-use Rattle.phase_laws.proofs.ListLemmas.{all-uncond, all-unfilter}
 
 module _ {E : Type 0} (worker : E → ℕ) where
   part_rest : (P : E → Type 0) (w : ℕ) (x : E) (xs : List E) → AllByRecursion P (part worker w (x ∷ xs)) → AllByRecursion P (part worker w xs)

@@ -1,13 +1,12 @@
 -- What the quota gives is what reaches the phase.
 use Rattle.std.proofs.Common.{get_or, slice_get, Some, ◌++◌, ◌≡◌, ℕ, zero, suc, ◌+◌, ◌-◌, ◌<◌, ◌≤◌, ◌==◌, min, Bool, true, false, cond, List, [], ◌∷◌, length, take, drop, refl, sym, ap, ◌∙◌, arith, eq-eqb}
-use Rattle.std.specs.List.{filter}
-use Rattle.std.proofs.lemmas.Bool.{ne_eqb, cond-true, cond-false}
+use Rattle.std.proofs.{Math.Seq.{take-suc}, lemmas.Bool.{ne_eqb, cond-true, cond-false}}
 use Rattle.std.proofs.lemmas.List.{length-drop, length-take, get_or-drop, get_or-take, get_or_default}
-use Rattle.std.proofs.Math.Seq.{take-suc}
-use Rattle.run_laws.specs.Phases.{is_split, reach, first_of, quota}
-use Rattle.run_laws.specs.Turns.{numbered, given, reaching}
+use Rattle.std.specs.List.{filter}
 use Rattle.run_laws.proofs.ReachLemmas.{reach_from, reach_until, first_next}
 use Rattle.run_laws.proofs.TurnLemmas.{filter_none, length-numbered}
+use Rattle.run_laws.specs.Phases.{is_split, reach, first_of, quota}
+use Rattle.run_laws.specs.Turns.{numbered, given, reaching}
 
 take-all : {X : Type 0} (n : ℕ) (xs : List X) → take (min n (length xs)) xs ≡ take n xs
 take-all zero xs = let e : min 0 (length xs) ≡ 0 = omega arith in ap (λ m. take m xs) e

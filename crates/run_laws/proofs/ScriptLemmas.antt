@@ -1,7 +1,6 @@
 -- The scripts of workers, as lists.
-use Rattle.std.proofs.Common.{◌≡◌, ℕ, ◌≤◌, List, [], length, ap}
+use Rattle.std.proofs.{Common.{◌≡◌, ℕ, ◌≤◌, List, [], length, ap}, lemmas.Option.{slice_get_past}}
 use Rattle.std.specs.Prelude.{unwrap_or}
-use Rattle.std.proofs.lemmas.Option.{slice_get_past}
 use Rattle.auction_rows.specs.declared.requests.Request.{Request}
 use Rattle.run_laws.specs.Serving.{script_of}
 

@@ -1,21 +1,19 @@
 -- Where a run begins, and what one phase adds to what is done.
 use Rattle.std.proofs.Common.{◌≡◌, ℕ, suc, ◌+◌, ◌<◌, ◌≤◌, ◌==◌, ◌⊎◌, ◌&&◌, not, nat_lt, true, false, cond, List, [], ◌∷◌, ◌++◌, length, refl, subst, sym, ap, ◌∙◌, inl, inr, arith}
-use Rattle.std.specs.List.{filter, AllByRecursion}
 use Rattle.std.proofs.lemmas.Bool.{le-ltb, ne_eqb, cases_lt, cases_Bool, and_left, and_right}
-use Rattle.std.proofs.lemmas.List.{length-append}
-use Rattle.auction_rows.specs.declared.{limits.Policy.Policy, requests.Object.Object, requests.Request.Request, rows.Entry.Entry}
+use Rattle.std.{proofs.lemmas.List.{length-append}, specs.List.{filter, AllByRecursion}}
 use Rattle.auction_rows.specs.Phases.{is_put_off}
-use Rattle.phase_laws.proofs.OrderLemmas.{all-weaker}
-use Rattle.run_laws.specs.Phases.{is_split}
-use Rattle.run_laws.specs.Turns.{numbered, turn, turns, waiting, reaching}
-use Rattle.run_laws.proofs.ReachLemmas.{reach_from, reach_rises}
-use Rattle.run_laws.proofs.TurnLemmas.{filter_none, split_turn, waiting_next, waiting_none, joined_turn}
+use Rattle.auction_rows.specs.declared.{limits.Policy.Policy, requests.Object.Object, requests.Request.Request, rows.Entry.Entry}
 use Rattle.phase_laws.proofs.ListLemmas.{all-append, all-both, filter_false, filter_same, all-any, ordered-append}
+use Rattle.phase_laws.proofs.OrderLemmas.{all-weaker}
 use Rattle.run_laws.proofs.CallLemmas.{at_index, turn_commits, turns_alike}
-use Rattle.run_laws.proofs.QuotaLemmas.{given_reaches}
-use Rattle.run_laws.specs.Serving.{call_of, script_of, hot_in, phase_reached, commit_phase}
-use Rattle.run_laws.specs.Run.{calls_of, first_index, calls_given, HasRun, IsPhasePerformed, HasLeft}
 use Rattle.run_laws.proofs.CommitLemmas.{ordered_all, calls-append, of_calls, from, hot_at_end, hot_elsewhere}
+use Rattle.run_laws.proofs.{QuotaLemmas.{given_reaches}, ReachLemmas.{reach_from, reach_rises}}
+use Rattle.run_laws.proofs.TurnLemmas.{filter_none, split_turn, waiting_next, waiting_none, joined_turn}
+use Rattle.run_laws.specs.Phases.{is_split}
+use Rattle.run_laws.specs.Run.{calls_of, first_index, calls_given, HasRun, IsPhasePerformed, HasLeft}
+use Rattle.run_laws.specs.Serving.{call_of, script_of, hot_in, phase_reached, commit_phase}
+use Rattle.run_laws.specs.Turns.{numbered, turn, turns, waiting, reaching}
 
 pub run_begins : (policy : Policy) (scripts : List (List Request)) → HasRun policy scripts 0 [] [] (λ w. [])
 run_begins policy scripts = record {

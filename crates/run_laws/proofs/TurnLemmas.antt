@@ -1,10 +1,9 @@
 -- What a phase commits of a script, by what waits and what reaches it.
 use Rattle.std.proofs.Common.{◌≡◌, ℕ, suc, ◌+◌, ◌<◌, ◌≤◌, ◌==◌, ◌⊎◌, ◌&&◌, not, nat_lt, Bool, true, false, cond, List, [], ◌∷◌, ◌++◌, length, refl, sym, ap, ◌∙◌, inl, inr, arith, eq-eqb}
-use Rattle.std.specs.List.{filter}
 use Rattle.std.proofs.lemmas.Bool.{lt-ltb, le-ltb, ne_eqb, cases_lt, cases_order, cases_Bool, and_left, and_right, cond-false}
-use Rattle.run_laws.specs.Phases.{is_split}
+use Rattle.std.specs.List.{filter}
+use Rattle.run_laws.{proofs.ReachLemmas.{split_then_joined}, specs.Phases.{is_split}}
 use Rattle.run_laws.specs.Turns.{numbered, commits_in, turn, waiting, reaching}
-use Rattle.run_laws.proofs.ReachLemmas.{split_then_joined}
 
 pub filter_twice : {X : Type 0} (p q : X → Bool) (xs : List X) → filter q (filter p xs) ≡ filter (λ x. p x && q x) xs
 filter_twice p q [] = refl

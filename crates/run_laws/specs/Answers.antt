@@ -1,10 +1,8 @@
 -- What a run may answer.
 use Rattle.std.specs.Prelude.{List}
+use Rattle.auction_rows.specs.{Book.{Book}, History.{ReplaysFrom}}
 use Rattle.auction_rows.specs.declared.{limits.Policy.Policy, values.Opening.Opening, requests.Object.Object, requests.Request.Request, rows.Entry.Entry}
-use Rattle.auction_rows.specs.Book.{Book}
-use Rattle.auction_rows.specs.History.{ReplaysFrom}
-use Rattle.run_laws.specs.Serving.{Serves}
-use Rattle.run_laws.specs.Run.{AreChosen}
+use Rattle.run_laws.specs.{Run.{AreChosen}, Serving.{Serves}}
 
 -- the hot sets and the history answer the scripts, from a book
 pub record IsAnswer (opening : Opening) (start : Book) (policy : Policy)

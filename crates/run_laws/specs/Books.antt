@@ -1,8 +1,7 @@
 -- What a run does to the book that it starts from.
 use Rattle.std.specs.Prelude.{List}
+use Rattle.auction_rows.specs.{Book.{Book}, History.{ReplaysFrom, book_after, IsBook}}
 use Rattle.auction_rows.specs.declared.{values.Opening.Opening, rows.Entry.Entry}
-use Rattle.auction_rows.specs.Book.{Book}
-use Rattle.auction_rows.specs.History.{ReplaysFrom, book_after, IsBook}
 
 -- the history replays from the book at the start to one for which the state stands
 pub record HasReplayed (opening : Opening) (start : Book) (history : List Entry)

@@ -1,13 +1,12 @@
 -- What has been done of a run's scripts before a phase, and what a phase does.
-use Rattle.std.specs.Prelude.{ℕ, ◌-◌, ◌<◌, ◌≤◌, ◌≡◌, ◌⊎◌, not, true, false, List, [], ◌++◌, length, map}
 use Rattle.std.specs.List.{filter, AllByRecursion}
+use Rattle.std.specs.Prelude.{ℕ, ◌-◌, ◌<◌, ◌≤◌, ◌≡◌, ◌⊎◌, not, true, false, List, [], ◌++◌, length, map}
+use Rattle.auction_rows.specs.{Choosing.{choose}, Phases.{is_put_off}}
 use Rattle.auction_rows.specs.declared.{limits.Policy.Policy, requests.Object.Object, requests.Request.Request, rows.Entry.Entry}
-use Rattle.auction_rows.specs.Choosing.{choose}
-use Rattle.auction_rows.specs.Phases.{is_put_off}
 use Rattle.phase_laws.specs.Order.{IsOrderedBy, part}
 use Rattle.run_laws.specs.Phases.{is_split, first_of}
-use Rattle.run_laws.specs.Turns.{call_request, numbered, given, turns, waiting}
 use Rattle.run_laws.specs.Serving.{call_of, script_of, hot_in, segment_of, phase_reached, commit_phase}
+use Rattle.run_laws.specs.Turns.{call_request, numbered, given, turns, waiting}
 
 -- a worker's calls in a list of entries
 abbrev pub calls_of : ℕ → List Entry → List (ℕ × Request)

@@ -1,14 +1,11 @@
 -- What it means that a history serves scripts.
-use Rattle.std.specs.declared.alloc.Global.{Global}
-use Rattle.std.specs.Prelude.{ℕ, suc, ◌<◌, ◌≤◌, ◌≡◌, ◌==◌, ◌&&◌, nat_lt, true, if◌then◌else◌, List, [], length, map, slice_get, unwrap_or, count_by, Some, Vec}
 use Rattle.std.specs.List.{filter, AllByRecursion}
+use Rattle.std.specs.Prelude.{ℕ, suc, ◌<◌, ◌≤◌, ◌≡◌, ◌==◌, ◌&&◌, nat_lt, true, if◌then◌else◌, List, [], length, map, slice_get, unwrap_or, count_by, Some, Vec}
+use Rattle.std.specs.declared.alloc.Global.{Global}
+use Rattle.auction_rows.specs.{Phases.{is_put_off, IsNumbered}, Requests.{is_splittable}}
 use Rattle.auction_rows.specs.declared.{limits.Policy.Policy, values.Opening.Opening, requests.Object.Object, requests.Request.Request, rows.Entry.Entry}
-use Rattle.auction_rows.specs.Requests.{is_splittable}
-use Rattle.auction_rows.specs.Phases.{is_put_off, IsNumbered}
-use Rattle.phase_laws.specs.Order.{IsOrderedBy}
-use Rattle.phase_laws.specs.Numbers.{greatest_by}
-use Rattle.run_laws.specs.Phases.{reach}
-use Rattle.run_laws.specs.Turns.{commits_in}
+use Rattle.phase_laws.specs.{Numbers.{greatest_by}, Order.{IsOrderedBy}}
+use Rattle.run_laws.specs.{Phases.{reach}, Turns.{commits_in}}
 
 -- an entry's call: its index and its request
 abbrev pub call_of : Entry → ℕ × Request

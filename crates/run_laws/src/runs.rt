@@ -1,21 +1,16 @@
 //! What is done of scripts before a phase, and after it; what a run does to the book that it starts
 //! from, and what it gives at its end.
 ghost use Rattle.std.specs.Prelude.{◌≡◌, ◌<◌, ◌+◌, ◌-◌, ◌++◌, ℕ, suc, true, false, List, [], ◌∷◌, ◌≤◌, ◌*◌, length};
+ghost use Rattle.run_laws.specs.{Answers.{IsAnswer}, Books.{HasReplayed, ReplaysOn}};
 ghost use Rattle.run_laws.specs.Phases.{is_split};
-ghost use Rattle.run_laws.specs.Turns.{reaching};
-ghost use Rattle.run_laws.specs.Serving.{AreNumbered, segment_of, phase_reached, Serves, script_of};
 ghost use Rattle.run_laws.specs.Run.{HasRun, IsPhasePerformed, HasLeft, AreChosen, calls_given, IsDone};
-ghost use Rattle.run_laws.specs.Books.{HasReplayed, ReplaysOn};
-ghost use Rattle.run_laws.specs.Answers.{IsAnswer};
-ghost use Rattle.auction_rows.specs.declared.limits.Policy.{Policy};
-ghost use Rattle.auction_rows.specs.declared.values.Opening.{Opening};
-ghost use Rattle.auction_rows.specs.declared.requests.Object.{Object};
-ghost use Rattle.auction_rows.specs.declared.requests.Request.{Request};
-ghost use Rattle.auction_rows.specs.declared.rows.Entry.{Entry};
+ghost use Rattle.run_laws.specs.Serving.{AreNumbered, segment_of, phase_reached, Serves, script_of};
+ghost use Rattle.run_laws.specs.Turns.{reaching};
+ghost use Rattle.auction_rows.specs.{Choosing.{choose}, History.{IsBook, ReplaysFrom, book_after}};
+ghost use Rattle.auction_rows.specs.{Phases.{IsNumbered}, declared.limits.Policy.{Policy}};
+ghost use Rattle.auction_rows.specs.declared.requests.{Object.{Object}, Request.{Request}};
+ghost use Rattle.auction_rows.specs.declared.{rows.Entry.{Entry}, values.Opening.{Opening}};
 ghost use Rattle.auction_rows.specs.Book.{Book as Rows};
-ghost use Rattle.auction_rows.specs.Choosing.{choose};
-ghost use Rattle.auction_rows.specs.Phases.{IsNumbered};
-ghost use Rattle.auction_rows.specs.History.{IsBook, ReplaysFrom, book_after};
 
 /// Before the first phase nothing is done.
 pub fn run_begins()

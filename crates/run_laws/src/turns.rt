@@ -1,6 +1,6 @@
 //! The phases that indexes reach, and what phases take of a script.
-ghost use Rattle.std.specs.Prelude.{◌≡◌, ◌<◌, ◌≤◌, ◌+◌, ◌*◌, ◌↔◌, ℕ, suc, if◌then◌else◌, ◌==◌, not, Bool, true, false, List, [], ◌∷◌, ◌++◌, Some, length, take, count_by, slice_get, nat_lt};
 ghost use Rattle.std.specs.List.{filter, AllByRecursion};
+ghost use Rattle.std.specs.Prelude.{◌≡◌, ◌<◌, ◌≤◌, ◌+◌, ◌*◌, ◌↔◌, ℕ, suc, if◌then◌else◌, ◌==◌, not, Bool, true, false, List, [], ◌∷◌, ◌++◌, Some, length, take, count_by, slice_get, nat_lt};
 ghost use Rattle.run_laws.specs.Phases.{is_split, reach, first_of, quota};
 ghost use Rattle.run_laws.specs.Turns.{numbered, given, reaching, commits_in, turn, turns, waiting};
 

@@ -1,17 +1,14 @@
 -- The calls that workers commit, and those that wait, are of their scripts.
 use Rattle.std.proofs.Common.{◌≡◌, ◌<◌, ◌∙◌, ℕ, zero, suc, Bool, true, false, not, ◌⊎◌, inl, inr, List, [], ◌∷◌, ◌++◌, Some, map, length, take, drop, sym, ap, subst, arith}
+use Rattle.std.proofs.lemmas.{Bool.{cases_Bool}, Option.{same_Some}}
 use Rattle.std.specs.List.{AllByRecursion, filter}
-use Rattle.std.proofs.lemmas.Bool.{cases_Bool}
-use Rattle.std.proofs.lemmas.Option.{same_Some}
-use Rattle.auction_rows.specs.declared.{limits.Policy.Policy, requests.Object.Object, requests.Request.Request, rows.Entry.Entry}
 use Rattle.auction_rows.specs.Phases.{is_put_off}
+use Rattle.auction_rows.specs.declared.{limits.Policy.Policy, requests.Object.Object, requests.Request.Request, rows.Entry.Entry}
 use Rattle.phase_laws.proofs.ListLemmas.{all-append}
 use Rattle.phase_laws.proofs.OrderLemmas.{all-cond, all-filter, all-from_map}
-use Rattle.run_laws.specs.Phases.{is_split, quota}
+use Rattle.run_laws.{proofs.CallLemmas.{all_numbered}, specs.Phases.{is_split, quota}}
 use Rattle.run_laws.specs.Run.{calls_given, first_index, IsPhasePerformed}
-use Rattle.run_laws.specs.Serving.{call_of, script_of}
-use Rattle.run_laws.specs.Turns.{call_request, numbered}
-use Rattle.run_laws.proofs.CallLemmas.{all_numbered}
+use Rattle.run_laws.specs.{Serving.{call_of, script_of}, Turns.{call_request, numbered}}
 use Rattle.worker_journals.specs.Journals.{IsOfScript, JournalView}
 use Rattle.phase_transactions.specs.Workers.{WorkerState}
 use Rattle.closing_laws.specs.Phases.{journal_of, receipt_at}

@@ -1,43 +1,34 @@
 -- The rows of a run's phases follow one another, and are few.
 use Rattle.std.proofs.Common.{◌≡◌, ℕ, zero, suc, ◌+◌, ◌*◌, ◌-◌, ◌<◌, ◌≤◌, ◌==◌, ◌⊎◌, Bool, true, false, cond, List, [], ◌∷◌, ◌++◌, Option, Some, None, map, length, slice_get, All, refl, subst, sym, ap, ◌∙◌, inl, inr, arith, append_assoc, length-append, eqb-true}
-use Rattle.std.specs.List.{filter, AllByRecursion, cons_option}
 use Rattle.std.proofs.lemmas.Bool.{eq-eqb, ne_eqb, false≢true, cases_lt}
 use Rattle.std.proofs.lemmas.List.{append-nil, length-map}
-use Rattle.std.proofs.lemmas.List.Sums.{length-filter}
 use Rattle.std.proofs.lemmas.List.Elements.{All-from_recursion, recursion_from_All, filter-append, filter_map-append}
-use Rattle.auction_rows.specs.declared.{limits.Policy.Policy, values.Opening.Opening, requests.Request.Request, rows.Row.Row, rows.Entry.Entry}
+use Rattle.std.proofs.lemmas.List.Sums.{length-filter}
+use Rattle.std.specs.List.{filter, AllByRecursion, cons_option}
+use Rattle.auction_rows.proofs.HistoryLemmas.{book_after-replays, longer_book, rows_go_on}
 use Rattle.auction_rows.specs.Book.{Book, worker_of}
 use Rattle.auction_rows.specs.History.{IsBook, ReplaysFrom, after_entry, book_after, row_of_entry, rows_of}
 use Rattle.auction_rows.specs.Replies.{row_of}
-use Rattle.auction_rows.proofs.HistoryLemmas.{book_after-replays, longer_book, rows_go_on}
-use Rattle.auction_window.specs.Published.{book_of}
-use Rattle.auction_window.proofs.Growing.{book_of-snoc}
-use Rattle.item_shards.specs.OpeningRows.{rows_by}
+use Rattle.auction_rows.specs.declared.{limits.Policy.Policy, values.Opening.Opening, requests.Request.Request, rows.Row.Row, rows.Entry.Entry}
+use Rattle.auction_window.{proofs.Growing.{book_of-snoc}, specs.Published.{book_of}}
+use Rattle.item_shards.{proofs.SerialLemmas.{worker_of_added}, specs.OpeningRows.{rows_by}}
 use Rattle.item_shards.specs.Serial.{CanFollow}
-use Rattle.item_shards.proofs.SerialLemmas.{worker_of_added}
 use Rattle.phase_floor.specs.States.{JoinedState, IsBookOf}
-use Rattle.phase_laws.specs.Order.{part}
-use Rattle.phase_laws.proofs.OrderLemmas.{all-weaker, all-from_map}
-use Rattle.run_laws.specs.Turns.{numbered, turn, turns}
-use Rattle.run_laws.proofs.CallLemmas.{requests_in_turns}
-use Rattle.run_laws.proofs.CountLemmas.{how_many, how_many-is, count-append, count-map}
 use Rattle.phase_laws.proofs.ListLemmas.{all-append, all-both, all-kept, all-right, filter_false}
-use Rattle.run_laws.proofs.PartLemmas.{all_of_parts}
-use Rattle.run_laws.proofs.TurnLemmas.{length-numbered}
-use Rattle.worker_journals.specs.Merged.{merged}
-use Rattle.run_laws.specs.Run.{calls_of}
-use Rattle.run_laws.specs.Serving.{script_of, segment_of, call_of, commit_phase}
+use Rattle.phase_laws.{proofs.OrderLemmas.{all-weaker, all-from_map}, specs.Order.{part}}
+use Rattle.run_laws.proofs.CallLemmas.{requests_in_turns}
 use Rattle.run_laws.proofs.ClosedLemmas.{none_chosen, none_numbered}
-use Rattle.run_laws.proofs.ScriptLemmas.{past_end}
-use Rattle.run_laws.proofs.StepLemmas.{run_begins}
-use Rattle.run_phases.specs.declared.faults.RunFault.{RunFault}
-use Rattle.run_phases.specs.declared.faults.RunFault.TheVariants.{Memory}
-use Rattle.run_phases.specs.declared.phase.Running.{Running}
+use Rattle.run_laws.proofs.CountLemmas.{how_many, how_many-is, count-append, count-map}
+use Rattle.run_laws.proofs.{PartLemmas.{all_of_parts}, ScriptLemmas.{past_end}}
+use Rattle.run_laws.proofs.{StepLemmas.{run_begins}, TurnLemmas.{length-numbered}}
+use Rattle.run_laws.specs.{Run.{calls_of}, Serving.{script_of, segment_of, call_of, commit_phase}}
+use Rattle.run_laws.specs.Turns.{numbered, turn, turns}
+use Rattle.worker_journals.specs.Merged.{merged}
 use Rattle.run_phases.specs.Beginning.{AreShort, AreShortFor}
 use Rattle.run_phases.specs.Boards.{CanShow, HasShownAfter, IsUpToDate, phase_rows}
-use Rattle.run_phases.specs.Outcomes.{HasShownFirstAfter}
-use Rattle.run_phases.specs.Phases.{hot_sets}
-use Rattle.run_phases.specs.inner.Plans.{waiting_in}
+use Rattle.run_phases.specs.{Outcomes.{HasShownFirstAfter}, Phases.{hot_sets}}
+use Rattle.run_phases.specs.declared.faults.RunFault.{TheVariants.{Memory}, RunFault}
+use Rattle.run_phases.specs.{declared.phase.Running.{Running}, inner.Plans.{waiting_in}}
 use Rattle.run_phases.specs.inner.Running.{IsRunning}
 
 -- ---- numbers, counted one by one

@@ -1,13 +1,11 @@
 -- What is so of a run from a state, whatever book it begins from.
 use Rattle.std.proofs.Common.{◌≡◌, ℕ, ◌+◌, ◌<◌, ◌≤◌, List, length, subst, sym}
-use Rattle.auction_rows.specs.declared.{limits.Policy.Policy, requests.Request.Request}
 use Rattle.auction_rows.specs.Book.{Book}
+use Rattle.auction_rows.specs.declared.{limits.Policy.Policy, requests.Request.Request}
 use Rattle.phase_floor.specs.States.{JoinedState}
-use Rattle.run_phases.specs.declared.phase.Running.{Running}
+use Rattle.run_phases.proofs.{RunLemmas.{few_phases_so_far, goes_on}, StableLemmas.{at_most, same}}
 use Rattle.run_phases.specs.Beginning.{AreShortFor, BeginsWith, CannotBegin}
-use Rattle.run_phases.specs.inner.Running.{IsRunning, CanGoOn}
-use Rattle.run_phases.proofs.RunLemmas.{few_phases_so_far, goes_on}
-use Rattle.run_phases.proofs.StableLemmas.{at_most, same}
+use Rattle.run_phases.specs.{declared.phase.Running.{Running}, inner.Running.{IsRunning, CanGoOn}}
 
 -- ---- what is so of a run from whatever book
 

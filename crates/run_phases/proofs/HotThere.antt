@@ -1,27 +1,22 @@
 -- What accepted stores write is there, in the book after them and on the shards that stand for it.
 use Rattle.std.proofs.Common.{◌≡◌, ℕ, zero, suc, ◌-◌, ◌<◌, ◌%◌, ◌&&◌, true, false, cond, List, [], ◌∷◌, ◌++◌, drop, length, find, Option, Some, None, option_map, refl, sym, ap, ◌∙◌, subst, arith}
+use Rattle.std.proofs.lemmas.{Bool.{false≢true, leb-false, or_parts}, List.{length-map}}
+use Rattle.std.proofs.lemmas.List.{Elements.{filter_map-append}, Folds.{find-append}}
+use Rattle.std.specs.{List.{AllByRecursion, cons_option}, Option.{option_or}}
 use Rattle.std.specs.Prelude.{IsSome, is_some, nat_le}
-use Rattle.std.specs.List.{AllByRecursion, cons_option}
-use Rattle.std.specs.Option.{option_or}
-use Rattle.std.proofs.lemmas.Bool.{false≢true, leb-false, or_parts}
-use Rattle.std.proofs.lemmas.List.{length-map}
-use Rattle.std.proofs.lemmas.List.Elements.{filter_map-append}
-use Rattle.std.proofs.lemmas.List.Folds.{find-append}
-use Rattle.phase_laws.proofs.MemberLemmas.{all-member, filter-member}
-use Rattle.phase_laws.proofs.RankLemmas.{top_is_top}
-use Rattle.auction_rows.specs.declared.{values.Opening.Opening, requests.Facts.Facts, requests.Object.Object, requests.Request.Request, replies.Refusal.Refusal, rows.ItemRow.ItemRow, rows.Entry.Entry}
-use Rattle.auction_rows.specs.declared.requests.Object.TheVariants.{Item, User, Category}
-use Rattle.auction_rows.specs.declared.requests.Request.TheVariants.{StoreItem, StoreBid, StoreComment, BuyNow, ViewItem, ViewBids, ViewCategory, ViewUser}
-use Rattle.auction_rows.specs.Book.{Book, as_item, same_item, item_in, item_rows, facts_of, bought}
-use Rattle.auction_rows.specs.Choosing.{written_by, objects_written, heat, choose}
-use Rattle.auction_rows.specs.History.{IsRight, after_entry, ReplaysFrom, book_after, rows_of}
-use Rattle.auction_rows.specs.Refusals.{refusal}
-use Rattle.auction_rows.specs.Replies.{answer, answer_unless, row_of}
-use Rattle.auction_rows.specs.Requests.{writes, is_splittable, number_of, shard_of}
+use Rattle.phase_laws.proofs.{MemberLemmas.{all-member, filter-member}, RankLemmas.{top_is_top}}
 use Rattle.auction_rows.proofs.HistoryLemmas.{book_after-replays}
 use Rattle.auction_rows.proofs.OrderLemmas.{heat_total, heat_same}
 use Rattle.auction_rows.proofs.RefusalLemmas.{enough, in_range, not_by_number, is_stored}
 use Rattle.auction_rows.proofs.RequestLemmas.{row_made}
+use Rattle.auction_rows.specs.Book.{Book, as_item, same_item, item_in, item_rows, facts_of, bought}
+use Rattle.auction_rows.specs.Choosing.{written_by, objects_written, heat, choose}
+use Rattle.auction_rows.specs.History.{IsRight, after_entry, ReplaysFrom, book_after, rows_of}
+use Rattle.auction_rows.specs.{Refusals.{refusal}, Replies.{answer, answer_unless, row_of}}
+use Rattle.auction_rows.specs.Requests.{writes, is_splittable, number_of, shard_of}
+use Rattle.auction_rows.specs.declared.requests.Object.TheVariants.{Item, User, Category}
+use Rattle.auction_rows.specs.declared.requests.Request.TheVariants.{StoreItem, StoreBid, StoreComment, BuyNow, ViewItem, ViewBids, ViewCategory, ViewUser}
+use Rattle.auction_rows.specs.declared.{values.Opening.Opening, requests.Facts.Facts, requests.Object.Object, requests.Request.Request, replies.Refusal.Refusal, rows.ItemRow.ItemRow, rows.Entry.Entry}
 use Rattle.item_shards.specs.Values.{value, stock}
 use Rattle.closing_laws.specs.Phases.{value_on}
 use Rattle.phase_floor.specs.States.{JoinedState, states_of, StandsFor, DoesExist, DoAllExist}

@@ -1,48 +1,37 @@
 -- From the floor, the permits and the receipts of a phase to what a run knows of it.
 use Rattle.std.proofs.Common.{◌≡◌, ℕ, zero, suc, ◌+◌, ◌-◌, ◌%◌, ◌<◌, ◌≤◌, ◌⊎◌, inl, inr, min, Bool, true, false, not, cond, List, [], ◌∷◌, ◌++◌, map, length, take, drop, refl, sym, ap, subst, ◌∙◌, arith}
-use Rattle.std.specs.Prelude.{Option, slice_index}
-use Rattle.std.specs.List.{AllByRecursion, AllZip}
-use Rattle.std.proofs.Math.ListN.{get_or-map}
-use Rattle.std.proofs.Math.Seq.{drop-nil, take-nil}
-use Rattle.std.proofs.lemmas.Bool.{eq-eqb, ne_eqb, cases_lt}
-use Rattle.std.proofs.lemmas.List.{length-map, get_or_past}
+use Rattle.std.proofs.Math.{ListN.{get_or-map}, Seq.{drop-nil, take-nil}}
+use Rattle.std.proofs.lemmas.{Bool.{eq-eqb, ne_eqb, cases_lt}, List.{length-map, get_or_past}}
+use Rattle.std.specs.{List.{AllByRecursion, AllZip}, Prelude.{Option, slice_index}}
+use Rattle.auction_rows.specs.{History.{ReplaysFrom, book_after}, Phases.{IsNumbered}}
 use Rattle.auction_rows.specs.declared.{limits.Policy.Policy, requests.Facts.Facts, requests.Object.Object, requests.Request.Request, rows.Entry.Entry}
-use Rattle.auction_rows.specs.History.{ReplaysFrom, book_after}
-use Rattle.auction_rows.specs.Phases.{IsNumbered}
 use Rattle.phase_laws.specs.Order.{part}
+use Rattle.run_laws.proofs.{PartLemmas.{all_of_parts}, ScriptLemmas.{past_end}}
 use Rattle.run_laws.specs.Phases.{is_split, quota}
-use Rattle.run_laws.specs.Turns.{numbered}
-use Rattle.run_laws.proofs.PartLemmas.{all_of_parts}
 use Rattle.run_laws.specs.Run.{first_index, calls_of, calls_given, IsPhasePerformed}
-use Rattle.run_laws.specs.Serving.{call_of, script_of}
-use Rattle.run_laws.proofs.ScriptLemmas.{past_end}
-use Rattle.shard_boxes.specs.Keys.{BoxId}
-use Rattle.shard_boxes.specs.States.{ShardState, state_of}
-use Rattle.worker_slices.specs.Slicing.{hot_objects, stocks_of, slices_of}
-use Rattle.worker_slices.specs.Stashes.{StashState}
+use Rattle.run_laws.specs.{Serving.{call_of, script_of}, Turns.{numbered}}
+use Rattle.shard_boxes.specs.{Keys.{BoxId}, States.{ShardState, state_of}}
+use Rattle.worker_slices.specs.{Slicing.{hot_objects, stocks_of, slices_of}, Stashes.{StashState}}
+use Rattle.phase_transactions.specs.{Performing.{HaveOpening}, Workers.{WorkerState}}
 use Rattle.phase_transactions.specs.declared.done.PermitFault.TheVariants as permit
-use Rattle.phase_transactions.specs.Workers.{WorkerState}
-use Rattle.phase_transactions.specs.Performing.{HaveOpening}
 use Rattle.closing_laws.specs.Phases.{no_receipt, receipt_at, journal_of, counters_of}
 use Rattle.closing_laws.specs.Standing.{StandFor, counters_at}
 use Rattle.worker_journals.specs.Journals.{IsJournalOf, IsOfScript, entry_worker}
-use Rattle.phase_floor.specs.declared.floor.BeginFault.{BeginFault}
-use Rattle.phase_floor.specs.declared.floor.BeginFault.TheVariants.{UnknownHot, TooLong, Memory}
 use Rattle.phase_floor.specs.Begins.{IsTooLong, empty_stash}
 use Rattle.phase_floor.specs.Closings.{AreOfScripts, AreReceiptsOf, Leaves, stash_of}
 use Rattle.phase_floor.specs.Floors.{FloorState, IsNewPermit, stash_at}
 use Rattle.phase_floor.specs.States.{JoinedState, states_of, StandsFor}
-use Rattle.run_phases.specs.inner.Closed.{HasClosedPhase}
-use Rattle.run_phases.specs.Phases.{told, IsMet}
+use Rattle.phase_floor.specs.declared.floor.BeginFault.{BeginFault}
+use Rattle.phase_floor.specs.declared.floor.BeginFault.TheVariants.{UnknownHot, TooLong, Memory}
+use Rattle.run_phases.proofs.{AskedLemmas.{all_journals, done_asked}, ScriptLemmas.{past_stashes}}
+use Rattle.run_phases.specs.{Phases.{told, IsMet}, inner.Closed.{HasClosedPhase}}
 use Rattle.run_phases.specs.inner.Plans.{IsCallOf, MayPerform, waiting_in, quota_of}
 use Rattle.run_phases.specs.inner.Serving.{CanPerform, HasBegunPhase, HasEnded}
-use Rattle.phase_workers.specs.declared.round.ServingFault.{ServingFault}
-use Rattle.phase_workers.specs.declared.round.ServingFault.TheVariants as serving
+use Rattle.phase_workers.proofs.WorkLemmas.{cold_kept, cold_off}
 use Rattle.phase_workers.specs.Tasks.{Task, task, tasks, to_do, calls_for, CanBeDone, HasDoneTask, IsFaultBy, IsFirstFault}
 use Rattle.phase_workers.specs.Working.{committed, stashed, taken, still_waiting, hot_for, put_off, not_put_off, AreOfPhase, IsSamePermit, IsPermitOf, ArePermitsOf}
-use Rattle.phase_workers.proofs.WorkLemmas.{cold_kept, cold_off}
-use Rattle.run_phases.proofs.AskedLemmas.{all_journals, done_asked}
-use Rattle.run_phases.proofs.ScriptLemmas.{past_stashes}
+use Rattle.phase_workers.specs.declared.round.ServingFault.{ServingFault}
+use Rattle.phase_workers.specs.declared.round.ServingFault.TheVariants as serving
 
 -- ---- tasks, by worker
 

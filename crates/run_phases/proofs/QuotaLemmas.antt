@@ -1,7 +1,6 @@
 -- What each worker is given of its script.
 use Rattle.std.proofs.Common.{◌≡◌, ℕ, zero, suc, ◌+◌, ◌<◌, ◌≤◌, List, [], ◌∷◌, ◌++◌, map, length, take, get_or, refl, sym, ap, ◌∙◌, arith}
-use Rattle.std.specs.Prelude.{slice_index}
-use Rattle.std.proofs.lemmas.List.{map-append}
+use Rattle.std.{proofs.lemmas.List.{map-append}, specs.Prelude.{slice_index}}
 use Rattle.auction_rows.specs.declared.requests.Request.{Request}
 use Rattle.run_laws.specs.Serving.{script_of}
 

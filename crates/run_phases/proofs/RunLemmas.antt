@@ -1,40 +1,31 @@
 -- Where a run begins, one phase more, and its end.
 use Rattle.std.proofs.Common.{◌≡◌, Bool, ℕ, zero, suc, ◌+◌, ◌-◌, ◌<◌, ◌≤◌, ◌^◌, ◌⊎◌, not, min, true, false, cond, List, [], ◌∷◌, ◌++◌, length, drop, refl, subst, sym, ap, ◌∙◌, inl, inr, arith}
+use Rattle.std.proofs.{Math.Seq.{drop-append_seam}, lemmas.Bool.{cases_Bool, cases_lt, false≢true}}
+use Rattle.std.proofs.lemmas.List.{Filters.{length-filter_both}, length-append, length-map}
 use Rattle.std.specs.List.{filter}
-use Rattle.std.proofs.lemmas.Bool.{cases_Bool, cases_lt, false≢true}
-use Rattle.std.proofs.Math.Seq.{drop-append_seam}
-use Rattle.std.proofs.lemmas.List.{length-append, length-map}
-use Rattle.std.proofs.lemmas.List.Filters.{length-filter_both}
-use Rattle.auction_rows.specs.declared.{limits.Policy.Policy, values.Opening.Opening, requests.Object.Object, requests.Request.Request, rows.Entry.Entry}
-use Rattle.auction_rows.specs.Book.{Book}
-use Rattle.auction_rows.specs.Choosing.{choose}
+use Rattle.auction_rows.specs.{Book.{Book}, Choosing.{choose}}
 use Rattle.auction_rows.specs.History.{IsBook, ReplaysFrom, book_after}
 use Rattle.auction_rows.specs.Phases.{is_put_off, IsNumbered}
+use Rattle.auction_rows.specs.declared.{limits.Policy.Policy, values.Opening.Opening, requests.Object.Object, requests.Request.Request, rows.Entry.Entry}
 use Rattle.item_shards.specs.OpeningRows.{rows_by}
 use Rattle.closing_laws.specs.Standing.{counters_at}
 use Rattle.phase_floor.specs.States.{states_of, StandsFor, DoAllExist}
-use Rattle.run_laws.specs.Phases.{is_split, quota}
-use Rattle.run_laws.proofs.QuotaLemmas.{given_length}
-use Rattle.run_laws.proofs.ReachLemmas.{first_next, split_then_joined}
+use Rattle.run_laws.proofs.BookLemmas.{phase_replayed}
+use Rattle.run_laws.proofs.ClosedLemmas.{none_chosen, none_numbered, phase_chosen, phase_numbered, segment_now}
+use Rattle.run_laws.proofs.{EndLemmas.{run_serves, few_phases}, QuotaLemmas.{given_length}}
+use Rattle.run_laws.proofs.{ReachLemmas.{first_next, split_then_joined}, ScriptLemmas.{past_end}}
+use Rattle.run_laws.proofs.StepLemmas.{run_begins, phase_runs}
 use Rattle.run_laws.proofs.TurnLemmas.{length-numbered, waiting_none}
-use Rattle.worker_journals.specs.Merged.{added, merged}
-use Rattle.run_laws.specs.Books.{HasReplayed, ReplaysOn}
+use Rattle.run_laws.specs.{Books.{HasReplayed, ReplaysOn}, Phases.{is_split, quota}}
 use Rattle.run_laws.specs.Run.{first_index, calls_of, calls_given, HasRun, IsPhasePerformed, HasLeft, AreChosen}
 use Rattle.run_laws.specs.Serving.{script_of, segment_of, hot_in, phase_reached, AreNumbered}
 use Rattle.run_laws.specs.Turns.{numbered}
-use Rattle.run_laws.proofs.BookLemmas.{phase_replayed}
-use Rattle.run_laws.proofs.ClosedLemmas.{none_chosen, none_numbered, phase_chosen, phase_numbered, segment_now}
-use Rattle.run_laws.proofs.EndLemmas.{run_serves, few_phases}
-use Rattle.run_laws.proofs.StepLemmas.{run_begins, phase_runs}
-use Rattle.run_laws.proofs.ScriptLemmas.{past_end}
-use Rattle.run_phases.specs.declared.phase.Running.{Running}
-use Rattle.run_phases.specs.Beginning.{HasQuotas, AreShortFor}
-use Rattle.run_phases.specs.inner.Closed.{HasClosedPhase}
-use Rattle.run_phases.specs.Outcomes.{IsOutcome}
-use Rattle.run_phases.specs.Phases.{hot_sets}
+use Rattle.worker_journals.specs.Merged.{added, merged}
+use Rattle.run_phases.{proofs.HotThere.{chosen_exist}, specs.Beginning.{HasQuotas, AreShortFor}}
+use Rattle.run_phases.specs.{Outcomes.{IsOutcome}, Phases.{hot_sets}}
+use Rattle.run_phases.specs.{declared.phase.Running.{Running}, inner.Closed.{HasClosedPhase}}
 use Rattle.run_phases.specs.inner.Plans.{AreAsked, waiting_in, quota_of, MayPerform}
 use Rattle.run_phases.specs.inner.Running.{IsRunning, CanGoOn}
-use Rattle.run_phases.proofs.HotThere.{chosen_exist}
 
 -- ---- what a worker committed, and what waits, after one phase more
 

@@ -1,12 +1,10 @@
 -- The scripts and stashes of workers.
 use Rattle.std.proofs.Common.{◌≡◌, ℕ, zero, suc, ◌+◌, ◌<◌, ◌≤◌, ◌⊎◌, List, [], ◌∷◌, ◌++◌, length, get_or, refl, subst, sym, ap, ◌∙◌, inl, inr, arith}
-use Rattle.std.proofs.lemmas.Bool.{cases_lt}
-use Rattle.std.proofs.lemmas.List.{get_or_default, get_or_past}
+use Rattle.std.proofs.lemmas.{Bool.{cases_lt}, List.{get_or_default, get_or_past}}
 use Rattle.auction_rows.specs.declared.requests.Request.{Request}
 use Rattle.worker_slices.specs.Stashes.{StashState}
 use Rattle.phase_floor.specs.Floors.{no_stash}
-use Rattle.run_laws.specs.Serving.{script_of}
-use Rattle.run_laws.proofs.ScriptLemmas.{past_end}
+use Rattle.run_laws.{proofs.ScriptLemmas.{past_end}, specs.Serving.{script_of}}
 use Rattle.run_phases.specs.inner.Plans.{waiting_in}
 
 pub past_stashes : (stashes : List StashState) (i : ℕ) → length stashes ≤ i → waiting_in stashes i ≡ []

@@ -1,16 +1,13 @@
 -- What cannot be otherwise is so.
 use Rattle.std.proofs.Common.{◌≡◌, ℕ, ◌+◌, ◌<◌, ◌≤◌, ◌^◌, ◌⊎◌, false, List, [], ◌∷◌, Option, Some, None, length, refl, inl, inr, arith}
-use Rattle.std.specs.Prelude.{IsSome}
-use Rattle.std.proofs.lemmas.Bool.{cases_lt, false≢true}
-use Rattle.auction_rows.specs.declared.{limits.Policy.Policy, values.Opening.Opening, requests.Object.Object, requests.Request.Request}
+use Rattle.std.{proofs.lemmas.Bool.{cases_lt, false≢true}, specs.Prelude.{IsSome}}
 use Rattle.auction_rows.specs.declared.requests.Object.TheVariants.{Item, User, Category}
+use Rattle.auction_rows.specs.declared.{limits.Policy.Policy, values.Opening.Opening, requests.Object.Object, requests.Request.Request}
 use Rattle.item_shards.specs.Values.{stock}
-use Rattle.closing_laws.specs.Phases.{value_on}
-use Rattle.closing_laws.specs.Standing.{counters_at}
+use Rattle.closing_laws.specs.{Phases.{value_on}, Standing.{counters_at}}
 use Rattle.worker_slices.specs.Stashes.{StashState}
 use Rattle.phase_floor.specs.States.{JoinedState, states_of, DoesExist, DoAllExist}
-use Rattle.run_laws.specs.Phases.{is_split}
-use Rattle.run_laws.specs.Serving.{script_of}
+use Rattle.run_laws.specs.{Phases.{is_split}, Serving.{script_of}}
 use Rattle.shard_boxes.specs.States.{ShardState}
 use Rattle.run_phases.specs.inner.Plans.{waiting_in, quota_of, AreAsked, MayPerform}
 

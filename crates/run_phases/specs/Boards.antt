@@ -1,9 +1,8 @@
 -- Boards, and the phases that they are given.
 use Rattle.std.specs.Prelude.{ℕ, zero, suc, ◌≡◌, ◌≤◌, Bool, List, [], ◌∷◌, ◌++◌, Option, MatchOption}
+use Rattle.auction_rows.specs.{Book.{Book}, History.{rows_of}}
 use Rattle.auction_rows.specs.declared.limits.TheConstants.{MOST_OF_A_WORKER}
 use Rattle.auction_rows.specs.declared.{values.Opening.Opening, rows.Row.Row, rows.Entry.Entry}
-use Rattle.auction_rows.specs.Book.{Book}
-use Rattle.auction_rows.specs.History.{rows_of}
 use Rattle.auction_window.specs.Published.{Published, book_of}
 use Rattle.item_shards.specs.Serial.{CanFollow}
 use Rattle.phase_floor.specs.States.{JoinedState, IsBookOf}

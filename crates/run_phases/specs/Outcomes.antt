@@ -1,18 +1,14 @@
 -- The outcome of a run, and what its board has if it is refused.
 use Rattle.std.specs.Prelude.{ℕ, ◌≡◌, ◌-◌, ◌⊎◌, List, length}
+use Rattle.auction_rows.specs.{Book.{Book}, History.{ReplaysFrom, book_after}}
 use Rattle.auction_rows.specs.declared.{limits.Policy.Policy, values.Opening.Opening, requests.Object.Object, requests.Request.Request, rows.Row.Row, rows.Entry.Entry}
-use Rattle.auction_rows.specs.Book.{Book}
-use Rattle.auction_rows.specs.History.{ReplaysFrom, book_after}
 use Rattle.phase_floor.specs.States.{StandsFor}
-use Rattle.run_laws.specs.Run.{AreChosen, HasRun}
-use Rattle.run_laws.specs.Serving.{AreNumbered, Serves, segment_of}
+use Rattle.run_laws.specs.{Run.{AreChosen, HasRun}, Serving.{AreNumbered, Serves, segment_of}}
 use Rattle.worker_journals.specs.Merged.{merged}
 use Rattle.auction_window.specs.Published.{book_of}
-use Rattle.run_phases.specs.Boards.{HasShownAfter}
-use Rattle.run_phases.specs.Phases.{hot_sets}
-use Rattle.run_phases.specs.declared.faults.RunFault.{RunFault}
+use Rattle.run_phases.specs.{Boards.{HasShownAfter}, Phases.{hot_sets}}
+use Rattle.run_phases.specs.declared.{course.Outcome.{Outcome}, faults.RunFault.{RunFault}}
 use Rattle.run_phases.specs.declared.faults.RunFault.TheVariants.{Memory}
-use Rattle.run_phases.specs.declared.course.Outcome.{Outcome}
 
 -- The outcome of a run of these scripts, from an opening book on.
 pub record IsOutcome (opening : Opening) (rows : Book) (policy : Policy)

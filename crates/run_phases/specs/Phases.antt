@@ -1,13 +1,12 @@
 -- The hot sets of a run, and the faults that a phase of it meets.
-use Rattle.std.specs.Prelude.{ℕ, ◌≡◌, ◌<◌, Bool, List, map, length, ⊤}
-use Rattle.std.specs.HashSet.{HashSet}
+use Rattle.std.specs.{HashSet.{HashSet}, Prelude.{ℕ, ◌≡◌, ◌<◌, Bool, List, map, length, ⊤}}
 use Rattle.auction_rows.specs.declared.{requests.Object.Object, requests.Request.Request}
 use Rattle.shard_boxes.specs.States.{ShardState}
 use Rattle.phase_transactions.specs.Workers.{WorkerState}
 use Rattle.phase_transactions.specs.declared.done.PermitFault.TheVariants as worker_fault
+use Rattle.phase_workers.specs.Tasks.{IsFirstFault, tasks}
 use Rattle.phase_workers.specs.declared.round.ServingFault.{ServingFault}
 use Rattle.phase_workers.specs.declared.round.ServingFault.TheVariants as serving
-use Rattle.phase_workers.specs.Tasks.{IsFirstFault, tasks}
 use Rattle.run_phases.specs.declared.faults.RunFault.{RunFault}
 use Rattle.run_phases.specs.declared.faults.RunFault.TheVariants.{Workers, Shards, Quota, TooLong, Spawn, Memory, NumberFull}
 

@@ -7,9 +7,8 @@ use std::sync::Wait;
 /// What is given the rows of each phase of a run, once the phase has closed.
 pub trait Board {
     ghost use Rattle.std.specs.Prelude.{◌≡◌, ◌++◌, ◌∷◌, [], false, List, OnOk, OnErr};
-    ghost use Rattle.auction_rows.specs.declared.values.Opening.{Opening};
+    ghost use Rattle.auction_rows.specs.{Book.{Book}, declared.values.Opening.{Opening}};
     ghost use Rattle.auction_rows.specs.declared.rows.Row.{Row as Stored};
-    ghost use Rattle.auction_rows.specs.Book.{Book};
     ghost use Rattle.run_phases.specs.Boards.{CanShow};
 
     /// It has these phases, each a list of rows, of an auction that was opened with these rows.

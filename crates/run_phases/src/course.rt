@@ -1,20 +1,16 @@
 //! The course of a run: its phases, one after the other.
 ghost use Rattle.std.specs.Prelude.{◌≡◌, ◌⊎◌, ◌↔◌, ℕ, suc, ◌<◌, ◌≤◌, ◌+◌, ◌^◌, ◌++◌, ◌∷◌, true, false, List, [], length, IfOk, OnOk, IfErr, OnErr, IsTrue};
-ghost use Rattle.run_laws.specs.Phases.{is_split};
-ghost use Rattle.run_laws.specs.Run.{HasLeft};
-ghost use Rattle.run_laws.specs.Serving.{script_of};
-ghost use Rattle.auction_rows.specs.Choosing.{choose};
+ghost use Rattle.run_laws.specs.{Phases.{is_split}, Run.{HasLeft}, Serving.{script_of}};
+ghost use Rattle.auction_rows.specs.{Book.{Book}, Choosing.{choose}};
 ghost use Rattle.auction_rows.specs.declared.limits.Policy.{Policy as Rule};
 ghost use Rattle.auction_rows.specs.declared.values.Opening.{Opening as Numbers};
 ghost use Rattle.auction_rows.specs.declared.rows.Row.{Row as Stored};
-ghost use Rattle.auction_rows.specs.Book.{Book};
 ghost use Rattle.auction_rows.specs.History.{IsBook, rows_of as stored_rows};
 ghost use Rattle.worker_journals.specs.Merged.{merged};
 ghost use Rattle.auction_window.specs.Published.{book_of};
 ghost use Rattle.run_phases.specs.Beginning.{BeginsWith, CannotBegin, CanShowRun, HasShards, HasQuotas};
 ghost use Rattle.run_phases.specs.Boards.{CanShow, HasShownAfter};
-ghost use Rattle.run_phases.specs.Outcomes.{HasShownFirstAfter, IsOutcome};
-ghost use Rattle.run_phases.specs.Phases.{IsMet};
+ghost use Rattle.run_phases.specs.{Outcomes.{HasShownFirstAfter, IsOutcome}, Phases.{IsMet}};
 ghost use Rattle.run_phases.specs.inner.Plans.{waiting_in, AreAsked, IsPlanOf};
 ghost use Rattle.run_phases.specs.inner.Running.{IsRunning, CanGoOn};
 

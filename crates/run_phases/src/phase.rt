@@ -1,17 +1,13 @@
 //! One phase of a run, joined or split: how the run goes on with its scripts in it, and what it
 //! gives each worker.
 ghost use Rattle.std.specs.Prelude.{◌≡◌, ◌++◌, ◌-◌, ◌<◌, ◌^◌, ℕ, length, min, slice_index, not, IfOk, OnOk, IfErr};
-ghost use Rattle.run_laws.specs.Run.{first_index};
-ghost use Rattle.run_laws.specs.Serving.{script_of};
-ghost use Rattle.run_laws.specs.Phases.{is_split};
+ghost use Rattle.run_laws.specs.{Phases.{is_split}, Run.{first_index}, Serving.{script_of}};
 ghost use Rattle.worker_journals.specs.Merged.{added, merged};
-ghost use Rattle.phase_floor.specs.declared.floor.BeginFault.TheVariants.{Memory};
 ghost use Rattle.phase_floor.specs.States.{states_of};
+ghost use Rattle.phase_floor.specs.declared.floor.BeginFault.TheVariants.{Memory};
 ghost use Rattle.phase_workers.specs.Tasks.{tasks};
-ghost use Rattle.run_phases.specs.Phases.{IsMet};
-ghost use Rattle.run_phases.specs.inner.Plans.{IsPlanOf, MayPerform};
-ghost use Rattle.run_phases.specs.declared.faults.RunFault.{RunFault};
-ghost use Rattle.run_phases.specs.inner.Closed.{HasPerformedPhase};
+ghost use Rattle.run_phases.specs.{Phases.{IsMet}, declared.faults.RunFault.{RunFault}};
+ghost use Rattle.run_phases.specs.inner.{Closed.{HasPerformedPhase}, Plans.{IsPlanOf, MayPerform}};
 ghost use Rattle.run_phases.specs.inner.Serving.{CanPerform, HasBegunPhase, HasEnded};
 
 use crate::faults::RunFault;
@@ -145,12 +141,10 @@ pub(crate) fn begin_fault(fault: BeginFault) -> RunFault
 /// How a phase of a kind begins.
 pub(crate) trait BeginKind: Kind {
     ghost use Rattle.std.specs.Prelude.{◌≡◌, not, length, IfOk, IfErr};
-    ghost use Rattle.run_laws.specs.Phases.{is_split};
-    ghost use Rattle.run_laws.specs.Run.{first_index};
+    ghost use Rattle.run_laws.specs.{Phases.{is_split}, Run.{first_index}};
     ghost use Rattle.phase_floor.specs.States.{states_of};
-    ghost use Rattle.run_phases.specs.inner.Plans.{MayPerform};
     ghost use Rattle.run_phases.specs.declared.faults.RunFault.TheVariants.{Memory};
-    ghost use Rattle.run_phases.specs.inner.Serving.{HasBegunPhase};
+    ghost use Rattle.run_phases.specs.inner.{Plans.{MayPerform}, Serving.{HasBegunPhase}};
 
     /// Begins it: each worker is given its quota, and what waits in its stash.
     fn begin<N: PhaseName, G>(

@@ -1,22 +1,19 @@
 -- Each step keeps the rule of a box.
 use Rattle.std.proofs.Common.{◌≡◌, ◌≢◌, ℕ, zero, suc, ◌+◌, ◌<◌, Bool, true, false, true≢false, ◌⊎◌, inl, inr, ⊎_elim, List, [], ◌∷◌, ◌++◌, length, set, get_or, replicate, Option, sym, refl, ap, ◌∙◌, subst, append_assoc, arith, le_refl, zero-lt-suc}
-use Rattle.std.proofs.lemmas.Int.{ints}
+use Rattle.std.proofs.lemmas.{Bool.{false_from_ne_true}, Int.{ints}}
 use Rattle.std.proofs.lemmas.List.{append-nil, length-replicate}
-use Rattle.std.proofs.lemmas.Bool.{false_from_ne_true}
 use mathlib.Core.Option.{some, some-injective, some-ne-none}
 use lib.ListN.{get_elem?}
-use Rattle.crossbeam_queue.specs.Fifo.{Pushes, Pops, Learns}
-use Rattle.crossbeam_queue.proofs.Lists.{at_set, set_here}
+use Rattle.crossbeam_queue.{proofs.Lists.{at_set, set_here}, specs.Fifo.{Pushes, Pops, Learns}}
 use Rattle.item_shards.specs.declared.shard.Shard.{Shard}
-use Rattle.shard_boxes.specs.declared.shard_box.Knowledge.{Knowledge}
-use Rattle.shard_boxes.specs.States.{ShardState, state_of, no_shard, IsWithin}
-use Rattle.shard_boxes.specs.Lines.{Line, after_lines, lines_of}
-use Rattle.shard_boxes.specs.Keys.{added, entries}
-use Rattle.shard_boxes.specs.Helds.{MayPut}
-use Rattle.shard_boxes.specs.inner.Rule.{IsLawfulList, HasParts, BoxState, FitsBox, IsIn, IsOut, BoxRule}
-use Rattle.shard_boxes.specs.Passes.{Speaks, SpeaksForAll, IsSpare, start_of}
-use Rattle.shard_boxes.specs.inner.Steps.{maker, opened, TakenBy, with_first, put, head_of, tail_of}
 use Rattle.shard_boxes.proofs.LineLemmas.{kept_put, lines_of-append, entries-own, entries-other}
+use Rattle.shard_boxes.specs.{Helds.{MayPut}, Keys.{added, entries}}
+use Rattle.shard_boxes.specs.Lines.{Line, after_lines, lines_of}
+use Rattle.shard_boxes.specs.Passes.{Speaks, SpeaksForAll, IsSpare, start_of}
+use Rattle.shard_boxes.specs.States.{ShardState, state_of, no_shard, IsWithin}
+use Rattle.shard_boxes.specs.declared.shard_box.Knowledge.{Knowledge}
+use Rattle.shard_boxes.specs.inner.Rule.{IsLawfulList, HasParts, BoxState, FitsBox, IsIn, IsOut, BoxRule}
+use Rattle.shard_boxes.specs.inner.Steps.{maker, opened, TakenBy, with_first, put, head_of, tail_of}
 
 -- lists read by index
 there : {A : Type 0} (l : List A) (i : ℕ) (a : A) → get_elem? l i ≡ some a → i < length l

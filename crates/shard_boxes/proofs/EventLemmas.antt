@@ -1,17 +1,16 @@
 -- The events of two acts in turn, and what their looks show.
 use Rattle.std.proofs.Common.{◌≡◌, ℕ, ◌<◌, List, [], ◌∷◌, length, Option, Some, None, option_map, refl, sym, ap, subst, ◌∙◌, arith}
-use Rattle.item_shards.specs.declared.shard.acts.Act.{Act}
-use Rattle.item_shards.specs.declared.shard.acts.Act.TheVariants.{AddItem, ListItem, Bid, Comment, Buy, Look}
-use Rattle.item_shards.specs.declared.shard.acts.Look.{Look as LookedAt}
-use Rattle.item_shards.specs.declared.shard.acts.Look.TheVariants as look
-use Rattle.item_shards.specs.declared.shard.Shard.{Shard}
 use Rattle.item_shards.specs.Contents.{Contents, after_act, after_acts}
 use Rattle.item_shards.specs.Looking.{IsTrueAct, IsTrueOf, event_at, events_of, shown_in}
 use Rattle.item_shards.specs.ShardContents.{contents, clock, IsSameShard}
-use Rattle.shard_boxes.specs.declared.line.Line.{Line as MadeLine}
+use Rattle.item_shards.specs.declared.shard.{Shard.{Shard}, acts.Act.{Act}}
+use Rattle.item_shards.specs.declared.shard.acts.Act.TheVariants.{AddItem, ListItem, Bid, Comment, Buy, Look}
+use Rattle.item_shards.specs.declared.shard.acts.Look.{Look as LookedAt}
+use Rattle.item_shards.specs.declared.shard.acts.Look.TheVariants as look
 use Rattle.shard_boxes.specs.Helds.{MayGoBack, MayPut}
 use Rattle.shard_boxes.specs.Lines.{Line, AreTrueOf, MayFollow, acts_in, first_two, line_of, seen_line, after_line}
 use Rattle.shard_boxes.specs.States.{ShardState, state_of}
+use Rattle.shard_boxes.specs.declared.line.Line.{Line as MadeLine}
 
 -- what a look shows of contents is true of them
 shown_true : (contents : Contents) (looked_at : LookedAt) → IsTrueOf contents (shown_in contents looked_at)

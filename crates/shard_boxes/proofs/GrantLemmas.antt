@@ -1,21 +1,18 @@
 -- The grants of a key, and the grants of all boxes.
 use Rattle.std.proofs.Common.{◌≡◌, ℕ, zero, suc, ◌+◌, ◌<◌, ◌≤◌, false, List, [], ◌∷◌, ◌++◌, length, map, get_or, take, refl, sym, ap, ◌∙◌, subst, arith, append_assoc, length-append, zero-lt-suc, true}
 use Rattle.std.proofs.lemmas.List.{get_or-map, length-map, take_more}
-use Rattle.shard_boxes.specs.declared.shard_box.Knowledge.{Knowledge}
-use Rattle.shard_boxes.specs.inner.Rule.{IsLawfulList, HasParts}
-use Rattle.shard_boxes.specs.Passes.{SpeaksForAll, IsSpare, start_of, GrantState}
-use Rattle.shard_boxes.specs.inner.Steps.{maker, ready, opened, first_of, rest_of, joined, spent}
-use Rattle.item_shards.specs.declared.shard.Shard.{Shard}
+use Rattle.shard_boxes.proofs.{BoxSteps.{maker_spare}, Each.{map_push, each_push}, KeySteps.{read}}
+use Rattle.shard_boxes.{proofs.LineLemmas.{history_of}, specs.Closed.{IsSpent, AreSpent}}
 use Rattle.shard_boxes.specs.Keys.{BoxId, KeyState, key_at, no_seat, holds_at, lines_at, IsNewKey}
+use Rattle.shard_boxes.specs.Lines.{Line, after_lines, IsShardHistory, lines_of}
+use Rattle.shard_boxes.specs.Passes.{SpeaksForAll, IsSpare, start_of, GrantState}
 use Rattle.shard_boxes.specs.Seats.{own_of, seat_of, boxes_of, key_of, IsFor, AreFor}
 use Rattle.shard_boxes.specs.States.{ShardState, state_of, state_at, no_shard, IsInitial}
-use Rattle.shard_boxes.specs.Lines.{Line, after_lines, IsShardHistory, lines_of}
-use Rattle.shard_boxes.specs.Closed.{IsSpent, AreSpent}
+use Rattle.shard_boxes.specs.declared.shard_box.Knowledge.{Knowledge}
 use Rattle.shard_boxes.specs.inner.Grants.{AreSpare, IsNewView, IsFree, AreFree, own_at, IsTaken}
-use Rattle.shard_boxes.proofs.Each.{map_push, each_push}
-use Rattle.shard_boxes.proofs.BoxSteps.{maker_spare}
-use Rattle.shard_boxes.proofs.KeySteps.{read}
-use Rattle.shard_boxes.proofs.LineLemmas.{history_of}
+use Rattle.shard_boxes.specs.inner.Rule.{IsLawfulList, HasParts}
+use Rattle.shard_boxes.specs.inner.Steps.{maker, ready, opened, first_of, rest_of, joined, spent}
+use Rattle.item_shards.specs.declared.shard.Shard.{Shard}
 
 -- a list of one element is its first element
 pub own_one : (own : List (List Line)) → length own ≡ 1 → own ≡ get_or own 0 [] ∷ []

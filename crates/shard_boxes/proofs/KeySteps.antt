@@ -1,13 +1,11 @@
 -- A key after a take or a put at one box.
 use Rattle.std.proofs.Common.{◌≡◌, ℕ, zero, suc, ◌<◌, false, List, [], ◌∷◌, ◌++◌, length, slice_index_or, slice_set, Option, sym, refl, ap, ◌∙◌, arith}
 use Rattle.std.proofs.lemmas.List.{map-set, get_or-map, get_or-set_same, length-set}
-use Rattle.shard_boxes.specs.Lines.{Line}
-use Rattle.shard_boxes.specs.declared.shard_box.Knowledge.{Knowledge}
-use Rattle.shard_boxes.specs.Passes.{Speaks, GrantState}
-use Rattle.shard_boxes.specs.inner.Steps.{put}
-use Rattle.shard_boxes.specs.Keys.{SeatState, KeyState, no_seat, seat_at, with_seat, put_seat, seen_at, holds_at, added, entries}
-use Rattle.shard_boxes.specs.Seats.{own_of, seat_of, boxes_of, key_of}
 use Rattle.shard_boxes.proofs.BoxSteps.{with_first-head}
+use Rattle.shard_boxes.specs.Keys.{SeatState, KeyState, no_seat, seat_at, with_seat, put_seat, seen_at, holds_at, added, entries}
+use Rattle.shard_boxes.specs.{Lines.{Line}, Passes.{Speaks, GrantState}}
+use Rattle.shard_boxes.specs.Seats.{own_of, seat_of, boxes_of, key_of}
+use Rattle.shard_boxes.specs.{declared.shard_box.Knowledge.{Knowledge}, inner.Steps.{put}}
 
 pub read : (worker : ℕ) (grants : List GrantState) (s : ℕ) (l : GrantState) (x : KeyState) → key_of worker grants ≡ x → s < length grants → l ≡ slice_index_or grants s l → seat_at x s ≡ seat_of l
 read worker grants s l x is below at = ap (λ k. seat_at k s) (sym is) ∙ (get_or-map seat_of grants s l no_seat below ∙ ap seat_of (sym at))

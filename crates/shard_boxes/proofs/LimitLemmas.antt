@@ -1,19 +1,17 @@
 -- How far acts raise counts and ratings.
 use Rattle.std.proofs.Common.{ℕ, ◌+◌, ◌*◌, ◌<◌, ◌≤◌, ◌^◌, ℤ, ◌+ℤ◌, FitsSigned, Bool, true, false, cond, [], ◌∷◌, arith, unsigned_abs}
-use Rattle.std.specs.Int.{w64}
-use Rattle.std.proofs.lemmas.Int.{ints, fits_signed_from_abs}
+use Rattle.std.{proofs.lemmas.Int.{ints, fits_signed_from_abs}, specs.Int.{w64}}
 use Rattle.phase_laws.specs.Replay.{SawInTurn}
-use Rattle.auction_rows.specs.declared.{values.Stars.Stars, requests.ItemId.ItemId, requests.Object.Object}
-use Rattle.auction_rows.specs.declared.requests.Object.TheVariants.{Item, User, Category}
 use Rattle.auction_rows.specs.Requests.{same_object}
-use Rattle.item_shards.specs.Events.{Event, AddItem, ListItem, Bid, Comment, Buy, Look}
+use Rattle.auction_rows.specs.declared.requests.Object.TheVariants.{Item, User, Category}
+use Rattle.auction_rows.specs.declared.{values.Stars.Stars, requests.ItemId.ItemId, requests.Object.Object}
 use Rattle.item_shards.specs.CommitNumbers.{last_number}
-use Rattle.item_shards.specs.Values.{Value}
 use Rattle.item_shards.specs.Contents.{Contents, changed, with_facts, bid_on, bought_of, comment_about, item_listed, after_act, after_acts}
-use Rattle.shard_boxes.specs.declared.limits.TheConstants.{MOST_KEPT}
+use Rattle.item_shards.specs.Events.{Event, AddItem, ListItem, Bid, Comment, Buy, Look}
+use Rattle.item_shards.specs.Values.{Value}
+use Rattle.shard_boxes.specs.{Limits.{SumsFit}, Lines.{Line, after_line}}
 use Rattle.shard_boxes.specs.States.{ShardState, IsWithin}
-use Rattle.shard_boxes.specs.Lines.{Line, after_line}
-use Rattle.shard_boxes.specs.Limits.{SumsFit}
+use Rattle.shard_boxes.specs.declared.limits.TheConstants.{MOST_KEPT}
 
 -- counts of at most n, and ratings of at most r away from 0
 record WithinBy (n r : ℕ) (contents : Contents) : Type 0 where

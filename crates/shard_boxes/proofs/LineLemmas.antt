@@ -1,17 +1,14 @@
 -- A list that is longer by a line, and what a lawful list says.
 use Rattle.std.proofs.Common.{◌≡◌, ◌≢◌, ℕ, ◌<◌, ◌≤◌, ◌==◌, cond, List, [], ◌∷◌, ◌++◌, length, map, Option, Some, None, refl, sym, ap, ◌∙◌, subst, arith, eq-eqb, ne_eqb}
+use Rattle.std.proofs.lemmas.List.{Elements.{filter-append}, append-nil, map-append}
 use Rattle.std.specs.List.{AllByRecursion}
-use Rattle.std.proofs.lemmas.List.{append-nil, map-append}
-use Rattle.std.proofs.lemmas.List.Elements.{filter-append}
-use Rattle.phase_laws.specs.Numbers.{IsLinkedFrom}
-use Rattle.phase_laws.specs.Order.{IsAscendingByNumber, part}
+use Rattle.phase_laws.specs.{Numbers.{IsLinkedFrom}, Order.{IsAscendingByNumber, part}}
 use Rattle.phase_laws.specs.Replay.{SawInTurn}
-use Rattle.shard_boxes.specs.States.{ShardState, state_at, IsWithin, IsInitial}
-use Rattle.shard_boxes.specs.Lines.{Line, acts_in, after_line, after_lines, lines_of, AreTrueOf, MayFollow, IsShardHistory}
+use Rattle.shard_boxes.{proofs.LimitLemmas.{line_within}, specs.Helds.{MayPut}}
 use Rattle.shard_boxes.specs.Keys.{added, entries}
-use Rattle.shard_boxes.specs.Helds.{MayPut}
+use Rattle.shard_boxes.specs.Lines.{Line, acts_in, after_line, after_lines, lines_of, AreTrueOf, MayFollow, IsShardHistory}
+use Rattle.shard_boxes.specs.States.{ShardState, state_at, IsWithin, IsInitial}
 use Rattle.shard_boxes.specs.inner.Rule.{AreLawful, IsLawfulList}
-use Rattle.shard_boxes.proofs.LimitLemmas.{line_within}
 
 after-push : (o : ShardState) (lines : List (ℕ × Line)) (e : ℕ × Line) → after_lines o (lines ++ e ∷ []) ≡ after_line (after_lines o lines) e.1
 after-push o [] e = refl

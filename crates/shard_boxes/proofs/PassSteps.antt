@@ -1,19 +1,16 @@
 -- A pass that is split, or united with another, keeps the rule of a box.
 use Rattle.std.proofs.Common.{◌≡◌, ◌≢◌, ℕ, suc, ◌+◌, ◌-◌, ◌<◌, ◌≤◌, true, false, true≢false, cond, ltb, ◌==◌, ◌⊎◌, inl, inr, ⊎_elim, List, [], ◌∷◌, ◌++◌, length, set, get_or, sym, refl, ap, ◌∙◌, subst, arith, eq-eqb, ne_eqb, lt_of_not-le, length-append}
-use Rattle.std.proofs.Math.ListN.{get_or-append}
-use Rattle.std.proofs.Math.Seq.{get_or-append_right}
+use Rattle.std.proofs.Math.{ListN.{get_or-append}, Seq.{get_or-append_right}}
 use mathlib.Core.Option.{some, some-injective}
 use native.Mathlib.Decide.{dec_le}
 use lib.ListN.{get_elem?}
-use Rattle.crossbeam_queue.specs.Fifo.{Forks, Merges}
-use Rattle.crossbeam_queue.proofs.Lists.{at_longer, set_else}
+use Rattle.crossbeam_queue.{proofs.Lists.{at_longer, set_else}, specs.Fifo.{Forks, Merges}}
 use Rattle.item_shards.specs.declared.shard.Shard.{Shard}
+use Rattle.shard_boxes.proofs.BoxSteps.{Each, at_snoc_index, both_ways, each_set, tail_at, length-tail, length-head, head_at, plus_zero}
+use Rattle.shard_boxes.specs.{Lines.{Line, lines_of, StartsWith}, Passes.{Speaks}}
 use Rattle.shard_boxes.specs.declared.shard_box.Knowledge.{Knowledge}
-use Rattle.shard_boxes.specs.Lines.{Line, lines_of, StartsWith}
-use Rattle.shard_boxes.specs.Passes.{Speaks}
 use Rattle.shard_boxes.specs.inner.Rule.{BoxState, FitsBox, IsIn, IsOut, BoxRule}
 use Rattle.shard_boxes.specs.inner.Steps.{head_of, tail_of, first_of, rest_of, longer, joined, spent}
-use Rattle.shard_boxes.proofs.BoxSteps.{Each, at_snoc_index, both_ways, each_set, tail_at, length-tail, length-head, head_at, plus_zero}
 
 pub other_number : (n m : ℕ) → n ≢ m → (n == m) ≡ false
 other_number n m ne = ne_eqb n m ne

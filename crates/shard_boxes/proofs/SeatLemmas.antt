@@ -1,8 +1,8 @@
 -- What a key shows of each shard after a take and a put.
 use Rattle.std.proofs.Common.{◌≡◌, ◌≢◌, ℕ, ◌<◌, true, List, length, Option}
 use Rattle.std.proofs.lemmas.List.{get_or-set_same, get_or-set_other, length-set}
-use Rattle.shard_boxes.specs.Lines.{Line}
 use Rattle.shard_boxes.specs.Keys.{KeyState, SeatState, no_seat, seat_at, with_seat, taking, putting, put_seat}
+use Rattle.shard_boxes.specs.Lines.{Line}
 
 pub seat-same : (key : KeyState) (s : ℕ) (seat : SeatState) → s < length key.seats → seat_at (with_seat key s seat) s ≡ seat
 seat-same key s seat below = get_or-set_same key.seats s seat no_seat below

@@ -1,13 +1,12 @@
 -- What a new shard shows.
 use Rattle.std.proofs.Common.{ℕ, ◌+◌, ◌*◌, ◌≤◌, sym, subst, arith, unsigned_abs}
 use Rattle.std.proofs.lemmas.Int.{ints}
-use Rattle.auction_rows.specs.declared.values.Opening.{Opening}
 use Rattle.auction_rows.specs.declared.requests.Object.TheVariants.{Item, User}
+use Rattle.auction_rows.specs.declared.values.Opening.{Opening}
+use Rattle.item_shards.specs.{ShardContents.{clock, IsNewShard}, Values.{Value}}
 use Rattle.item_shards.specs.declared.shard.Shard.{Shard}
-use Rattle.item_shards.specs.ShardContents.{clock, IsNewShard}
-use Rattle.item_shards.specs.Values.{Value}
-use Rattle.shard_boxes.specs.declared.limits.TheConstants.{MOST_KEPT}
 use Rattle.shard_boxes.specs.States.{state_of, IsInitial}
+use Rattle.shard_boxes.specs.declared.limits.TheConstants.{MOST_KEPT}
 
 -- a new shard may open a phase
 pub new_is_opened : (n count : ℕ) (start : Opening) (shard : Shard) → IsNewShard n count start shard → IsInitial count n (state_of shard)

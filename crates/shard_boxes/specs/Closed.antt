@@ -1,8 +1,7 @@
 -- What closed boxes give.
 use Rattle.std.specs.Prelude.{◌≡◌, ℕ, ◌<◌, List, length, false}
-use Rattle.shard_boxes.specs.States.{ShardState, state_at}
-use Rattle.shard_boxes.specs.Lines.{Line, IsShardHistory, lines_of}
 use Rattle.shard_boxes.specs.Keys.{BoxId, KeyState, key_at, lines_at, holds_at}
+use Rattle.shard_boxes.specs.{Lines.{Line, IsShardHistory, lines_of}, States.{ShardState, state_at}}
 
 -- the key is this worker's, to these boxes, and holds no shard: it may be given back
 pub record IsSpent (boxes : List BoxId) (worker : ℕ) (key : KeyState) : Type 0 where

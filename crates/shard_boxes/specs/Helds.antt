@@ -1,12 +1,12 @@
 -- A shard that is held.
-use Rattle.std.specs.Prelude.{◌≡◌, ◌<◌, ℕ, List, Option, Some, None, refl}
 use Rattle.std.specs.Coded.{Coded, code_by, coded×, coded_ℕ}
+use Rattle.std.specs.Prelude.{◌≡◌, ◌<◌, ℕ, List, Option, Some, None, refl}
 use Rattle.item_shards.specs.declared.shard.Shard.{Shard}
 use Rattle.item_shards.specs.contracts.shard.Shard.{the_row as shard_row}
+use Rattle.shard_boxes.specs.Keys.{KeyState, seen_at}
+use Rattle.shard_boxes.specs.Lines.{Line, after_lines, after_line, seen_line, MayFollow}
 use Rattle.shard_boxes.specs.States.{ShardState, state_at}
 use Rattle.shard_boxes.specs.declared.line.Line.{Line as MadeLine}
-use Rattle.shard_boxes.specs.Lines.{Line, after_lines, after_line, seen_line, MayFollow}
-use Rattle.shard_boxes.specs.Keys.{KeyState, seen_at}
 
 -- what a held shard shows
 pub record HeldState : Type 0 where

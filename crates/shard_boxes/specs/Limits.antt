@@ -1,9 +1,8 @@
 -- How far acts can raise counts and ratings.
-use Rattle.std.specs.Prelude.{◌+◌, ◌<◌, ◌^◌, ◌+ℤ◌, FitsSigned, ⊤}
-use Rattle.std.specs.Int.{w64}
+use Rattle.std.specs.{Int.{w64}, Prelude.{◌+◌, ◌<◌, ◌^◌, ◌+ℤ◌, FitsSigned, ⊤}}
 use Rattle.auction_rows.specs.declared.requests.Object.TheVariants.{Item, User}
-use Rattle.item_shards.specs.Events.{Event, AddItem, ListItem, Bid, Comment, Buy, Look}
 use Rattle.item_shards.specs.Contents.{Contents}
+use Rattle.item_shards.specs.Events.{Event, AddItem, ListItem, Bid, Comment, Buy, Look}
 
 -- the sums that an act makes fit their types
 abbrev pub SumsFit : Contents → Event → Type 0

@@ -1,21 +1,16 @@
 -- The lines that transactions leave with a shard, and the shard that they make.
-use Rattle.std.specs.Prelude.{◌≡◌, ℕ, ◌<◌, List, [], ◌∷◌, ◌++◌, length, map, Option, Some, None}
 use Rattle.std.specs.List.{AllByRecursion}
-use Rattle.phase_laws.specs.Numbers.{IsLinkedFrom}
-use Rattle.phase_laws.specs.Order.{IsAscendingByNumber, part}
+use Rattle.std.specs.Prelude.{◌≡◌, ℕ, ◌<◌, List, [], ◌∷◌, ◌++◌, length, map, Option, Some, None}
+use Rattle.phase_laws.specs.{Numbers.{IsLinkedFrom}, Order.{IsAscendingByNumber, part}}
 use Rattle.phase_laws.specs.Replay.{SawInTurn}
 use Rattle.auction_rows.specs.declared.{requests.ItemId.ItemId, requests.BidEntry.BidEntry, replies.Refusal.Refusal}
-use Rattle.item_shards.specs.declared.shard.acts.Act.{Act}
-use Rattle.item_shards.specs.declared.shard.acts.Act.TheVariants.{Bid, Look}
+use Rattle.item_shards.specs.{Contents.{Contents, after_act, after_acts}, Events.{Event}}
+use Rattle.item_shards.specs.{Looking.{IsTrueAct, events_of}, Writing.{first_act, second_act}}
+use Rattle.item_shards.specs.declared.shard.{Shard.{Shard}, acts.Act.{TheVariants.{Bid, Look}, Act}}
 use Rattle.item_shards.specs.declared.shard.acts.Look.TheVariants as look
-use Rattle.item_shards.specs.Events.{Event}
-use Rattle.item_shards.specs.declared.shard.Shard.{Shard}
-use Rattle.item_shards.specs.Looking.{IsTrueAct, events_of}
-use Rattle.item_shards.specs.Contents.{Contents, after_act, after_acts}
 use Rattle.item_shards.specs.ShardContents.{clock as clock_of, contents as contents_of}
-use Rattle.item_shards.specs.Writing.{first_act, second_act}
-use Rattle.shard_boxes.specs.declared.line.Line.{Line as MadeLine}
 use Rattle.shard_boxes.specs.States.{ShardState, state_at, IsWithin}
+use Rattle.shard_boxes.specs.declared.line.Line.{Line as MadeLine}
 
 -- the two acts of a line, as they were done: a place that is left has a look at nothing
 pub record Acts : Type 0 where

@@ -1,9 +1,8 @@
 -- What a grant shows: the box that it is for, and what its pass knows.
 use Rattle.std.specs.Prelude.{◌≡◌, ◌<◌, true, length, Option, Some, None}
 use Rattle.item_shards.specs.declared.shard.Shard.{Shard}
+use Rattle.shard_boxes.specs.{Keys.{BoxId}, States.{ShardState, state_of, no_shard}}
 use Rattle.shard_boxes.specs.declared.shard_box.Knowledge.{Knowledge}
-use Rattle.shard_boxes.specs.States.{ShardState, state_of, no_shard}
-use Rattle.shard_boxes.specs.Keys.{BoxId}
 
 -- what a grant shows
 pub record GrantState : Type 0 where

@@ -1,9 +1,7 @@
 -- What a key shows, of its grants.
 use Rattle.std.specs.Prelude.{◌≡◌, ℕ, ◌<◌, List, [], map, length, slice_index_or}
-use Rattle.shard_boxes.specs.Keys.{BoxId, SeatState, KeyState}
-use Rattle.shard_boxes.specs.Lines.{Line}
-use Rattle.shard_boxes.specs.States.{ShardState, state_at}
-use Rattle.shard_boxes.specs.Passes.{start_of, GrantState}
+use Rattle.shard_boxes.specs.{Keys.{BoxId, SeatState, KeyState}, Lines.{Line}}
+use Rattle.shard_boxes.specs.{Passes.{start_of, GrantState}, States.{ShardState, state_at}}
 use Rattle.shard_boxes.specs.declared.shard_box.Knowledge.{Knowledge}
 
 -- the lines of the first worker for whom the pass speaks

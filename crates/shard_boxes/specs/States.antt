@@ -1,10 +1,8 @@
 -- What a shard shows.
 use Rattle.std.specs.Prelude.{◌≡◌, ℕ, ◌+◌, ◌*◌, ◌<◌, ◌≤◌, List, length, slice_index_or, unsigned_abs}
-use Rattle.auction_rows.specs.declared.{values.Opening.Opening, requests.ItemId.ItemId}
 use Rattle.auction_rows.specs.declared.requests.Object.TheVariants.{Item, User}
-use Rattle.item_shards.specs.declared.shard.Shard.{Shard}
-use Rattle.item_shards.specs.Values.{blank}
-use Rattle.item_shards.specs.Contents.{Contents}
+use Rattle.auction_rows.specs.declared.{values.Opening.Opening, requests.ItemId.ItemId}
+use Rattle.item_shards.specs.{Contents.{Contents}, Values.{blank}, declared.shard.Shard.{Shard}}
 use Rattle.item_shards.specs.ShardContents.{shard_number, shard_count, opening as opening_of, clock as clock_of, contents as contents_of}
 use Rattle.shard_boxes.specs.declared.limits.TheConstants.{MOST_KEPT}
 

@@ -1,9 +1,9 @@
 //! The name of a phase and its boxes, and how a worker takes a shard and puts it back.
 ghost use Rattle.std.specs.Prelude.{◌≡◌, ◌<◌, length, true, Some, option_map};
-ghost use Rattle.shard_boxes.specs.States.{state_of};
-ghost use Rattle.shard_boxes.specs.Lines.{lines_of, seen_line, StartsWith, IsShardHistory};
-ghost use Rattle.shard_boxes.specs.Keys.{taking, putting, lines_at, seen_at, holds_at, HoldsNoneFrom};
 ghost use Rattle.shard_boxes.specs.Helds.{taken_at, MayGoBack, MayPut};
+ghost use Rattle.shard_boxes.specs.Keys.{taking, putting, lines_at, seen_at, holds_at, HoldsNoneFrom};
+ghost use Rattle.shard_boxes.specs.Lines.{lines_of, seen_line, StartsWith, IsShardHistory};
+ghost use Rattle.shard_boxes.specs.States.{state_of};
 
 use crate::key::{Held, Key};
 use crate::line::{Line, Trace};
@@ -45,8 +45,7 @@ pub struct Boxes<N: PhaseName> {
 impl<N: PhaseName> Model for Boxes<N> {
     ghost use Rattle.std.specs.Prelude.{◌≡◌, ◌<◌, ◌≤◌, List, length, vec_len, vec_capacity};
     ghost use Rattle.auction_rows.specs.declared.limits.TheConstants.{MOST_SHARDS};
-    ghost use Rattle.shard_boxes.specs.States.{AreInitial};
-    ghost use Rattle.shard_boxes.specs.Keys.{BoxId};
+    ghost use Rattle.shard_boxes.specs.{Keys.{BoxId}, States.{AreInitial}};
 
     ghost Value = { List BoxId };
 

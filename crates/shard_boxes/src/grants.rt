@@ -2,11 +2,10 @@
 //! which the shard is taken, and by which the box can open for another phase. All memory is asked
 //! for before the first shard lies in its box.
 ghost use Rattle.std.specs.Prelude.{◌≡◌, ◌+◌, ◌-◌, ◌<◌, ◌≤◌, ◌^◌, ℕ, length, map, slice_index_or, vec_len, vec_capacity, IfOk, IfErr, ◌∷◌, false};
-ghost use Rattle.shard_boxes.specs.States.{state_of, AreInitial, state_at};
-ghost use Rattle.shard_boxes.specs.Keys.{IsNewKey, AreNewKeys, KeyState, lines_at, holds_at};
-ghost use Rattle.shard_boxes.specs.inner.Grants.{AreSpare, AreNewGrants, AreFree, own_at, IsTaken};
-ghost use Rattle.shard_boxes.specs.Passes.{GrantState};
 ghost use Rattle.shard_boxes.specs.Closed.{AreClosed, AreSpent};
+ghost use Rattle.shard_boxes.specs.Keys.{IsNewKey, AreNewKeys, KeyState, lines_at, holds_at};
+ghost use Rattle.shard_boxes.specs.{Passes.{GrantState}, States.{state_of, AreInitial, state_at}};
+ghost use Rattle.shard_boxes.specs.inner.Grants.{AreSpare, AreNewGrants, AreFree, own_at, IsTaken};
 
 use crate::boxes::{Boxes, PhaseName};
 use crate::key::Key;

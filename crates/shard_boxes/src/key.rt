@@ -1,26 +1,23 @@
 //! A worker's right to take the shards of a phase, a shard out of its box, and what it allows.
-ghost use Rattle.std.specs.Prelude.{◌≡◌, ◌+◌, ◌<◌, ◌≤◌, ◌^◌, ◌↔◌, ◌∷◌, [], ℕ, true, false, length, max, IsNone};
 ghost use Rattle.std.specs.Borrow.{Lends, sem};
+ghost use Rattle.std.specs.Prelude.{◌≡◌, ◌+◌, ◌<◌, ◌≤◌, ◌^◌, ◌↔◌, ◌∷◌, [], ℕ, true, false, length, max, IsNone};
 ghost use Rattle.phase_laws.specs.Replay.{SawInTurn};
 ghost use Rattle.auction_rows.specs.ItemViews.{item_told};
 ghost use Rattle.auction_rows.specs.declared.requests.Object.TheVariants.{Item};
-ghost use Rattle.item_shards.specs.contracts.shard.Shard.{the_row as shard_row};
-ghost use Rattle.item_shards.specs.Events.{Event};
 ghost use Rattle.item_shards.specs.Acting.{CanDo};
 ghost use Rattle.item_shards.specs.Answering.{bid_request, refusal_with, stock_needed, HasItemOf};
-ghost use Rattle.item_shards.specs.CommitNumbers.{last_number, next_number};
-ghost use Rattle.item_shards.specs.Contents.{after_act};
-ghost use Rattle.item_shards.specs.ShardContents.{clock, contents, LiesIn};
-ghost use Rattle.item_shards.specs.Values.{stock};
-ghost use Rattle.item_shards.specs.Views.{item_view};
-ghost use Rattle.shard_boxes.specs.States.{state_of, ShardState, IsWithin, AreInitial};
-ghost use Rattle.shard_boxes.specs.Lines.{lines_of, StartsWith, IsShardHistory, after_line, after_lines, bid_acts, line_of, MayFollow};
-ghost use Rattle.shard_boxes.specs.Keys.{taking, putting, lines_at, seen_at, holds_at};
+ghost use Rattle.item_shards.specs.{CommitNumbers.{last_number, next_number}, Contents.{after_act}};
+ghost use Rattle.item_shards.specs.{Events.{Event}, ShardContents.{clock, contents, LiesIn}};
+ghost use Rattle.item_shards.specs.{Values.{stock}, Views.{item_view}};
+ghost use Rattle.item_shards.specs.contracts.shard.Shard.{the_row as shard_row};
 ghost use Rattle.shard_boxes.specs.Helds.{taken_at, MayPut};
-ghost use Rattle.shard_boxes.specs.Passes.{GrantState};
-ghost use Rattle.shard_boxes.specs.inner.Grants.{IsBoxAt, AreFree, own_at};
-ghost use Rattle.shard_boxes.specs.contracts.key.Held.{the_row};
+ghost use Rattle.shard_boxes.specs.Keys.{taking, putting, lines_at, seen_at, holds_at};
 ghost use Rattle.shard_boxes.specs.Limits.{SumsFit};
+ghost use Rattle.shard_boxes.specs.Lines.{lines_of, StartsWith, IsShardHistory, after_line, after_lines, bid_acts, line_of, MayFollow};
+ghost use Rattle.shard_boxes.specs.Passes.{GrantState};
+ghost use Rattle.shard_boxes.specs.States.{state_of, ShardState, IsWithin, AreInitial};
+ghost use Rattle.shard_boxes.specs.contracts.key.Held.{the_row};
+ghost use Rattle.shard_boxes.specs.inner.Grants.{IsBoxAt, AreFree, own_at};
 
 use crate::boxes::PhaseName;
 use crate::line::{LineName, Trace};
@@ -54,8 +51,7 @@ impl<N: PhaseName> Drop for Key<N> {
 impl<N: PhaseName> Model for Key<N> {
     ghost use Rattle.std.specs.Prelude.{◌≡◌, ◌<◌, ◌≤◌, length, vec_len};
     ghost use Rattle.auction_rows.specs.declared.limits.TheConstants.{MOST_SHARDS};
-    ghost use Rattle.shard_boxes.specs.Keys.{KeyState};
-    ghost use Rattle.shard_boxes.specs.Seats.{key_of, AreFor};
+    ghost use Rattle.shard_boxes.specs.{Keys.{KeyState}, Seats.{key_of, AreFor}};
 
     ghost Value = { KeyState };
 

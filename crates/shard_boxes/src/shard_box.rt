@@ -1,11 +1,9 @@
 //! One box, the passes to it, its rule, and what each step of a pass tells.
 ghost use Rattle.std.specs.Prelude.{◌≡◌, ◌≢◌, [], true, false, IfOk, MatchOption};
 ghost use Rattle.ruled_cell.specs.Passes.{view, IsPassOf, IsSamePass, Carries, IsAtRest, KeepsSlot};
-ghost use Rattle.shard_boxes.specs.States.{state_of, IsWithin};
-ghost use Rattle.shard_boxes.specs.Lines.{after_lines};
-ghost use Rattle.shard_boxes.specs.Helds.{MayPut};
-ghost use Rattle.shard_boxes.specs.inner.Grants.{CanUnite};
+ghost use Rattle.shard_boxes.specs.{Helds.{MayPut}, Lines.{after_lines}};
 ghost use Rattle.shard_boxes.specs.Passes.{Speaks, SpeaksForAll, IsSpare, start_of};
+ghost use Rattle.shard_boxes.specs.{States.{state_of, IsWithin}, inner.Grants.{CanUnite}};
 ghost use Rattle.shard_boxes.specs.inner.Steps.{TakenBy, maker, opened, put, first_of, rest_of, joined};
 
 use crate::boxes::PhaseName;
@@ -34,8 +32,7 @@ pub struct Knowledge {
 pub struct OneShard;
 
 impl Protocol<Shard, Knowledge> for OneShard {
-    ghost use Rattle.shard_boxes.specs.inner.Rule.{BoxRule};
-    ghost use Rattle.shard_boxes.specs.inner.Steps.{maker};
+    ghost use Rattle.shard_boxes.specs.inner.{Rule.{BoxRule}, Steps.{maker}};
 
     ghost holds = { BoxRule };
 
@@ -139,8 +136,7 @@ impl Model for Grant {
     ghost use Rattle.std.specs.Coded.{codes};
     ghost use Rattle.item_shards.specs.contracts.shard.Shard as shard;
     ghost use Rattle.ruled_cell.specs.Passes.{Carries};
-    ghost use Rattle.shard_boxes.specs.Passes.{GrantState};
-    ghost use Rattle.shard_boxes.specs.inner.GrantViews.{grant_of};
+    ghost use Rattle.shard_boxes.specs.{Passes.{GrantState}, inner.GrantViews.{grant_of}};
 
     ghost Value = { GrantState };
 

@@ -1,24 +1,18 @@
 -- How many commits there are, and how many are still to come.
 use Rattle.std.proofs.Common.{◌≡◌, ℕ, zero, suc, ◌+◌, ◌<◌, ◌≤◌, ◌==◌, Bool, true, false, not, cond, List, [], ◌∷◌, ◌++◌, length, map, take, get_or, refl, sym, ap, ◌∙◌, arith, eqb-true}
-use Rattle.std.specs.List.{filter, AllByRecursion}
-use Rattle.std.proofs.Math.Numerals.{add-one}
-use Rattle.std.proofs.Math.Seq.{take-suc}
+use Rattle.std.proofs.Math.{Numerals.{add-one}, Seq.{take-suc}}
 use Rattle.std.proofs.lemmas.Bool.{cond-true, cond-false, eqb-false, ne_eqb}
-use Rattle.std.proofs.lemmas.List.{length-append, length-map}
-use Rattle.job_threads.specs.declared.fault.JobFault.{JobFault}
+use Rattle.std.{proofs.lemmas.List.{length-append, length-map}, specs.List.{filter, AllByRecursion}}
+use Rattle.job_threads.specs.{Threads.{IsUnstarted}, declared.fault.JobFault.{JobFault}}
 use Rattle.job_threads.specs.declared.fault.JobFault.TheVariants.{Spawn, Memory}
-use Rattle.job_threads.specs.Threads.{IsUnstarted}
-use Rattle.split_engine.specs.Faults.{IsRunFault, fault_of_jobs}
-use Rattle.phase_laws.proofs.ReplayLemmas.{filter_all}
-use Rattle.split_engine.specs.declared.entry.Entry.{Entry}
-use Rattle.split_engine.specs.declared.state.Cursor.{Cursor}
-use Rattle.split_engine.specs.Rules.{Rules}
-use Rattle.split_engine.specs.declared.state.TheConstants.{MOST_COMMITS}
-use Rattle.split_engine.specs.Serial.{IsWithin}
+use Rattle.split_engine.{proofs.Sessions.{long_before}, specs.Faults.{IsRunFault, fault_of_jobs}}
+use Rattle.split_engine.specs.{Rules.{Rules}, Serial.{IsWithin}}
 use Rattle.split_engine.specs.Serving.{calls_before, call_of, entries_of, total, IsScript, AreScripts}
-use Rattle.split_engine.specs.inner.Phases.{is_taken, split_calls, put_off, HasStashed, HasServed, HaveServed, IsRunState, AllFinished}
+use Rattle.split_engine.specs.declared.{entry.Entry.{Entry}, state.Cursor.{Cursor}}
+use Rattle.split_engine.specs.declared.state.TheConstants.{MOST_COMMITS}
 use Rattle.split_engine.specs.inner.Assignments.{Assignment, assignments, HasDone, left_of, all_left}
-use Rattle.split_engine.proofs.Sessions.{long_before}
+use Rattle.split_engine.specs.inner.Phases.{is_taken, split_calls, put_off, HasStashed, HasServed, HaveServed, IsRunState, AllFinished}
+use Rattle.phase_laws.proofs.ReplayLemmas.{filter_all}
 
 -- ---- scripts
 

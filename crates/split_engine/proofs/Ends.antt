@@ -1,15 +1,11 @@
 -- Where a run begins and ends.
 use Rattle.std.proofs.Common.{◌≡◌, ℕ, zero, suc, ◌+◌, ◌*◌, ◌<◌, ◌≤◌, List, [], ◌∷◌, ◌++◌, length, take, set, get_or, refl, sym, ap, ◌∙◌, subst, arith}
-use Rattle.std.proofs.Math.Numerals.{add-one}
-use Rattle.std.proofs.Math.Seq.{take-suc}
-use Rattle.std.specs.List.{AllByRecursion}
-use Rattle.split_engine.specs.declared.few.TheConstants.{MOST_KEYS}
-use Rattle.split_engine.specs.declared.entry.Entry.{Entry}
-use Rattle.split_engine.specs.declared.state.Cursor.{Cursor}
-use Rattle.split_engine.specs.Rules.{Rules}
+use Rattle.std.{proofs.Math.{Numerals.{add-one}, Seq.{take-suc}}, specs.List.{AllByRecursion}}
+use Rattle.split_engine.{proofs.Sessions.{order_at_first}, specs.Rules.{Rules}}
 use Rattle.split_engine.specs.Serving.{calls_before, count, Serves, AllServe, IsOutcome}
+use Rattle.split_engine.specs.declared.{entry.Entry.{Entry}, few.TheConstants.{MOST_KEYS}}
+use Rattle.split_engine.specs.declared.state.Cursor.{Cursor}
 use Rattle.split_engine.specs.inner.Phases.{HasServed, HaveServed, IsRunState, AreFresh, AllFinished}
-use Rattle.split_engine.proofs.Sessions.{order_at_first}
 
 module _ {Request : Type 0} where
   pub finished_push : (ss : List (List Request)) (ds : List (Cursor Request)) (s : List Request) (d : Cursor Request) →

@@ -1,15 +1,12 @@
 -- Slices that are kept, and a slice of each record.
 use Rattle.std.proofs.Common.{◌≡◌, ℕ, zero, suc, ◌+◌, ◌<◌, ◌≤◌, ◌==◌, nat_lt, Bool, true, false, List, [], ◌∷◌, ◌++◌, length, replicate, take, drop, set, get_or, refl, sym, ap, ◌∙◌, subst, arith, eqb-true, true≢false}
-use Rattle.std.specs.Prelude.{◌&&◌}
-use Rattle.std.proofs.Math.Numerals.{add-one}
-use Rattle.std.proofs.Math.Seq.{drop-cons}
+use Rattle.std.proofs.Math.{Numerals.{add-one}, Seq.{drop-cons}}
 use Rattle.std.proofs.lemmas.Bool.{eqb-false, eq-eqb, ltb-true, ltb-false, lt-ltb, and_parts, cond-true, cond-false}
-use Rattle.std.proofs.lemmas.List.{length-set, length-append}
-use Rattle.std.specs.List.{AllByRecursion}
-use Rattle.split_engine.specs.Rules.{Rules, SplitLaws}
-use Rattle.split_engine.specs.inner.Kept.{is_at, AreKept, kept, spread_from, spread}
+use Rattle.std.{proofs.lemmas.List.{length-set, length-append}, specs.List.{AllByRecursion}}
+use Rattle.std.specs.Prelude.{◌&&◌}
+use Rattle.split_engine.{proofs.Works.{all_at}, specs.Rules.{Rules, SplitLaws}}
 use Rattle.split_engine.specs.Splitting.{after_slice_act, merged_all}
-use Rattle.split_engine.proofs.Works.{all_at}
+use Rattle.split_engine.specs.inner.Kept.{is_at, AreKept, kept, spread_from, spread}
 
 -- ---- lists, place by place
 

@@ -1,16 +1,11 @@
 -- Lines of a history, and marks of their requests.
 use Rattle.std.proofs.Common.{◌≡◌, ℕ, zero, suc, ◌==◌, Bool, true, false, List, [], ◌∷◌, ◌++◌, length, set, replicate, Some, refl, sym, ap, ◌∙◌, subst, append_assoc, append-nil, eqb-true}
-use Rattle.std.specs.Prelude.{slice_get, ◌&&◌, ◌||◌}
-use Rattle.std.specs.List.{AllByRecursion}
-use Rattle.std.specs.Option.{option_map}
-use Rattle.std.proofs.lemmas.Bool.{eq-eqb, eqb-false, ne_eqb}
-use Rattle.std.proofs.lemmas.List.Sums.{fold-append}
-use Rattle.std.proofs.lemmas.Option.{none-some, same_Some}
-use Rattle.split_engine.specs.declared.referee.Line.{Line}
-use Rattle.split_engine.specs.Rules.{Rules}
-use Rattle.split_engine.specs.Serving.{request_at}
-use Rattle.split_engine.specs.inner.Marking.{no_marks, AreMarks}
+use Rattle.std.proofs.lemmas.{Bool.{eq-eqb, eqb-false, ne_eqb}, List.Sums.{fold-append}}
+use Rattle.std.{proofs.lemmas.Option.{none-some, same_Some}, specs.List.{AllByRecursion}}
+use Rattle.std.specs.{Option.{option_map}, Prelude.{slice_get, ◌&&◌, ◌||◌}}
 use Rattle.split_engine.specs.Checking.{has_line, IsRightLine, after_line, after_lines, lines_replay}
+use Rattle.split_engine.specs.{Rules.{Rules}, Serving.{request_at}, declared.referee.Line.{Line}}
+use Rattle.split_engine.specs.inner.Marking.{no_marks, AreMarks}
 
 -- ---- requests
 

@@ -1,11 +1,8 @@
 -- Marks, row after row.
-use Rattle.std.specs.declared.alloc.Global.{Global}
-use Rattle.std.specs.Prelude.{Vec, slice_get}
 use Rattle.std.proofs.Common.{◌≡◌, ℕ, zero, suc, ◌+◌, ◌<◌, false, List, [], ◌∷◌, ◌++◌, length, replicate, take, set, get_or, Some, refl, sym, ap, ◌∙◌, arith}
-use Rattle.std.proofs.Math.Numerals.{add-one}
-use Rattle.std.proofs.lemmas.Option.{none-some}
-use Rattle.split_engine.specs.Serving.{lists, request_at}
-use Rattle.split_engine.specs.inner.Marking.{no_marks}
+use Rattle.std.proofs.{Math.Numerals.{add-one}, lemmas.Option.{none-some}}
+use Rattle.std.specs.{Prelude.{Vec, slice_get}, declared.alloc.Global.{Global}}
+use Rattle.split_engine.specs.{Serving.{lists, request_at}, inner.Marking.{no_marks}}
 
 -- a vector is set in a list of vectors
 pub lists_set : {X : Type 0} (vs : List (Vec X Global)) (k : ℕ) (v : Vec X Global) → lists (set vs k v) ≡ set (lists vs) k v.items

@@ -1,17 +1,12 @@
 -- In which order a worker's commits stand.
 use Rattle.std.proofs.Common.{◌≡◌, ℕ, zero, suc, ◌+◌, ◌<◌, ◌≤◌, ◌⊎◌, inl, inr, Bool, true, not, List, [], ◌∷◌, ◌++◌, length, map, Option, None, Some, refl, sym, ap, ◌∙◌, subst, arith}
-use Rattle.std.specs.Prelude.{slice_get}
-use Rattle.std.specs.List.{filter, AllByRecursion}
-use Rattle.std.specs.Option.{option_map, option_to_list}
-use Rattle.phase_laws.specs.Order.{IsOrderedBy}
+use Rattle.std.{proofs.lemmas.List.{length-append}, specs.List.{filter, AllByRecursion}}
+use Rattle.std.specs.{Option.{option_map, option_to_list}, Prelude.{slice_get}}
 use Rattle.phase_laws.proofs.ListLemmas.{all-both, all-append, all-right, ordered-append, all-any}
 use Rattle.phase_laws.proofs.OrderLemmas.{all-filter, all-weaker, ordered-filter, ordered-weaker, ordered_from_map, all-from_map}
-use Rattle.std.proofs.lemmas.List.{length-append}
-use Rattle.phase_laws.specs.Order.{part}
-use Rattle.split_engine.specs.declared.entry.Entry.{Entry}
-use Rattle.split_engine.specs.declared.state.Cursor.{Cursor}
-use Rattle.split_engine.specs.Rules.{Rules}
-use Rattle.split_engine.specs.Serving.{calls_before, call_of, IsInTurn}
+use Rattle.phase_laws.specs.Order.{IsOrderedBy, part}
+use Rattle.split_engine.specs.{Rules.{Rules}, Serving.{calls_before, call_of, IsInTurn}}
+use Rattle.split_engine.specs.declared.{entry.Entry.{Entry}, state.Cursor.{Cursor}}
 use Rattle.split_engine.specs.inner.Phases.{InOrder, HasStashed}
 
 abbrev Ascends : {Q : Type 0} → List (ℕ × Q) → Type 0

@@ -1,15 +1,12 @@
 -- Split phases, for any application that meets the laws.
 use Rattle.std.proofs.Common.{◌≡◌, ℕ, zero, suc, ◌+◌, ◌*◌, ◌<◌, ◌≤◌, true, min, List, [], ◌∷◌, length, get_or, replicate, drop, fold, refl, sym, ap, ◌∙◌, subst, arith}
-use Rattle.std.specs.List.{zip, AllByRecursion}
-use Rattle.std.proofs.Math.ListN.{drop_of_length-le}
-use Rattle.std.proofs.Math.Nat.{le-min}
-use Rattle.std.proofs.lemmas.List.{length-set, length-replicate}
-use Rattle.split_engine.specs.declared.entry.Decision.{Decision}
-use Rattle.split_engine.specs.declared.entry.Entry.{Entry}
-use Rattle.split_engine.specs.declared.few.TheConstants.{MOST_KEYS}
+use Rattle.std.proofs.Math.{ListN.{drop_of_length-le}, Nat.{le-min}}
+use Rattle.std.{proofs.lemmas.List.{length-set, length-replicate}, specs.List.{zip, AllByRecursion}}
 use Rattle.split_engine.specs.Rules.{Rules, SplitLaws, looks_in}
 use Rattle.split_engine.specs.Serial.{record_at, after_act, after_acts, looks_at, decision, acts_at, after_entry, ReplaysFrom, table_after}
 use Rattle.split_engine.specs.Splitting.{Interleaves, Neither, First, Second, InterleavesAll, all_merged, IsSplitEntry, after_slice_act, after_slice_acts, after_split, slices_of, merged_all}
+use Rattle.split_engine.specs.declared.entry.{Decision.{Decision}, Entry.{Entry}}
+use Rattle.split_engine.specs.declared.few.TheConstants.{MOST_KEYS}
 
 -- what holds of all of an interleaving holds of both lists
 pub all_of_first : {X : Type 0} (P : X → Type 0) {xs ys zs : List X} → Interleaves xs ys zs → AllByRecursion P zs → AllByRecursion P xs

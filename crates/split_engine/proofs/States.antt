@@ -1,31 +1,25 @@
 -- What phases leave of where the workers stand.
 use Rattle.std.proofs.Common.{◌≡◌, ℕ, zero, suc, ◌+◌, ◌*◌, ◌<◌, ◌≤◌, ◌==◌, Bool, true, false, not, cond, List, [], ◌∷◌, ◌++◌, length, map, get_or, set, drop, refl, sym, ap, ◌∙◌, subst, arith, append_assoc}
-use Rattle.std.specs.declared.alloc.Global.{Global}
-use Rattle.std.specs.Prelude.{slice_get, Vec, Result, Ok, Err, IfOk}
-use Rattle.std.specs.List.{filter, AllByRecursion, AllZip}
+use Rattle.std.proofs.{Math.Numerals.{add-one}, lemmas.Bool.{eq-eqb, ne_eqb}}
+use Rattle.std.proofs.lemmas.List.{Elements.{filter-append}, append-nil, map-append, length-append}
+use Rattle.std.{proofs.lemmas.List.Sums.{fold-append}, specs.List.{filter, AllByRecursion, AllZip}}
 use Rattle.std.specs.Option.{option_map, option_to_list}
-use Rattle.std.proofs.Math.Numerals.{add-one}
-use Rattle.std.proofs.lemmas.Bool.{eq-eqb, ne_eqb}
-use Rattle.std.proofs.lemmas.List.{append-nil, map-append, length-append}
-use Rattle.std.proofs.lemmas.List.Elements.{filter-append}
-use Rattle.std.proofs.lemmas.List.Sums.{fold-append}
+use Rattle.std.specs.Prelude.{slice_get, Vec, Result, Ok, Err, IfOk}
+use Rattle.std.specs.declared.alloc.Global.{Global}
+use Rattle.phase_laws.proofs.{ListLemmas.{all-right}, OrderLemmas.{all-filter, all-weaker}}
 use Rattle.phase_laws.specs.Order.{part}
-use Rattle.phase_laws.proofs.ListLemmas.{all-right}
-use Rattle.phase_laws.proofs.OrderLemmas.{all-filter, all-weaker}
-use Rattle.split_engine.specs.declared.few.TheConstants.{MOST_KEYS}
-use Rattle.split_engine.specs.declared.entry.Entry.{Entry}
-use Rattle.split_engine.specs.declared.state.Cursor.{Cursor}
+use Rattle.split_engine.proofs.Counts.{left-append}
+use Rattle.split_engine.proofs.Sessions.{order_same, order_turned, order_worked}
+use Rattle.split_engine.proofs.{Splits.{replay, opened_merged}, Works.{all_both, replays_both}}
 use Rattle.split_engine.specs.Rules.{Rules, SplitLaws}
 use Rattle.split_engine.specs.Serial.{IsWithin, after_entry, ReplaysFrom, table_after}
-use Rattle.split_engine.specs.Splitting.{Interleaves, Neither, First, Second, InterleavesAll, IsSplitEntry, slices_of, merged_all, all_merged}
-use Rattle.split_engine.specs.inner.Commits.{joined}
 use Rattle.split_engine.specs.Serving.{lists, calls_before, call_of, calls_of, count, IsScript}
-use Rattle.split_engine.specs.inner.Phases.{is_taken, split_calls, put_off, HasStashed, HasServed, HaveServed, HasTurned, IsRunState}
+use Rattle.split_engine.specs.Splitting.{Interleaves, Neither, First, Second, InterleavesAll, IsSplitEntry, slices_of, merged_all, all_merged}
+use Rattle.split_engine.specs.declared.{entry.Entry.{Entry}, few.TheConstants.{MOST_KEYS}}
+use Rattle.split_engine.specs.declared.state.Cursor.{Cursor}
 use Rattle.split_engine.specs.inner.Assignments.{Assignment, assignment, assignments, left_of, HasDone, HaveDone, HasClosed}
-use Rattle.split_engine.proofs.Splits.{replay, opened_merged}
-use Rattle.split_engine.proofs.Counts.{left-append}
-use Rattle.split_engine.proofs.Works.{all_both, replays_both}
-use Rattle.split_engine.proofs.Sessions.{order_same, order_turned, order_worked}
+use Rattle.split_engine.specs.inner.Commits.{joined}
+use Rattle.split_engine.specs.inner.Phases.{is_taken, split_calls, put_off, HasStashed, HasServed, HaveServed, HasTurned, IsRunState}
 
 second_alone : {X : Type 0} (ys : List X) → Interleaves [] ys ys
 second_alone [] = Neither

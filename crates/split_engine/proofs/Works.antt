@@ -1,17 +1,12 @@
 -- What a worker leaves, call by call.
 use Rattle.std.proofs.Common.{◌≡◌, ℕ, zero, suc, ◌+◌, ◌<◌, Bool, true, false, not, cond, List, [], ◌∷◌, ◌++◌, length, take, get_or, append_assoc, Some, refl, sym, ap, ◌∙◌, subst, arith}
-use Rattle.std.specs.Prelude.{slice_get}
-use Rattle.std.specs.List.{filter, AllByRecursion}
-use Rattle.std.specs.Option.{option_map, option_to_list}
-use Rattle.std.proofs.Math.Numerals.{add-one}
-use Rattle.std.proofs.Math.Seq.{take-suc}
-use Rattle.std.proofs.lemmas.List.{append-nil, map-append}
-use Rattle.std.proofs.lemmas.List.Elements.{filter-append}
-use Rattle.std.proofs.lemmas.List.Sums.{fold-append}
-use Rattle.split_engine.specs.declared.entry.Entry.{Entry}
+use Rattle.std.proofs.Math.{Numerals.{add-one}, Seq.{take-suc}}
+use Rattle.std.proofs.lemmas.List.{Elements.{filter-append}, append-nil, map-append}
+use Rattle.std.{proofs.lemmas.List.Sums.{fold-append}, specs.List.{filter, AllByRecursion}}
+use Rattle.std.specs.{Option.{option_map, option_to_list}, Prelude.{slice_get}}
 use Rattle.split_engine.specs.Rules.{Rules}
 use Rattle.split_engine.specs.Serial.{next, reply, after_entry, ReplaysFrom, table_after}
-use Rattle.split_engine.specs.Serving.{calls_before, call_of}
+use Rattle.split_engine.specs.{Serving.{calls_before, call_of}, declared.entry.Entry.{Entry}}
 use Rattle.split_engine.specs.inner.Commits.{commit}
 use Rattle.split_engine.specs.inner.Phases.{is_taken, split_calls, put_off, HasPerformedOnSlices, HasPerformed}
 

@@ -1,12 +1,10 @@
 -- What the referee finds of a history that is given as lines.
-use Rattle.std.specs.Prelude.{◌≡◌, ℕ, ◌==◌, ◌&&◌, Bool, true, false, List, [], ◌∷◌, ◌++◌, Option, Some, None, fold, take, slice_get, ⊤}
 use Rattle.std.specs.List.{list_any}
-use Rattle.split_engine.specs.declared.referee.Line.{Line}
+use Rattle.std.specs.Prelude.{◌≡◌, ℕ, ◌==◌, ◌&&◌, Bool, true, false, List, [], ◌∷◌, ◌++◌, Option, Some, None, fold, take, slice_get, ⊤}
+use Rattle.split_engine.specs.{Rules.{Rules}, Serial.{reply, next}, Serving.{request_at}}
 use Rattle.split_engine.specs.declared.referee.HistoryFault.{HistoryFault}
 use Rattle.split_engine.specs.declared.referee.HistoryFault.TheVariants.{Wrong, Lacking, Memory}
-use Rattle.split_engine.specs.Rules.{Rules}
-use Rattle.split_engine.specs.Serial.{reply, next}
-use Rattle.split_engine.specs.Serving.{request_at}
+use Rattle.split_engine.specs.declared.referee.Line.{Line}
 
 -- whether one of some lines has this request
 abbrev pub has_line : {R : Type 0} → List (Line R) → ℕ → ℕ → Bool

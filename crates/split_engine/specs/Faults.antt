@@ -2,14 +2,11 @@
 use Rattle.std.specs.Prelude.{◌≡◌, ℕ, ◌+◌, ◌<◌, List, length, Some, ⊤}
 use Rattle.job_threads.specs.declared.fault.JobFault.{JobFault}
 use Rattle.job_threads.specs.declared.fault.JobFault.TheVariants as job
-use Rattle.split_engine.specs.declared.fault.RunFault.{RunFault}
-use Rattle.split_engine.specs.declared.fault.RunFault.TheVariants.{Spawn, Memory}
+use Rattle.split_engine.specs.{Rules.{Rules}, Serial.{IsWithin}, Serving.{total, request_at}}
+use Rattle.split_engine.specs.declared.fault.RunFault.{TheVariants.{Spawn, Memory}, RunFault}
 use Rattle.split_engine.specs.declared.scripts.ScriptFault.{ScriptFault}
 use Rattle.split_engine.specs.declared.scripts.ScriptFault.TheVariants.{TooLong, NoSuchKey}
 use Rattle.split_engine.specs.declared.state.TheConstants.{MOST_COMMITS}
-use Rattle.split_engine.specs.Rules.{Rules}
-use Rattle.split_engine.specs.Serial.{IsWithin}
-use Rattle.split_engine.specs.Serving.{total, request_at}
 
 -- a run's fault, if its jobs have this one
 abbrev pub fault_of_jobs : JobFault → RunFault

@@ -1,6 +1,6 @@
 -- What an application says of its records and requests, and what its user proves of that.
-use Rattle.std.specs.Prelude.{◌≡◌, ℕ, suc, ◌+◌, ◌≤◌, Bool, true, List, slice_index_or}
 use Rattle.std.specs.List.{AllByRecursion}
+use Rattle.std.specs.Prelude.{◌≡◌, ℕ, suc, ◌+◌, ◌≤◌, Bool, true, List, slice_index_or}
 use Rattle.split_engine.specs.declared.entry.Decision.{Decision}
 
 -- The model of an application.

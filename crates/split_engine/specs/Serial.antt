@@ -1,10 +1,9 @@
 -- One thread: what a request is answered, and what it leaves.
-use Rattle.std.specs.Prelude.{◌≡◌, ℕ, ◌<◌, List, slice_index_or, slice_set, map, fold}
 use Rattle.std.specs.List.{zip, AllByRecursion}
+use Rattle.std.specs.Prelude.{◌≡◌, ℕ, ◌<◌, List, slice_index_or, slice_set, map, fold}
 use Rattle.phase_laws.specs.Replay.{Replays}
-use Rattle.split_engine.specs.declared.entry.Decision.{Decision}
+use Rattle.split_engine.specs.{Rules.{Rules, looks_in}, declared.entry.Decision.{Decision}}
 use Rattle.split_engine.specs.declared.entry.Entry.{Entry}
-use Rattle.split_engine.specs.Rules.{Rules, looks_in}
 
 module _ {Record Slice Look Request Reply Act : Type 0}
     (rules : Rules Record Slice Look Request Reply Act) where

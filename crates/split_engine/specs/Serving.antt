@@ -1,13 +1,11 @@
 -- What a run makes of workers' scripts.
-use Rattle.std.specs.declared.alloc.Global.{Global}
+use Rattle.std.specs.{List.{filter, AllByRecursion}, Option.{option_map, option_to_list}}
 use Rattle.std.specs.Prelude.{◌≡◌, ℕ, zero, suc, ◌+◌, Bool, true, List, [], ◌∷◌, ◌++◌, ◌<◌, ◌≤◌, map, length, Option, slice_get, unwrap_or, Vec, ⊤, ◌⊎◌}
-use Rattle.std.specs.List.{filter, AllByRecursion}
-use Rattle.std.specs.Option.{option_map, option_to_list}
+use Rattle.std.specs.declared.alloc.Global.{Global}
 use Rattle.phase_laws.specs.Order.{part, IsOrderedBy}
-use Rattle.split_engine.specs.declared.entry.Entry.{Entry}
-use Rattle.split_engine.specs.declared.state.TheConstants.{MOST_COMMITS}
 use Rattle.split_engine.specs.Rules.{Rules, index_end}
 use Rattle.split_engine.specs.Serial.{ReplaysFrom, table_after, IsWithin}
+use Rattle.split_engine.specs.declared.{entry.Entry.{Entry}, state.TheConstants.{MOST_COMMITS}}
 
 -- the lists in a list of vectors
 abbrev pub lists : {X : Type 0} → List (Vec X Global) → List (List X)

@@ -1,10 +1,8 @@
 -- A split phase: workers act on slices of their own, which are merged.
-use Rattle.std.specs.Prelude.{◌≡◌, ◌≤◌, ℕ, List, [], ◌∷◌, true, length, replicate, slice_index_or, slice_set, fold}
 use Rattle.std.specs.List.{AllByRecursion}
-use Rattle.split_engine.specs.declared.entry.Entry.{Entry}
-use Rattle.split_engine.specs.Rules.{Rules}
-use Rattle.split_engine.specs.declared.few.TheConstants.{MOST_KEYS}
-use Rattle.split_engine.specs.Serial.{decision, acts_at, reply, IsWithin}
+use Rattle.std.specs.Prelude.{◌≡◌, ◌≤◌, ℕ, List, [], ◌∷◌, true, length, replicate, slice_index_or, slice_set, fold}
+use Rattle.split_engine.specs.{Rules.{Rules}, Serial.{decision, acts_at, reply, IsWithin}}
+use Rattle.split_engine.specs.declared.{entry.Entry.{Entry}, few.TheConstants.{MOST_KEYS}}
 
 -- the third list has the elements of two others, those of each in order
 pub data Interleaves {X : Type 0} : List X → List X → List X → Type 0 where

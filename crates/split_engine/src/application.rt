@@ -1,6 +1,5 @@
 //! What a user of the engine gives.
-ghost use Rattle.std.specs.Prelude.{◌≡◌, ℕ, ◌+◌, ◌<◌, ◌≤◌, true, length};
-ghost use Rattle.std.specs.List.{AllByRecursion};
+ghost use Rattle.std.specs.{List.{AllByRecursion}, Prelude.{◌≡◌, ℕ, ◌+◌, ◌<◌, ◌≤◌, true, length}};
 ghost use Rattle.split_engine.specs.Rules.{most_acts, looks_in};
 
 use crate::entry::Decision;

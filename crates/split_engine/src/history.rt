@@ -1,6 +1,5 @@
 //! The commits of a run.
-ghost use Rattle.std.specs.Prelude.{◌≡◌, ◌++◌, ◌∷◌, ◌≤◌, [], length, OnOk};
-ghost use Rattle.std.specs.List.{flat_map};
+ghost use Rattle.std.specs.{List.{flat_map}, Prelude.{◌≡◌, ◌++◌, ◌∷◌, ◌≤◌, [], length, OnOk}};
 
 use crate::entry::Entry;
 use crate::state::MOST_COMMITS;
@@ -17,8 +16,7 @@ pub struct History<Q, R> {
 }
 
 impl<Q, R> Model for History<Q, R> {
-    ghost use Rattle.std.specs.Prelude.{List};
-    ghost use Rattle.std.specs.List.{flat_map};
+    ghost use Rattle.std.specs.{List.{flat_map}, Prelude.{List}};
     ghost use Rattle.split_engine.specs.declared.entry.Entry.{Entry as Commit};
 
     ghost Value = { List (Commit Q R) };

@@ -1,12 +1,11 @@
 //! Joined phases: requests are performed on the table itself, worker after worker.
-ghost use Rattle.std.specs.Prelude.{◌≡◌, ◌++◌, ◌∷◌, [], ℕ, suc, ◌+◌, ◌*◌, ◌<◌, ◌≤◌, List, length, OnOk};
 ghost use Rattle.std.specs.List.{zip, AllByRecursion};
-ghost use Rattle.split_engine.specs.declared.entry.Entry.{Entry as Commit};
+ghost use Rattle.std.specs.Prelude.{◌≡◌, ◌++◌, ◌∷◌, [], ℕ, suc, ◌+◌, ◌*◌, ◌<◌, ◌≤◌, List, length, OnOk};
 ghost use Rattle.split_engine.specs.Rules.{most_acts, most_before, index_end};
 ghost use Rattle.split_engine.specs.Serial.{IsWithin, after_act, after_acts, next, reply};
-ghost use Rattle.split_engine.specs.Serving.{lists, total, IsScript};
-ghost use Rattle.split_engine.specs.inner.Commits.{commit};
+ghost use Rattle.split_engine.specs.{Serving.{lists, total, IsScript}, inner.Commits.{commit}};
 ghost use Rattle.split_engine.specs.inner.Phases.{HasPerformed, HasServed, HasStashed, HasTurned, IsRunState, AllFinished};
+ghost use Rattle.split_engine.specs.declared.entry.Entry.{Entry as Commit};
 
 use crate::application::Application;
 use crate::entry::Entry;

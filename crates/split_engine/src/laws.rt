@@ -1,9 +1,8 @@
 //! Why split phases replay, for every application.
-ghost use Rattle.std.specs.Prelude.{◌≡◌, ◌++◌, ℕ, List};
-ghost use Rattle.std.specs.List.{AllByRecursion};
-ghost use Rattle.split_engine.specs.declared.entry.Entry.{Entry as Commit};
+ghost use Rattle.std.specs.{List.{AllByRecursion}, Prelude.{◌≡◌, ◌++◌, ℕ, List}};
 ghost use Rattle.split_engine.specs.Serial.{ReplaysFrom, table_after};
 ghost use Rattle.split_engine.specs.Splitting.{InterleavesAll, IsSplitEntry, all_merged};
+ghost use Rattle.split_engine.specs.declared.entry.Entry.{Entry as Commit};
 
 use crate::application::Application;
 

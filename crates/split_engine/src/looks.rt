@@ -1,6 +1,5 @@
 //! What requests see.
-ghost use Rattle.std.specs.Prelude.{◌≡◌, ◌<◌, length};
-ghost use Rattle.std.specs.List.{AllByRecursion};
+ghost use Rattle.std.specs.{List.{AllByRecursion}, Prelude.{◌≡◌, ◌<◌, length}};
 ghost use Rattle.split_engine.specs.Serial.{looks_at};
 
 use crate::application::Application;

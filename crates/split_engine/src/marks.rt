@@ -1,7 +1,6 @@
 //! Marks: of each request of some scripts, whether a line of a history had it.
 ghost use Rattle.std.specs.Prelude.{◌≡◌, ◌<◌, ℕ, Bool, true, false, Some, [], List, length, slice_get, slice_set, IfOk, MatchOption};
-ghost use Rattle.split_engine.specs.Serving.{lists, request_at};
-ghost use Rattle.split_engine.specs.inner.Marking.{no_marks};
+ghost use Rattle.split_engine.specs.{Serving.{lists, request_at}, inner.Marking.{no_marks}};
 
 use std::alloc::{AllocError, Global};
 

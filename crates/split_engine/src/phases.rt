@@ -1,14 +1,13 @@
 //! Split phases: each worker's part on a thread of its own, and what they leave taken in.
-ghost use Rattle.std.specs.Prelude.{◌≡◌, ℕ, ◌+◌, ◌*◌, ◌<◌, ◌≤◌, ◌++◌, ◌∷◌, [], List, length, map, IfOk, IfErr};
 ghost use Rattle.std.specs.List.{AllByRecursion, AllZip};
+ghost use Rattle.std.specs.Prelude.{◌≡◌, ℕ, ◌+◌, ◌*◌, ◌<◌, ◌≤◌, ◌++◌, ◌∷◌, [], List, length, map, IfOk, IfErr};
+ghost use Rattle.split_engine.specs.Faults.{IsRunFault};
+ghost use Rattle.split_engine.specs.Rules.{most_acts, most_before, index_end};
+ghost use Rattle.split_engine.specs.{Serving.{lists, total, IsScript}, Splitting.{merged_all}};
+ghost use Rattle.split_engine.specs.inner.Assignments.{Assignment, assignment, assignments, all_left, CanDo, HasDone, HasClosed};
+ghost use Rattle.split_engine.specs.inner.Phases.{HaveServed, IsRunState};
 ghost use Rattle.split_engine.specs.declared.entry.Entry.{Entry as Commit};
 ghost use Rattle.split_engine.specs.declared.state.Cursor.{Cursor as CursorValue};
-ghost use Rattle.split_engine.specs.Rules.{most_acts, most_before, index_end};
-ghost use Rattle.split_engine.specs.Splitting.{merged_all};
-ghost use Rattle.split_engine.specs.Serving.{lists, total, IsScript};
-ghost use Rattle.split_engine.specs.Faults.{IsRunFault};
-ghost use Rattle.split_engine.specs.inner.Phases.{HaveServed, IsRunState};
-ghost use Rattle.split_engine.specs.inner.Assignments.{Assignment, assignment, assignments, all_left, CanDo, HasDone, HasClosed};
 
 use crate::application::Application;
 use crate::fault::RunFault;

@@ -1,11 +1,10 @@
 //! The referee: judges a history of an application on one thread.
-ghost use Rattle.std.specs.Prelude.{◌≡◌, ℕ, true, false, Some, None, MatchOption, ◌+◌, ◌*◌, ◌<◌, ◌≤◌, ◌++◌, ◌∷◌, [], List, length, IfOk, IfErr};
 ghost use Rattle.std.specs.List.{AllByRecursion};
-ghost use Rattle.split_engine.specs.declared.referee.Line.{Line as LineValue};
-ghost use Rattle.split_engine.specs.Rules.{most_acts};
-ghost use Rattle.split_engine.specs.Serving.{lists, request_at, IsScript};
+ghost use Rattle.std.specs.Prelude.{◌≡◌, ℕ, true, false, Some, None, MatchOption, ◌+◌, ◌*◌, ◌<◌, ◌≤◌, ◌++◌, ◌∷◌, [], List, length, IfOk, IfErr};
 ghost use Rattle.split_engine.specs.Checking.{IsRightLine, after_line, after_lines, IsHistory, IsHistoryFault};
+ghost use Rattle.split_engine.specs.{Rules.{most_acts}, Serving.{lists, request_at, IsScript}};
 ghost use Rattle.split_engine.specs.inner.Marking.{AreMarks};
+ghost use Rattle.split_engine.specs.declared.referee.Line.{Line as LineValue};
 
 use crate::application::Application;
 use crate::few::MOST_KEYS;

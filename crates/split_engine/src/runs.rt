@@ -1,9 +1,8 @@
 //! Runs of workers' scripts: joined and split phases in turn.
-ghost use Rattle.std.specs.Prelude.{◌≡◌, ℕ, true, ◌+◌, ◌*◌, ◌<◌, ◌≤◌, List, length, IfOk, IfErr};
 ghost use Rattle.std.specs.List.{AllByRecursion};
-ghost use Rattle.split_engine.specs.Rules.{most_before, index_end};
+ghost use Rattle.std.specs.Prelude.{◌≡◌, ℕ, true, ◌+◌, ◌*◌, ◌<◌, ◌≤◌, List, length, IfOk, IfErr};
+ghost use Rattle.split_engine.specs.{Faults.{IsRunFault}, Rules.{most_before, index_end}};
 ghost use Rattle.split_engine.specs.Serving.{lists, total, IsScript, AreScripts, IsOutcome};
-ghost use Rattle.split_engine.specs.Faults.{IsRunFault};
 ghost use Rattle.split_engine.specs.inner.Phases.{IsRunState, AreFresh, AllFinished};
 
 use crate::application::Application;

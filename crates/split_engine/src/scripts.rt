@@ -1,9 +1,8 @@
 //! Whether scripts can be run.
-ghost use Rattle.std.specs.Prelude.{◌≡◌, ◌+◌, ◌<◌, ◌≤◌, true, false, Some, MatchOption, length, slice_get, IfOk, IfErr};
 ghost use Rattle.std.specs.List.{AllByRecursion};
-ghost use Rattle.split_engine.specs.Serial.{IsWithin};
+ghost use Rattle.std.specs.Prelude.{◌≡◌, ◌+◌, ◌<◌, ◌≤◌, true, false, Some, MatchOption, length, slice_get, IfOk, IfErr};
+ghost use Rattle.split_engine.specs.{Faults.{IsScriptFault}, Serial.{IsWithin}};
 ghost use Rattle.split_engine.specs.Serving.{lists, total, AreScripts};
-ghost use Rattle.split_engine.specs.Faults.{IsScriptFault};
 
 use crate::application::Application;
 use crate::few::Few;

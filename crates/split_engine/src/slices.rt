@@ -1,9 +1,8 @@
 //! A worker's slices in a split phase.
-ghost use Rattle.std.specs.Prelude.{◌≡◌, ℕ, suc, ◌+◌, ◌<◌, ◌≤◌, true, length, replicate, slice_index_or, IfOk, IfErr, OnOk};
 ghost use Rattle.std.specs.List.{AllByRecursion};
-ghost use Rattle.split_engine.specs.Rules.{most_acts};
+ghost use Rattle.std.specs.Prelude.{◌≡◌, ℕ, suc, ◌+◌, ◌<◌, ◌≤◌, true, length, replicate, slice_index_or, IfOk, IfErr, OnOk};
+ghost use Rattle.split_engine.specs.{Rules.{most_acts}, Splitting.{after_slice_act, merged_all}};
 ghost use Rattle.split_engine.specs.inner.Kept.{AreKept, spread};
-ghost use Rattle.split_engine.specs.Splitting.{after_slice_act, merged_all};
 
 use crate::application::Application;
 use crate::hints::Guesses;

@@ -1,11 +1,11 @@
 //! A worker's part of a split phase.
-ghost use Rattle.std.specs.Prelude.{◌≡◌, ℕ, ◌+◌, ◌*◌, ◌<◌, ◌≤◌, ◌++◌, ◌∷◌, [], List, true, length, IfOk, OnOk};
 ghost use Rattle.std.specs.List.{zip, list_all, AllByRecursion};
+ghost use Rattle.std.specs.Prelude.{◌≡◌, ℕ, ◌+◌, ◌*◌, ◌<◌, ◌≤◌, ◌++◌, ◌∷◌, [], List, true, length, IfOk, OnOk};
 ghost use Rattle.split_engine.specs.Rules.{most_acts};
 ghost use Rattle.split_engine.specs.Serial.{IsWithin, acts_at, decision, reply};
 ghost use Rattle.split_engine.specs.Splitting.{after_slice_acts};
-ghost use Rattle.split_engine.specs.inner.Phases.{is_hot, is_taken, HasPerformedOnSlices, IsUnused};
 ghost use Rattle.split_engine.specs.inner.Assignments.{assignment, CanDo, HasDone};
+ghost use Rattle.split_engine.specs.inner.Phases.{is_hot, is_taken, HasPerformedOnSlices, IsUnused};
 
 use crate::application::Application;
 use crate::entry::Entry;

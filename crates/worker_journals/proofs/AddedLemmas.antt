@@ -1,13 +1,12 @@
 -- What a phase adds to a history.
 use Rattle.std.proofs.Common.{◌≡◌, ℕ, List, ◌++◌, sym, ap, ◌∙◌, subst}
-use Rattle.std.specs.List.{AllByRecursion}
-use Rattle.std.proofs.Math.Seq.{drop-append_seam}
+use Rattle.std.{proofs.Math.Seq.{drop-append_seam}, specs.List.{AllByRecursion}}
 use Rattle.phase_laws.specs.Order.{IsAscending, part}
-use Rattle.worker_journals.specs.Journals.{JournalView, entry_number, entry_worker, IsLawfulJournal}
-use Rattle.worker_journals.specs.Merged.{merged, entries_of, added, AreByWorker}
-use Rattle.worker_journals.specs.Histories.{HistoryView, with_phase}
 use Rattle.worker_journals.proofs.HistoryLemmas.{closed_merged}
 use Rattle.worker_journals.proofs.MergedLemmas.{merged_ascends, merged_parts}
+use Rattle.worker_journals.specs.Histories.{HistoryView, with_phase}
+use Rattle.worker_journals.specs.Journals.{JournalView, entry_number, entry_worker, IsLawfulJournal}
+use Rattle.worker_journals.specs.Merged.{merged, entries_of, added, AreByWorker}
 
 module _ (old new : HistoryView) (journals : List JournalView) (is : new ≡ with_phase old journals) where
   -- the merged entries of its journals

@@ -1,12 +1,9 @@
 -- The requests of heads, where they lie.
 use Rattle.std.proofs.Common.{◌≡◌, ◌<◌, ◌∙◌, ℕ, zero, suc, List, [], ◌∷◌, ◌++◌, Some, length, slice_get, refl, ap, subst, arith, length-append}
-use Rattle.std.proofs.lemmas.List.{length-map}
-use Rattle.std.proofs.lemmas.Option.{none-some, same_Some, slice_get-map}
-use Rattle.std.specs.Prelude.{option_map, unwrap_or}
-use Rattle.std.specs.List.{AllByRecursion}
+use Rattle.std.proofs.lemmas.{List.{length-map}, Option.{none-some, same_Some, slice_get-map}}
+use Rattle.std.specs.{List.{AllByRecursion}, Prelude.{option_map, unwrap_or}}
 use Rattle.auction_rows.specs.declared.requests.Request.{Request}
-use Rattle.worker_journals.specs.declared.asked.Asked.{Asked}
-use Rattle.worker_journals.specs.declared.asked.Asked.TheVariants.{Kept, Own}
+use Rattle.worker_journals.specs.declared.asked.Asked.{TheVariants.{Kept, Own}, Asked}
 use Rattle.worker_journals.specs.declared.heads.Head.{Head}
 use Rattle.worker_journals.specs.inner.Asked.{CanKeep, HasRequestAt, HaveRequests, IsWithin, asked_at, no_request, request_at, requests_of, room_of, with_request}
 

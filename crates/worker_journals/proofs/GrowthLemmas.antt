@@ -1,20 +1,20 @@
 -- One more commit: what the heads before it say stays.
 use Rattle.std.proofs.Common.{◌≡◌, ◌<◌, ◌≤◌, ◌+◌, ℕ, List, [], ◌∷◌, ◌++◌, map, length, take, drop, refl, sym, ap, ◌∙◌, subst, arith, length-append, length-drop}
-use Rattle.std.specs.List.{AllByRecursion}
 use Rattle.std.proofs.lemmas.List.{get_or_append_left, drop-append-le, take-append-le, map-append, length-map}
+use Rattle.std.specs.List.{AllByRecursion}
 use Rattle.phase_laws.proofs.OrderLemmas.{all_push, all-weaker}
-use Rattle.auction_rows.specs.declared.{replies.Reply.Reply, rows.Entry.Entry}
-use Rattle.auction_rows.specs.declared.replies.Reply.TheVariants.{BidsSeen, CategorySeen}
-use Rattle.worker_journals.specs.declared.heads.ShortReply.{ShortReply}
-use Rattle.worker_journals.specs.declared.heads.ShortReply.TheVariants as told
-use Rattle.auction_rows.specs.declared.requests.Request.{Request}
-use Rattle.worker_journals.specs.inner.HeadLists.{AskedHead, IsHeadOf}
-use Rattle.worker_journals.specs.Journals.{JournalView, IsOfScript, ComesAfter, IsLawfulJournal, closed_journal, seen, with_commit}
 use Rattle.auction_rows.specs.ItemViews.{item_reply}
-use Rattle.worker_journals.specs.Shown.{ShownLists, shown_in}
-use Rattle.worker_journals.specs.inner.Sides.{SideLists, reply_from, HasReply, SaysReply, with_reply_of, with_shown, user_reply}
-use Rattle.worker_journals.specs.inner.Entries.{entry_from, HasHead, shown, IsKept}
+use Rattle.auction_rows.specs.declared.replies.Reply.TheVariants.{BidsSeen, CategorySeen}
+use Rattle.auction_rows.specs.declared.requests.Request.{Request}
+use Rattle.auction_rows.specs.declared.{replies.Reply.Reply, rows.Entry.Entry}
 use Rattle.worker_journals.proofs.JournalLemmas.{lawful_after}
+use Rattle.worker_journals.specs.Journals.{JournalView, IsOfScript, ComesAfter, IsLawfulJournal, closed_journal, seen, with_commit}
+use Rattle.worker_journals.specs.Shown.{ShownLists, shown_in}
+use Rattle.worker_journals.specs.declared.heads.ShortReply.{ShortReply}
+use Rattle.worker_journals.specs.inner.Entries.{entry_from, HasHead, shown, IsKept}
+use Rattle.worker_journals.specs.inner.HeadLists.{AskedHead, IsHeadOf}
+use Rattle.worker_journals.specs.inner.Sides.{SideLists, reply_from, HasReply, SaysReply, with_reply_of, with_shown, user_reply}
+use Rattle.worker_journals.specs.declared.heads.ShortReply.TheVariants as told
 
 part_stays : {X : Type 0} (xs more : List X) (place count : ℕ) → place + count ≤ length xs →
     take count (drop place (xs ++ more)) ≡ take count (drop place xs)

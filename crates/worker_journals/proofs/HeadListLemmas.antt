@@ -1,8 +1,7 @@
 -- Heads with their requests: how many, one more at the end, each by itself, and those of a script.
 use Rattle.std.proofs.Common.{◌≡◌, ◌<◌, ◌∙◌, ℕ, zero, suc, List, [], ◌∷◌, ◌++◌, map, length, None, Some, refl, ap, arith}
+use Rattle.std.{proofs.lemmas.Option.{none-some}, specs.List.{AllByRecursion}}
 use Rattle.std.specs.Prelude.{slice_get, unwrap_or}
-use Rattle.std.specs.List.{AllByRecursion}
-use Rattle.std.proofs.lemmas.Option.{none-some}
 use Rattle.auction_rows.specs.declared.requests.Request.{Request}
 use Rattle.worker_journals.specs.declared.heads.Head.{Head}
 use Rattle.worker_journals.specs.inner.Asked.{IsWithin, asked_at, no_request}

@@ -1,20 +1,17 @@
 -- Phases, and one more.
 use Rattle.std.proofs.Common.{◌≡◌, ◌<◌, ◌+◌, ◌-◌, ◌==◌, ℕ, zero, suc, List, [], ◌∷◌, ◌++◌, map, length, take, drop, get_or, refl, sym, ap, ◌∙◌, subst, arith, append_assoc, length-append, length-drop, set}
-use Rattle.std.specs.Prelude.{None, Some, slice_get}
-use Rattle.std.specs.Global.{Vec}
-use Rattle.std.specs.List.{AllByRecursion, flat_map}
 use Rattle.std.proofs.lemmas.List.{append-nil, map-append, take_more, take_more_set, drop-set-lt, get_or-drop}
-use Rattle.std.proofs.lemmas.List.Elements.{filter-append}
-use Rattle.phase_laws.specs.Order.{part}
-use Rattle.phase_laws.proofs.OrderLemmas.{all_push}
+use Rattle.std.{proofs.lemmas.List.Elements.{filter-append}, specs.Global.{Vec}}
+use Rattle.std.specs.{List.{AllByRecursion, flat_map}, Prelude.{None, Some, slice_get}}
+use Rattle.phase_laws.{proofs.OrderLemmas.{all_push}, specs.Order.{part}}
 use Rattle.auction_rows.specs.declared.rows.Entry.{Entry}
-use Rattle.worker_journals.specs.Journals.{JournalView, entry_worker, closed_journal, IsLawfulJournal}
-use Rattle.worker_journals.specs.Merged.{merged, in_order, entries_of, entry_count, AreByWorker}
-use Rattle.worker_journals.specs.Histories.{HistoryView, ArePhase, with_phase}
-use Rattle.worker_journals.specs.inner.Phases.{IsHistory, entries_in, journals_of, last_of, shown}
-use Rattle.worker_journals.specs.inner.Places.{first_entries, own_left}
 use Rattle.worker_journals.proofs.MergedLemmas.{all_entries, merged_parts, merged_count}
 use Rattle.worker_journals.proofs.StepLemmas.{drop_one}
+use Rattle.worker_journals.specs.Histories.{HistoryView, ArePhase, with_phase}
+use Rattle.worker_journals.specs.Journals.{JournalView, entry_worker, closed_journal, IsLawfulJournal}
+use Rattle.worker_journals.specs.Merged.{merged, in_order, entries_of, entry_count, AreByWorker}
+use Rattle.worker_journals.specs.inner.Phases.{IsHistory, entries_in, journals_of, last_of, shown}
+use Rattle.worker_journals.specs.inner.Places.{first_entries, own_left}
 
 -- Closed journals.
 

@@ -1,9 +1,7 @@
 -- One more commit at the end of a journal.
 use Rattle.std.proofs.Common.{◌<◌, ℕ, List, [], ◌∷◌, ◌++◌}
-use Rattle.phase_laws.specs.Order.{IsAscendingByNumber}
-use Rattle.phase_laws.specs.Numbers.{last_by}
-use Rattle.phase_laws.proofs.OrderLemmas.{all_push}
-use Rattle.phase_laws.proofs.NumberLemmas.{ascending_push}
+use Rattle.phase_laws.proofs.{NumberLemmas.{ascending_push}, OrderLemmas.{all_push}}
+use Rattle.phase_laws.specs.{Numbers.{last_by}, Order.{IsAscendingByNumber}}
 use Rattle.auction_rows.specs.declared.rows.Entry.{Entry}
 use Rattle.worker_journals.specs.Journals.{JournalView, entry_number, seen, ComesAfter, IsOf, IsLawfulJournal}
 

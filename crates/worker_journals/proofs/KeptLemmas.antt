@@ -1,13 +1,11 @@
 -- Loops that put the values of a list at the end of another one.
 use Rattle.std.proofs.Common.{◌≡◌, ℕ, zero, suc, ◌+◌, ◌-◌, ◌*◌, ◌^◌, ◌<◌, ◌≤◌, min, List, [], ◌∷◌, ◌++◌, Some, length, take, take_all, drop, get_or, slice_get, arith, refl, ap, subst, sym, ◌∙◌, append_assoc, length-append}
+use Rattle.std.proofs.lemmas.{List.{length-take, take_more}, Option.{get_or_from_slice_get}}
 use Rattle.std.specs.Prelude.{IsSome}
-use Rattle.std.proofs.lemmas.List.{length-take, take_more}
-use Rattle.std.proofs.lemmas.Option.{get_or_from_slice_get}
 use Rattle.auction_rows.specs.declared.replies.Reply.{Reply}
-use Rattle.worker_journals.specs.declared.heads.ShortReply.{ShortReply}
-use Rattle.request_scripts.specs.ShortRequests.{HasListRoom}
-use Rattle.worker_journals.specs.Shown.{ShownLists}
+use Rattle.worker_journals.specs.{Shown.{ShownLists}, declared.heads.ShortReply.{ShortReply}}
 use Rattle.worker_journals.specs.inner.Sides.{SaysReply}
+use Rattle.request_scripts.specs.ShortRequests.{HasListRoom}
 
 module _ {X : Type 0} (start shown : List X) (place : ℕ) where
   -- one more value is at the end

@@ -1,17 +1,12 @@
 -- No entry is of a worker later than the last.
 use Rattle.std.proofs.Common.{◌≡◌, ◌<◌, ◌≤◌, ◌+◌, ◌∙◌, ℕ, List, [], ◌∷◌, ◌++◌, take, get_or, length, sym, ap, subst}
-use Rattle.std.specs.Global.{Vec}
-use Rattle.std.specs.List.{AllByRecursion}
-use Rattle.std.proofs.lemmas.List.{take_more}
-use Rattle.phase_laws.proofs.OrderLemmas.{all-weaker, all_push}
-use Rattle.phase_laws.proofs.ListLemmas.{all-append}
+use Rattle.std.{proofs.lemmas.List.{take_more}, specs.{Global.{Vec}, List.{AllByRecursion}}}
+use Rattle.phase_laws.proofs.{ListLemmas.{all-append}, OrderLemmas.{all-weaker, all_push}}
 use Rattle.auction_rows.specs.declared.rows.Entry.{Entry}
-use Rattle.worker_journals.specs.Journals.{JournalView, IsLawfulJournal, IsOf}
-use Rattle.worker_journals.specs.Merged.{merged}
+use Rattle.worker_journals.proofs.{MergedLemmas.{all_entries}, OrderedLemmas.{all_in_order}}
 use Rattle.worker_journals.specs.Histories.{ArePhase}
+use Rattle.worker_journals.specs.{Journals.{JournalView, IsLawfulJournal, IsOf}, Merged.{merged}}
 use Rattle.worker_journals.specs.inner.Phases.{entries_in, journals_of}
-use Rattle.worker_journals.proofs.MergedLemmas.{all_entries}
-use Rattle.worker_journals.proofs.OrderedLemmas.{all_in_order}
 
 pub one_more : {X : Type 0} (P : X → Type 0) (xs : List X) (i : ℕ) (x : X) → i < length xs → x ≡ get_or xs i x →
     AllByRecursion P (take i xs) → P x → AllByRecursion P (take (i + 1) xs)

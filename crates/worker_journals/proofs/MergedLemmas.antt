@@ -1,20 +1,16 @@
 -- The entries of several journals, in order.
 use Rattle.std.proofs.Common.{◌≡◌, ◌<◌, ◌==◌, ℕ, List, [], ◌∷◌, ◌++◌, length, refl, sym, ap, ◌∙◌, arith, inl, inr, eq-eqb}
-use Rattle.std.specs.Prelude.{Contains}
-use Rattle.std.specs.List.{AllByRecursion, flat_map}
-use Rattle.std.proofs.lemmas.Bool.{cond-true, cond-false, ne_eqb, cases_eq}
-use Rattle.std.proofs.lemmas.List.{append-nil}
-use Rattle.std.proofs.lemmas.List.Concat.{length-flat_map}
-use Rattle.std.proofs.lemmas.List.Elements.{filter-append}
-use Rattle.std.specs.List.Sorted.{IsPermutation}
-use Rattle.phase_laws.specs.Order.{IsOrderedBy, IsAscending, part}
+use Rattle.std.proofs.lemmas.{Bool.{cond-true, cond-false, ne_eqb, cases_eq}, List.{append-nil}}
+use Rattle.std.proofs.lemmas.List.{Concat.{length-flat_map}, Elements.{filter-append}}
+use Rattle.std.specs.{List.{Sorted.{IsPermutation}, AllByRecursion, flat_map}, Prelude.{Contains}}
+use Rattle.phase_laws.proofs.ListLemmas.{all-append, ordered-append}
 use Rattle.phase_laws.proofs.MemberLemmas.{Contains-nothing, Contains-cases, all-member}
 use Rattle.phase_laws.proofs.OrderLemmas.{all-weaker, ordered-weaker}
-use Rattle.phase_laws.proofs.ListLemmas.{all-append, ordered-append}
+use Rattle.phase_laws.specs.Order.{IsOrderedBy, IsAscending, part}
 use Rattle.auction_rows.specs.declared.rows.Entry.{Entry}
+use Rattle.worker_journals.proofs.OrderedLemmas.{Rises, in_order_ascends, part_own, part_other, part_in_order, length_in_order, in_order_permutes}
 use Rattle.worker_journals.specs.Journals.{JournalView, entry_number, entry_worker, IsOf, IsLawfulJournal}
 use Rattle.worker_journals.specs.Merged.{merged, entries_of, AreByWorker, entry_count}
-use Rattle.worker_journals.proofs.OrderedLemmas.{Rises, in_order_ascends, part_own, part_other, part_in_order, length_in_order, in_order_permutes}
 
 abbrev pub all_entries : List JournalView → List Entry
 all_entries = flat_map (λ journal. journal.entries)

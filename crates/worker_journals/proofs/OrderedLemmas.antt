@@ -1,12 +1,11 @@
 -- Entries in order.
 use Rattle.std.proofs.Common.{◌≡◌, ◌<◌, ◌≤◌, ◌+◌, ◌==◌, ℕ, Bool, true, false, cond, List, [], ◌∷◌, ◌++◌, length, refl, sym, ap, ◌∙◌, subst, arith, inl, inr, eq-eqb}
-use Rattle.std.specs.List.{AllByRecursion}
 use Rattle.std.proofs.lemmas.Bool.{cond-true, cond-false, ne_eqb, cases_eq, cases_Bool}
 use Rattle.std.proofs.lemmas.Bool.Decides.{nat_tests}
-use Rattle.std.specs.List.Sorted.{IsPermutation}
 use Rattle.std.proofs.lemmas.List.Sorted.{IsPermutation-refl, IsPermutation-trans, IsPermutation-cons, IsPermutation-middle}
-use Rattle.phase_laws.specs.Order.{IsOrderedBy, Precedes, IsAscending, part}
+use Rattle.std.specs.List.{Sorted.{IsPermutation}, AllByRecursion}
 use Rattle.phase_laws.proofs.OrderLemmas.{all-weaker, all-cond}
+use Rattle.phase_laws.specs.Order.{IsOrderedBy, Precedes, IsAscending, part}
 use Rattle.auction_rows.specs.declared.rows.Entry.{Entry}
 use Rattle.worker_journals.specs.Journals.{entry_number, entry_worker}
 use Rattle.worker_journals.specs.Merged.{comes_before, put_in, in_order}

@@ -1,14 +1,11 @@
 -- What the entry at a place of a journal is.
 use Rattle.std.proofs.Common.{◌≡◌, ◌<◌, ◌∙◌, ℕ, zero, suc, List, [], ◌∷◌, Some, map, length, slice_get, refl, sym, ap, subst, arith}
-use Rattle.std.specs.List.{AllByRecursion}
-use Rattle.std.proofs.lemmas.Option.{none-some, same_Some}
+use Rattle.std.{proofs.lemmas.Option.{none-some, same_Some}, specs.List.{AllByRecursion}}
 use Rattle.auction_rows.specs.declared.{requests.Request.Request, rows.Entry.Entry}
-use Rattle.worker_journals.specs.declared.heads.Head.{Head}
+use Rattle.worker_journals.specs.{Journals.{IsOf, JournalView}, declared.heads.Head.{Head}}
 use Rattle.worker_journals.specs.inner.Entries.{HasHead, SaysEntry, entry_from, shown}
 use Rattle.worker_journals.specs.inner.HeadLists.{AskedHead, head_in, request_in}
-use Rattle.worker_journals.specs.Journals.{IsOf, JournalView}
-use Rattle.worker_journals.specs.inner.Places.{entry_at}
-use Rattle.worker_journals.specs.inner.Sides.{SideLists}
+use Rattle.worker_journals.specs.inner.{Places.{entry_at}, Sides.{SideLists}}
 
 -- it is of the journal's phase and worker
 pub is_own : (phase worker : ℕ) (entries : List Entry) (place : ℕ) → AllByRecursion (IsOf phase worker) entries → place < length entries →

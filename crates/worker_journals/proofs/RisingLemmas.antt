@@ -1,14 +1,11 @@
 -- Indexes that rise: one more at their end, and two lists of them.
 use Rattle.std.proofs.Common.{◌≡◌, ◌≤◌, ◌+◌, ◌∙◌, ℕ, List, [], ◌∷◌, ◌++◌, map, None, Some, refl, sym, ap, subst, append_assoc}
-use Rattle.std.specs.Prelude.{slice_get}
-use Rattle.std.proofs.lemmas.List.{map-append}
-use Rattle.std.proofs.lemmas.Option.{same_Some}
+use Rattle.std.{proofs.lemmas.{List.{map-append}, Option.{same_Some}}, specs.Prelude.{slice_get}}
 use Rattle.auction_rows.specs.declared.rows.Entry.{Entry}
-use Rattle.worker_journals.specs.declared.heads.Head.{Head}
-use Rattle.worker_journals.specs.inner.HeadLists.{AskedHead, head_in, head_index}
-use Rattle.worker_journals.specs.inner.Entries.{entry_from}
 use Rattle.worker_journals.specs.Journals.{entry_index}
 use Rattle.worker_journals.specs.Rising.{RisesTo, EntriesRiseTo, HasPassed}
+use Rattle.worker_journals.specs.{declared.heads.Head.{Head}, inner.Entries.{entry_from}}
+use Rattle.worker_journals.specs.inner.HeadLists.{AskedHead, head_in, head_index}
 use Rattle.worker_journals.specs.inner.Sides.{SideLists}
 
 rises_further : (a b c : ℕ) (xs ys : List ℕ) → RisesTo a xs b → RisesTo b ys c → RisesTo a (xs ++ ys) c

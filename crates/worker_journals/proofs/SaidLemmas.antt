@@ -1,15 +1,12 @@
 -- What a short reply says of values at the end of the side lists.
 use Rattle.std.proofs.Common.{◌≡◌, ◌≤◌, ℕ, List, [], ◌∷◌, ◌++◌, length, take, take_all, drop, sym, ap, ◌∙◌, arith, length-append}
-use Rattle.std.proofs.lemmas.List.{get_or_push}
-use Rattle.std.proofs.lemmas.List.Prefix.{front_rest}
-use Rattle.auction_rows.specs.declared.limits.TheConstants.{MOST_SHOWN}
-use Rattle.auction_rows.specs.declared.replies.{Reply.Reply, ItemView.ItemView, BidShown.BidShown, ItemShown.ItemShown}
+use Rattle.std.proofs.lemmas.List.{Prefix.{front_rest}, get_or_push}
+use Rattle.auction_rows.specs.{ItemViews.{item_reply}, declared.limits.TheConstants.{MOST_SHOWN}}
 use Rattle.auction_rows.specs.declared.replies.Reply.TheVariants.{ItemStored, BidStored, CommentStored, Bought, ItemSeen, BidsSeen, CategorySeen, UserSeen, Refused}
+use Rattle.auction_rows.specs.declared.replies.{Reply.Reply, ItemView.ItemView, BidShown.BidShown, ItemShown.ItemShown}
+use Rattle.worker_journals.specs.{Shown.{ShownLists, shown_in}, inner.Sides.{SaysReply, item_at}}
 use Rattle.worker_journals.specs.declared.heads.ShortReply.TheVariants as told
 use Rattle.worker_journals.specs.declared.heads.UserSeen.{UserSeen as SeenUser}
-use Rattle.auction_rows.specs.ItemViews.{item_reply}
-use Rattle.worker_journals.specs.Shown.{ShownLists, shown_in}
-use Rattle.worker_journals.specs.inner.Sides.{SaysReply, item_at}
 
 -- where a reply shows an item, it is that item's
 pub only_item : (reply : Reply) (seen : ItemView) → seen ∷ [] ≡ (shown_in reply).items → item_reply seen ≡ reply

@@ -1,17 +1,16 @@
 -- One step of the merging of a phase's journals.
 use Rattle.std.proofs.Common.{◌≡◌, ◌<◌, ◌+◌, ℕ, zero, suc, List, [], ◌∷◌, map, length, take, take_all, drop, get_or, set, refl, sym, ap, ◌∙◌, subst, arith}
-use Rattle.std.specs.Prelude.{Option, None, Some, slice_get, option_map, replicate}
-use Rattle.std.specs.List.{AllByRecursion}
-use Rattle.std.specs.Iterator.{MakesProgress, item_count}
 use Rattle.std.proofs.Math.Seq.{take-set-lt, drop-nil}
 use Rattle.std.proofs.lemmas.List.{length-map, length-replicate, length-set, length-take-le, get_or_read}
 use Rattle.std.proofs.lemmas.Option.{slice_get-map, slice_get_within}
+use Rattle.std.specs.{Iterator.{MakesProgress, item_count}, List.{AllByRecursion}}
+use Rattle.std.specs.Prelude.{Option, None, Some, slice_get, option_map, replicate}
 use Rattle.phase_laws.specs.Order.{IsOrderedBy}
 use Rattle.auction_rows.specs.declared.rows.Entry.{Entry}
+use Rattle.worker_journals.proofs.TakingLemmas.{without_first, first_of, merged_taken, merged_none}
 use Rattle.worker_journals.specs.Journals.{JournalView, entry_number, IsOf, IsLawfulJournal}
 use Rattle.worker_journals.specs.Merged.{merged, AreByWorker}
 use Rattle.worker_journals.specs.inner.Places.{left_of, number_at, first_number, IsLeast, IsLeastOf, AreMerging}
-use Rattle.worker_journals.proofs.TakingLemmas.{without_first, first_of, merged_taken, merged_none}
 
 -- an iterator that gave the first of what was left goes on
 pub goes_on : (can : List Entry → Type 0) → ((l : List Entry) → can l) → (s t : List Entry) (x : Entry) → s ≡ x ∷ t →

@@ -1,17 +1,15 @@
 -- The first of the entries that are left of journals.
 use Rattle.std.proofs.Common.{◌≡◌, ◌<◌, ◌≤◌, ℕ, zero, suc, false, true, List, [], ◌∷◌, ◌++◌, map, length, drop, get_or, refl, sym, ap, ◌∙◌, subst, arith}
+use Rattle.std.specs.{List.{AllByRecursion}, Option.{option_and_then}}
 use Rattle.std.specs.Prelude.{Option, None, Some, slice_get, IfSome}
-use Rattle.std.specs.Option.{option_and_then}
-use Rattle.std.specs.List.{AllByRecursion}
+use Rattle.phase_laws.proofs.{ListLemmas.{all-append}, OrderLemmas.{all-weaker}}
 use Rattle.phase_laws.specs.Order.{IsAscendingByNumber}
-use Rattle.phase_laws.proofs.OrderLemmas.{all-weaker}
-use Rattle.phase_laws.proofs.ListLemmas.{all-append}
 use Rattle.auction_rows.specs.declared.rows.Entry.{Entry}
+use Rattle.worker_journals.proofs.MergedLemmas.{all_entries}
+use Rattle.worker_journals.proofs.OrderedLemmas.{not_before, before_by_number, first_in_order, first_among}
 use Rattle.worker_journals.specs.Journals.{JournalView, entry_number, IsOf, IsLawfulJournal}
 use Rattle.worker_journals.specs.Merged.{comes_before, in_order, merged, AreByWorker}
 use Rattle.worker_journals.specs.inner.Places.{first_number, IsLeast}
-use Rattle.worker_journals.proofs.OrderedLemmas.{not_before, before_by_number, first_in_order, first_among}
-use Rattle.worker_journals.proofs.MergedLemmas.{all_entries}
 
 -- the journals without the first entry of the i-th
 abbrev pub without_first : List JournalView → ℕ → List JournalView

@@ -1,7 +1,6 @@
 -- What a commit is told of its reply.
+use Rattle.auction_rows.specs.{ItemViews.{item_reply}, StoreReplies.{reply_of}}
 use Rattle.auction_rows.specs.declared.replies.Reply.{Reply}
-use Rattle.auction_rows.specs.ItemViews.{item_reply}
-use Rattle.auction_rows.specs.StoreReplies.{reply_of}
 use Rattle.worker_journals.specs.declared.entries.ReplyForm.{ReplyForm}
 use Rattle.worker_journals.specs.declared.entries.ReplyForm.TheVariants.{Store, Item, Whole}
 

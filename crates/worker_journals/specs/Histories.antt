@@ -1,8 +1,6 @@
 -- What a history shows.
-use Rattle.std.specs.Prelude.{◌≤◌, List, [], ◌++◌, length, map}
-use Rattle.std.specs.List.{AllByRecursion}
-use Rattle.auction_rows.specs.declared.limits.TheConstants.{MOST_WORKERS}
-use Rattle.auction_rows.specs.declared.rows.Entry.{Entry}
+use Rattle.std.specs.{List.{AllByRecursion}, Prelude.{◌≤◌, List, [], ◌++◌, length, map}}
+use Rattle.auction_rows.specs.declared.{limits.TheConstants.{MOST_WORKERS}, rows.Entry.{Entry}}
 use Rattle.worker_journals.specs.Journals.{JournalView, IsLawfulJournal, closed_journal}
 use Rattle.worker_journals.specs.Merged.{merged, AreByWorker}
 

@@ -1,8 +1,7 @@
 -- What a worker commits in one phase.
-use Rattle.std.specs.Prelude.{◌≡◌, ℕ, ◌<◌, List, [], ◌∷◌, ◌++◌, Some, length, slice_get, ⊤}
 use Rattle.std.specs.List.{AllByRecursion}
-use Rattle.phase_laws.specs.Order.{IsAscendingByNumber}
-use Rattle.phase_laws.specs.Numbers.{last_by}
+use Rattle.std.specs.Prelude.{◌≡◌, ℕ, ◌<◌, List, [], ◌∷◌, ◌++◌, Some, length, slice_get, ⊤}
+use Rattle.phase_laws.specs.{Numbers.{last_by}, Order.{IsAscendingByNumber}}
 use Rattle.request_scripts.specs.Scripts.{script_at}
 use Rattle.auction_rows.specs.declared.{requests.Request.Request, replies.Reply.Reply, rows.Entry.Entry}
 

@@ -1,7 +1,7 @@
 -- What a reply shows.
 use Rattle.std.specs.Prelude.{List, [], ◌∷◌}
-use Rattle.auction_rows.specs.declared.{replies.Reply.Reply, replies.ItemView.ItemView, replies.BidShown.BidShown, replies.ItemShown.ItemShown}
 use Rattle.auction_rows.specs.declared.replies.Reply.TheVariants.{ItemStored, BidStored, CommentStored, Bought, ItemSeen, BidsSeen, CategorySeen, UserSeen, Refused}
+use Rattle.auction_rows.specs.declared.{replies.Reply.Reply, replies.ItemView.ItemView, replies.BidShown.BidShown, replies.ItemShown.ItemShown}
 use Rattle.worker_journals.specs.declared.heads.UserSeen.{UserSeen as SeenUser}
 
 -- what a reply shows, of each kind

@@ -1,7 +1,7 @@
 //! Where the requests of a journal's heads lie.
 ghost use Rattle.std.specs.Prelude.{◌≡◌, Some, List};
-ghost use Rattle.worker_journals.specs.declared.heads.Head.{Head as Short};
 ghost use Rattle.worker_journals.specs.inner.Asked.{CanKeep, HasRequestAt, HaveRequests, request_at, requests_of, with_request};
+ghost use Rattle.worker_journals.specs.declared.heads.Head.{Head as Short};
 
 use auction_rows::Request;
 use request_scripts::{KeptRequests, OwnScript};

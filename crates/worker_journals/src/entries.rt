@@ -1,11 +1,8 @@
 //! An entry of a journal, where it lies, and the reply of a commit, in few bytes.
 ghost use Rattle.std.specs.Prelude.{◌≡◌, ◌+◌, ◌<◌, ◌^◌, ◌∷◌, ◌++◌, [], Some, OnOk, length, option_map, option_to_list, slice_get};
-ghost use Rattle.auction_rows.specs.Choosing.{written_by};
-ghost use Rattle.auction_rows.specs.History.{row_of_entry};
-ghost use Rattle.auction_rows.specs.StoreReplies.{is_refusal, store_reply};
-ghost use Rattle.auction_rows.specs.ItemViews.{item_told};
-ghost use Rattle.worker_journals.specs.inner.Entries.{SaysEntry};
-ghost use Rattle.worker_journals.specs.Shown.{shown_in};
+ghost use Rattle.auction_rows.specs.{Choosing.{written_by}, History.{row_of_entry}};
+ghost use Rattle.auction_rows.specs.{ItemViews.{item_told}, StoreReplies.{is_refusal, store_reply}};
+ghost use Rattle.worker_journals.specs.{Shown.{shown_in}, inner.Entries.{SaysEntry}};
 
 use crate::heads::Head;
 use crate::journal::Journal;

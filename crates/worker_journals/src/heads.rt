@@ -1,11 +1,9 @@
 //! What a journal keeps of each commit in its place: all that is small. The rest lies in side
 //! lists.
 ghost use Rattle.std.specs.Prelude.{◌≡◌};
-ghost use Rattle.auction_rows.specs.Choosing.{written_by};
-ghost use Rattle.auction_rows.specs.History.{commit};
+ghost use Rattle.auction_rows.specs.{Choosing.{written_by}, History.{commit}};
 ghost use Rattle.auction_rows.specs.StoreReplies.{is_refusal, store_reply};
-ghost use Rattle.worker_journals.specs.Shown.{ShownLists};
-ghost use Rattle.worker_journals.specs.inner.Sides.{reply_from};
+ghost use Rattle.worker_journals.specs.{Shown.{ShownLists}, inner.Sides.{reply_from}};
 
 use auction_rows::{BidId, BuyId, CommentId, ItemId, Object, Refusal, Request, StoreReply};
 use request_scripts::SideIndex;

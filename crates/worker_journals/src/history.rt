@@ -1,14 +1,13 @@
 //! The commits of all phases that have closed.
-ghost use Rattle.std.specs.Prelude.{◌≡◌, ℕ, ◌+◌, ◌<◌, ◌^◌, ◌==◌, ◌≤◌, length, map, slice_get, vec_len, IfOk, OnOk, OnErr, IfSome};
-ghost use Rattle.std.specs.List.{AllByRecursion};
+ghost use Rattle.std.specs.{Iterator.{YieldsFirst, item_count}, List.{AllByRecursion}};
 ghost use Rattle.std.specs.Option.{ForSome};
-ghost use Rattle.std.specs.Iterator.{YieldsFirst, item_count};
+ghost use Rattle.std.specs.Prelude.{◌≡◌, ℕ, ◌+◌, ◌<◌, ◌^◌, ◌==◌, ◌≤◌, length, map, slice_get, vec_len, IfOk, OnOk, OnErr, IfSome};
 ghost use Rattle.phase_laws.specs.Order.{part};
+ghost use Rattle.worker_journals.specs.Histories.{ArePhase, no_history, with_phase};
 ghost use Rattle.worker_journals.specs.Journals.{IsJournalOf, IsLawfulJournal, closed_journal, entry_worker};
 ghost use Rattle.worker_journals.specs.Merged.{AreByWorker, entries_of, merged};
-ghost use Rattle.worker_journals.specs.Histories.{ArePhase, no_history, with_phase};
-ghost use Rattle.worker_journals.specs.inner.Places.{first_entries};
 ghost use Rattle.worker_journals.specs.Rising.{EntriesRiseTo, HasPassed};
+ghost use Rattle.worker_journals.specs.inner.Places.{first_entries};
 
 use crate::entries::EntryRef;
 use crate::journal::{Journal, SpareLists};
@@ -200,8 +199,7 @@ pub struct Entries<'a> {
 }
 
 impl<'a> Model for Entries<'a> {
-    ghost use Rattle.std.specs.Prelude.{List, ◌++◌};
-    ghost use Rattle.std.specs.List.{AllByRecursion};
+    ghost use Rattle.std.specs.{List.{AllByRecursion}, Prelude.{List, ◌++◌}};
     ghost use Rattle.auction_rows.specs.declared.rows.Entry.{Entry};
     ghost use Rattle.worker_journals.specs.Histories.{ArePhase};
     ghost use Rattle.worker_journals.specs.inner.Phases.{entries_in, journals_of};
@@ -247,8 +245,7 @@ pub struct WorkerEntries<'a> {
 impl<'a> Model for WorkerEntries<'a> {
     ghost use Rattle.std.specs.Prelude.{List};
     ghost use Rattle.auction_rows.specs.declared.rows.Entry.{Entry};
-    ghost use Rattle.worker_journals.specs.inner.Phases.{journals_of};
-    ghost use Rattle.worker_journals.specs.inner.Places.{own_left};
+    ghost use Rattle.worker_journals.specs.inner.{Phases.{journals_of}, Places.{own_left}};
 
     ghost Value = { List Entry };
 

@@ -1,7 +1,6 @@
 //! What one worker commits in one phase.
+ghost use Rattle.std.specs.{Iterator.{YieldsFirst, item_count}, List.{AllByRecursion}};
 ghost use Rattle.std.specs.Prelude.{◌≡◌, ◌<◌, ◌≤◌, true, ◌+◌, ◌^◌, ◌==◌, Some, length, slice_get, IfOk, IfSome};
-ghost use Rattle.std.specs.Iterator.{YieldsFirst, item_count};
-ghost use Rattle.std.specs.List.{AllByRecursion};
 ghost use Rattle.worker_journals.specs.Journals.{IsLawfulJournal, IsOfScript, ComesAfter, closed_journal, empty_journal, with_commit};
 ghost use Rattle.worker_journals.specs.Rising.{EntriesRiseTo};
 
@@ -86,8 +85,7 @@ impl SpareLists {
 }
 
 impl Model for Journal {
-    ghost use Rattle.worker_journals.specs.Journals.{JournalView};
-    ghost use Rattle.worker_journals.specs.inner.Entries.{shown, IsKept};
+    ghost use Rattle.worker_journals.specs.{Journals.{JournalView}, inner.Entries.{shown, IsKept}};
     ghost use Rattle.worker_journals.specs.inner.HeadLists.{IsRising};
 
     ghost Value = { JournalView };

@@ -1,10 +1,8 @@
 //! The entries of a phase's journals, merged while they are read, or into a list, with the laws of
 //! that order.
+ghost use Rattle.std.specs.{Iterator.{YieldsFirst, item_count}, List.{AllByRecursion, flat_map}};
 ghost use Rattle.std.specs.Prelude.{◌≡◌, ◌<◌, ℕ, None, length, map, slice_index_or, IfOk, OnOk, IfSome, OnSome, IfNone, IsPermutation, List, [], Contains};
-ghost use Rattle.std.specs.Iterator.{YieldsFirst, item_count};
-ghost use Rattle.std.specs.List.{AllByRecursion, flat_map};
-ghost use Rattle.phase_laws.specs.Order.{IsAscending, part};
-ghost use Rattle.phase_laws.specs.Numbers.{last_by};
+ghost use Rattle.phase_laws.specs.{Numbers.{last_by}, Order.{IsAscending, part}};
 ghost use Rattle.auction_rows.specs.declared.rows.Entry.{Entry};
 ghost use Rattle.worker_journals.specs.Histories.{ArePhase};
 ghost use Rattle.worker_journals.specs.Journals.{IsLawfulJournal, entry_number, entry_worker, JournalView, ComesAfter};
@@ -31,8 +29,7 @@ impl<'a> Model for Merging<'a> {
     ghost use Rattle.std.specs.Prelude.{List};
     ghost use Rattle.auction_rows.specs.declared.limits.TheConstants.{MOST_WORKERS};
     ghost use Rattle.auction_rows.specs.declared.rows.Entry.{Entry};
-    ghost use Rattle.worker_journals.specs.Merged.{merged};
-    ghost use Rattle.worker_journals.specs.inner.Places.{left_of, AreMerging};
+    ghost use Rattle.worker_journals.specs.{Merged.{merged}, inner.Places.{left_of, AreMerging}};
 
     ghost Value = { List Entry };
 

@@ -1,13 +1,12 @@
 -- Slices of few operations.
 use Rattle.std.proofs.Common.{ℕ, ◌+◌, ◌*◌, ◌≤◌, Bool, true, false, cond, List, [], ◌∷◌, arith}
-use Rattle.std.specs.Prelude.{unsigned_abs, ℤ, ◌+ℤ◌}
-use Rattle.std.proofs.lemmas.Int.{ints}
+use Rattle.std.{proofs.lemmas.Int.{ints}, specs.Prelude.{unsigned_abs, ℤ, ◌+ℤ◌}}
+use Rattle.auction_rows.specs.Requests.{same_object}
 use Rattle.auction_rows.specs.declared.{values.Stars.Stars, requests.BidEntry.BidEntry, requests.ItemEntry.ItemEntry, requests.Object.Object}
 use Rattle.item_shards.specs.declared.shard.slices.Slice.{Slice}
 use Rattle.item_shards.specs.declared.shard.slices.Slice.TheVariants as slice
-use Rattle.auction_rows.specs.Requests.{same_object}
-use Rattle.worker_slices.specs.declared.slices.Hot.{Hot}
 use Rattle.worker_slices.specs.Slicing.{with_slice_changed, slice_with_bid, slice_with_comment, slice_with_item, HasAtMost, HaveAtMost}
+use Rattle.worker_slices.specs.declared.slices.Hot.{Hot}
 
 at_most_more : (n m : ℕ) (s : Slice) → n ≤ m → HasAtMost n s → HasAtMost m s
 at_most_more n m (slice.Item s) le is = omega arith

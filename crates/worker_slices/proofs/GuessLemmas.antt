@@ -1,17 +1,12 @@
 -- Guesses after one is noted, and what no guess says.
 use Rattle.std.proofs.Common.{◌≡◌, ◌<◌, ℕ, zero, suc, Bool, true, false, ◌||◌, List, [], ◌∷◌, ◌++◌, set, refl, subst, sym, arith}
-use Rattle.std.specs.Prelude.{Some, slice_get}
-use Rattle.std.specs.Bool.{OnTrue}
-use Rattle.std.proofs.lemmas.Bool.{false≢true}
-use Rattle.std.proofs.lemmas.Option.{none-some, same_Some}
+use Rattle.std.proofs.lemmas.{Bool.{false≢true}, Option.{none-some, same_Some}}
+use Rattle.std.specs.{Bool.{OnTrue}, Prelude.{Some, slice_get}}
 use Rattle.indexmap.specs.Layout.{set_value_at}
-use Rattle.auction_rows.specs.declared.requests.Object.{Object}
-use Rattle.auction_rows.specs.Footprint.{is_hot}
-use Rattle.auction_rows.specs.Requests.{same_object}
-use Rattle.auction_rows.proofs.RequestLemmas.{same_object-true}
+use Rattle.auction_rows.{proofs.RequestLemmas.{same_object-true}, specs.Footprint.{is_hot}}
+use Rattle.auction_rows.specs.{Requests.{same_object}, declared.requests.Object.{Object}}
+use Rattle.worker_slices.specs.{Guessing.{AreGuessed, MayStand}, Slicing.{hot_objects}}
 use Rattle.worker_slices.specs.declared.slices.Hot.{Hot}
-use Rattle.worker_slices.specs.Guessing.{AreGuessed, MayStand}
-use Rattle.worker_slices.specs.Slicing.{hot_objects}
 
 written : (guesses : List ℕ) (i guess : ℕ) → guess < 255 → slice_get (set guesses i guess) i ≡ Some 255 → ⊥
 written [] i guess less is = none-some 255 is

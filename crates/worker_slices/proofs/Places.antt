@@ -2,21 +2,17 @@
 use Rattle.std.proofs.Common.{◌≡◌, ℕ, zero, suc, ◌++◌, ◌∷◌, [], Bool, true, false, cond, if◌then◌else◌, ◌||◌, List, map, take, slice_get, get_or, position, IfSome, Option, option_map, Some, None, is_some, refl, sym, ap, subst, ◌∙◌}
 use Rattle.std.proofs.lemmas.List.Quantifiers.{position-Some}
 use Rattle.std.proofs.lemmas.Option.{slice_get-get_or, slice_get-map}
-use Rattle.std.specs.List.{IsDistinct, AllByRecursion}
-use Rattle.std.specs.Map.{lookup}
+use Rattle.std.specs.{List.{IsDistinct, AllByRecursion}, Map.{lookup}}
 use Rattle.indexmap.specs.Layout.{set_value_at}
+use Rattle.auction_rows.specs.{Book.{Book}, Footprint.{is_hot}, Requests.{same_object}}
 use Rattle.auction_rows.specs.contracts.requests.ObjectPartialEq.TheImpl.{eq-value as object_eq}
 use Rattle.auction_rows.specs.declared.requests.{Facts.Facts, Object.Object}
-use Rattle.auction_rows.specs.Book.{Book}
-use Rattle.auction_rows.specs.Footprint.{is_hot}
-use Rattle.auction_rows.specs.Requests.{same_object}
 pub use Rattle.auction_rows.proofs.RequestLemmas.{distinct_objects}
 use Rattle.auction_rows.proofs.RequestLemmas.{eq_is_same, same_either_way, same_object-true, same_objects}
+use Rattle.item_shards.{proofs.StandingLemmas.{blank_of_none}, specs.Values.{blank, value}}
 use Rattle.item_shards.specs.declared.shard.slices.Slice.{Slice}
-use Rattle.item_shards.specs.Values.{blank, value}
-use Rattle.item_shards.proofs.StandingLemmas.{blank_of_none}
-use Rattle.worker_slices.specs.declared.slices.Hot.{Hot}
 use Rattle.worker_slices.specs.Slicing.{hot_objects, slice_of, slices_of, stocks_of, stock_of, with_slice_changed, IsAt, IsStocked, HasAtMost, HaveAtMost}
+use Rattle.worker_slices.specs.declared.slices.Hot.{Hot}
 use Rattle.phase_laws.proofs.ListLemmas.{all_at}
 
 -- the slices of other objects stay

@@ -1,18 +1,15 @@
 -- Slices of rows: one row more is the acts that write it.
 use Rattle.std.proofs.Common.{◌≡◌, ℕ, ◌++◌, ◌∷◌, [], Bool, true, false, cond, List, length, Option, refl, ap, ◌∙◌}
-use Rattle.auction_rows.specs.declared.{requests.Facts.Facts, requests.Object.Object, rows.Row.Row}
+use Rattle.auction_rows.specs.{Book.{Book, bid_entry, item_entry}, Requests.{same_object}}
 use Rattle.auction_rows.specs.declared.requests.Object.TheVariants.{Item, User, Category}
+use Rattle.auction_rows.specs.declared.{requests.Facts.Facts, requests.Object.Object, rows.Row.Row}
 use Rattle.auction_rows.specs.declared.rows.Row.TheVariants as row
-use Rattle.auction_rows.specs.Book.{Book, bid_entry, item_entry}
-use Rattle.auction_rows.specs.Requests.{same_object}
-use Rattle.item_shards.specs.declared.shard.slices.Slice.{Slice}
-use Rattle.item_shards.specs.Contents.{Contents, after_acts as acts_on_contents, changed as changed_contents, with_facts, bid_on as bid_on_value, bought_of, comment_about as comment_about_value, item_listed as item_listed_value}
-use Rattle.item_shards.specs.Values.{Value, value}
-use Rattle.item_shards.specs.Writing.{writes_of}
 use Rattle.item_shards.proofs.CountLemmas.{bids_at_most, comments_at_most, rating_at_most}
-use Rattle.item_shards.proofs.RowLemmas.{value_next}
-use Rattle.worker_slices.specs.declared.slices.Hot.{Hot}
+use Rattle.item_shards.{proofs.RowLemmas.{value_next}, specs.Values.{Value, value}}
+use Rattle.item_shards.specs.{Writing.{writes_of}, declared.shard.slices.Slice.{Slice}}
+use Rattle.item_shards.specs.Contents.{Contents, after_acts as acts_on_contents, changed as changed_contents, with_facts, bid_on as bid_on_value, bought_of, comment_about as comment_about_value, item_listed as item_listed_value}
 use Rattle.worker_slices.specs.Slicing.{slice_of, slices_of, slice_with_bid, slice_with_comment, slice_with_item, with_slice_changed, slices_after_acts, HasAtMost, HaveAtMost}
+use Rattle.worker_slices.specs.declared.slices.Hot.{Hot}
 
 -- the slices that have the values of contents
 abbrev slices_on : List (Object × Option (Facts × ℕ)) → Contents → List (Object × Hot)

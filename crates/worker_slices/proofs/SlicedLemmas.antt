@@ -1,22 +1,18 @@
 -- What a store does to the slices of its worker.
 use Rattle.std.proofs.Common.{◌≡◌, ℕ, ◌==◌, Bool, true, false, cond, List, [], ◌∷◌, refl, sym, ◌∙◌}
 use Rattle.std.proofs.lemmas.Bool.{or_parts}
-use Rattle.auction_rows.specs.declared.{values.Stars.Stars, requests.ItemId.ItemId, requests.BidId.BidId, requests.CommentId.CommentId, requests.Facts.Facts, requests.Object.Object, requests.Request.Request, replies.StoreReply.StoreReply}
+use Rattle.auction_rows.{proofs.RequestLemmas.{same_either_way}, specs.Footprint.{is_hot}}
+use Rattle.auction_rows.specs.{Replies.{row_of, row_if}, Requests.{same_object}}
+use Rattle.auction_rows.specs.StoreReplies.{reply_of}
 use Rattle.auction_rows.specs.declared.requests.Request.TheVariants.{StoreItem, StoreBid, StoreComment, BuyNow}
+use Rattle.auction_rows.specs.declared.{values.Stars.Stars, requests.ItemId.ItemId, requests.BidId.BidId, requests.CommentId.CommentId, requests.Facts.Facts, requests.Object.Object, requests.Request.Request, replies.StoreReply.StoreReply}
 use Rattle.auction_rows.specs.declared.replies.StoreReply.TheVariants as store
 use Rattle.auction_rows.specs.declared.rows.Row.TheVariants as row
-use Rattle.auction_rows.specs.Footprint.{is_hot}
-use Rattle.auction_rows.specs.Replies.{row_of, row_if}
-use Rattle.auction_rows.specs.Requests.{same_object}
-use Rattle.auction_rows.specs.StoreReplies.{reply_of}
-use Rattle.auction_rows.proofs.RequestLemmas.{same_either_way}
-use Rattle.item_shards.specs.declared.shard.slices.Slice.{Slice}
-use Rattle.item_shards.specs.Writing.{writes_if}
-use Rattle.worker_slices.specs.declared.homes.Home.{Home}
-use Rattle.worker_slices.specs.declared.homes.Home.TheVariants as home
-use Rattle.worker_slices.specs.declared.slices.Hot.{Hot}
+use Rattle.item_shards.specs.{Writing.{writes_if}, declared.shard.slices.Slice.{Slice}}
 use Rattle.worker_slices.specs.Homes.{IsHomeOf}
 use Rattle.worker_slices.specs.Slicing.{hot_objects, with_slice_changed, slices_after_acts}
+use Rattle.worker_slices.specs.declared.{homes.Home.{Home}, slices.Hot.{Hot}}
+use Rattle.worker_slices.specs.declared.homes.Home.TheVariants as home
 
 -- what is written of a cold object changes no slice
 pub cold_kept : (hots : List (Object × Hot)) (object : Object) (change : Slice → Slice) → is_hot (hot_objects hots) object ≡ false → with_slice_changed object change hots ≡ hots

@@ -1,12 +1,11 @@
 -- What is fixed of hot objects stays, whatever is done to their slices.
 use Rattle.std.proofs.Common.{◌≡◌, Bool, true, false, cond, List, [], ◌∷◌, refl, ◌∙◌}
-use Rattle.auction_rows.specs.declared.requests.Object.{Object}
+use Rattle.auction_rows.specs.{Requests.{same_object}, declared.requests.Object.{Object}}
 use Rattle.auction_rows.specs.declared.requests.Object.TheVariants.{Item, User, Category}
-use Rattle.auction_rows.specs.Requests.{same_object}
 use Rattle.item_shards.specs.Events.{Event, ListItem, Bid, Comment}
 use Rattle.item_shards.specs.declared.shard.slices.Slice.{Slice}
-use Rattle.worker_slices.specs.declared.slices.Hot.{Hot}
 use Rattle.worker_slices.specs.Slicing.{stocks_of, slice_with_bid, slice_with_comment, slice_with_item, with_slice_changed, slices_after_act, slices_after_acts}
+use Rattle.worker_slices.specs.declared.slices.Hot.{Hot}
 
 -- what is fixed stays
 fixed_if : (b : Bool) (change : Slice → Slice) (hot : Hot) → (cond b (record hot { slice = change hot.slice }) hot).stock ≡ hot.stock

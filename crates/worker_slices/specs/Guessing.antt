@@ -1,8 +1,6 @@
 -- Guesses of the places of the objects in a list.
-use Rattle.std.specs.Prelude.{◌≡◌, ℕ, List, Some, slice_get}
-use Rattle.std.specs.List.{AllByRecursion}
-use Rattle.auction_rows.specs.declared.requests.Object.{Object}
-use Rattle.auction_rows.specs.Requests.{shard_of}
+use Rattle.std.specs.{List.{AllByRecursion}, Prelude.{◌≡◌, ℕ, List, Some, slice_get}}
+use Rattle.auction_rows.specs.{Requests.{shard_of}, declared.requests.Object.{Object}}
 
 -- an object may stand in the list: its guess is not the one that says nowhere
 abbrev pub MayStand : List ℕ → Object → Type 0

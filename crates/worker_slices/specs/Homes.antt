@@ -1,15 +1,12 @@
 -- Where a worker finds an object.
 use Rattle.std.specs.Prelude.{◌≡◌, ℕ, true, false, List, Option, Some, None, ⊤}
-use Rattle.auction_rows.specs.declared.requests.{Object.Object, Request.Request}
+use Rattle.auction_rows.specs.{Footprint.{is_hot}, Requests.{shard_of}}
 use Rattle.auction_rows.specs.declared.requests.Object.TheVariants.{Item, User, Category}
 use Rattle.auction_rows.specs.declared.requests.Request.TheVariants.{StoreItem, StoreBid, StoreComment}
-use Rattle.auction_rows.specs.Footprint.{is_hot}
-use Rattle.auction_rows.specs.Requests.{shard_of}
-use Rattle.worker_slices.specs.declared.homes.Home.{Home}
+use Rattle.auction_rows.specs.declared.requests.{Object.Object, Request.Request}
+use Rattle.worker_slices.specs.{Slicing.{hot_objects, IsAt}, declared.homes.Home.{Home}}
+use Rattle.worker_slices.specs.declared.{homes.Homes.{Homes}, slices.Hot.{Hot}}
 use Rattle.worker_slices.specs.declared.homes.Home.TheVariants as home
-use Rattle.worker_slices.specs.declared.homes.Homes.{Homes}
-use Rattle.worker_slices.specs.declared.slices.Hot.{Hot}
-use Rattle.worker_slices.specs.Slicing.{hot_objects, IsAt}
 
 -- the shard of an object, where it lies in one
 abbrev pub shard_at : Home → Option ℕ

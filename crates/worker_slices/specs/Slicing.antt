@@ -1,15 +1,13 @@
 -- A worker's slices of the objects that are split.
-use Rattle.std.specs.Prelude.{None, [], ◌∷◌, ◌≡◌, ℕ, ◌≤◌, ◌*◌, unsigned_abs, if◌then◌else◌, List, map, fold, Option, Some, IsSome, IsNone, slice_get, ⊤}
 use Rattle.std.specs.List.{AllByRecursion}
-use Rattle.auction_rows.specs.declared.{values.Stars.Stars, requests.Facts.Facts, requests.BidEntry.BidEntry, requests.ItemEntry.ItemEntry, requests.Object.Object}
+use Rattle.std.specs.Prelude.{None, [], ◌∷◌, ◌≡◌, ℕ, ◌≤◌, ◌*◌, unsigned_abs, if◌then◌else◌, List, map, fold, Option, Some, IsSome, IsNone, slice_get, ⊤}
+use Rattle.auction_rows.specs.{Book.{Book}, Requests.{same_object}}
 use Rattle.auction_rows.specs.declared.requests.Object.TheVariants.{Item, User, Category}
-use Rattle.auction_rows.specs.Book.{Book}
-use Rattle.auction_rows.specs.Requests.{same_object}
+use Rattle.auction_rows.specs.declared.{values.Stars.Stars, requests.Facts.Facts, requests.BidEntry.BidEntry, requests.ItemEntry.ItemEntry, requests.Object.Object}
 use Rattle.item_shards.specs.Events.{Event, ListItem, Bid, Comment}
+use Rattle.item_shards.specs.{Slices.{with_bid, with_comment, with_item}, Values.{Value, value}}
 use Rattle.item_shards.specs.declared.shard.slices.Slice.{Slice}
 use Rattle.item_shards.specs.declared.shard.slices.Slice.TheVariants as slice
-use Rattle.item_shards.specs.Slices.{with_bid, with_comment, with_item}
-use Rattle.item_shards.specs.Values.{Value, value}
 use Rattle.worker_slices.specs.declared.slices.Hot.{Hot}
 
 -- the hot objects, in the order handed in

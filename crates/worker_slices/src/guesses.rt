@@ -1,7 +1,7 @@
 //! Guesses of the places of the objects in a list.
 ghost use Rattle.std.specs.Prelude.{◌≡◌, ◌<◌, IfNone};
-ghost use Rattle.auction_rows.specs.declared.requests.Object.{Object as ObjectValue};
 ghost use Rattle.auction_rows.specs.Requests.{shard_of};
+ghost use Rattle.auction_rows.specs.declared.requests.Object.{Object as ObjectValue};
 ghost use Rattle.worker_slices.specs.Guessing.{MayStand};
 
 use auction_rows::{Object, shard_of};

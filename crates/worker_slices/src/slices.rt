@@ -1,13 +1,12 @@
 //! A worker's slices of the objects that are split.
+ghost use Rattle.std.specs.{Bool.{OnTrue}, List.{IsDistinct, AllByRecursion}};
 ghost use Rattle.std.specs.Prelude.{◌≡◌, ◌+◌, ◌-◌, ◌↔◌, ◌++◌, ◌∷◌, [], IfOk, IfSome, IsNone, List, ℕ, length, take, is_some};
-ghost use Rattle.std.specs.Bool.{OnTrue};
-ghost use Rattle.std.specs.List.{IsDistinct, AllByRecursion};
+ghost use Rattle.auction_rows.specs.Requests.{same_object};
 ghost use Rattle.auction_rows.specs.declared.requests.Object.{Object as ObjectValue};
 ghost use Rattle.item_shards.specs.declared.shard.slices.Slice.{Slice as SliceValue};
-ghost use Rattle.auction_rows.specs.Requests.{same_object};
-ghost use Rattle.worker_slices.specs.declared.slices.Hot.{Hot as HotValue};
 ghost use Rattle.worker_slices.specs.Guessing.{AreGuessed};
 ghost use Rattle.worker_slices.specs.Slicing.{hot_objects, slices_of, stocks_of, stock_of, slices_in, with_slice_changed, slices_after_acts, IsAt, IsStocked, HasAtMost, HaveAtMost, slice_with_bid, slice_with_comment, slice_with_item, slice_of};
+ghost use Rattle.worker_slices.specs.declared.slices.Hot.{Hot as HotValue};
 
 use crate::guesses::Guesses;
 use crate::homes::{Home, Homes};
@@ -111,13 +110,10 @@ impl Model for Slices {
 }
 
 impl Slices {
-    ghost use Rattle.auction_rows.specs.Requests.{same_object};
-    ghost use Rattle.auction_rows.specs.Footprint.{is_hot};
-    ghost use Rattle.auction_rows.specs.Replies.{row_of};
-    ghost use Rattle.auction_rows.specs.StoreReplies.{reply_of};
+    ghost use Rattle.auction_rows.specs.{Footprint.{is_hot}, Replies.{row_of}};
+    ghost use Rattle.auction_rows.specs.{Requests.{same_object}, StoreReplies.{reply_of}};
     ghost use Rattle.item_shards.specs.Writing.{writes_if};
-    ghost use Rattle.worker_slices.specs.Homes.{IsHomeOf, IsWrittenAt};
-    ghost use Rattle.worker_slices.specs.Counting.{IsOwn};
+    ghost use Rattle.worker_slices.specs.{Counting.{IsOwn}, Homes.{IsHomeOf, IsWrittenAt}};
 
     /// No slice: nothing is hot. It takes no memory.
     pub fn none(alloc: Global) -> Slices

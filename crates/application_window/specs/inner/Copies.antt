@@ -1,9 +1,7 @@
 -- What a copy of the table keeps, and what it takes in.
-use Rattle.std.specs.Prelude.{◌≡◌, ℕ, ◌≤◌, List, [], ◌∷◌, ◌++◌, length}
-use Rattle.std.specs.List.{AllByRecursion}
+use Rattle.std.specs.{List.{AllByRecursion}, Prelude.{◌≡◌, ℕ, ◌≤◌, List, [], ◌∷◌, ◌++◌, length}}
+use Rattle.split_engine.specs.{Rules.{Rules, most_acts}, Serving.{total}}
 use Rattle.split_engine.specs.declared.entry.Entry.{Entry}
-use Rattle.split_engine.specs.Rules.{Rules, most_acts}
-use Rattle.split_engine.specs.Serving.{total}
 use Rattle.application_window.specs.Published.{table_of, AreWithin}
 
 module _ {Record Slice Look Request Reply Act : Type 0}

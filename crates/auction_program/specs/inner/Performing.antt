@@ -1,18 +1,16 @@
 -- What performing scripts gives, why they are not performed, and which texts are written.
 use Rattle.std.specs.Prelude.{ℕ, List, Option, IfSome, IsTrue}
+use Rattle.auction_rows.specs.{Book.{Book}, History.{book_after}}
 use Rattle.auction_rows.specs.declared.{requests.Request.Request, rows.Entry.Entry}
-use Rattle.auction_rows.specs.Book.{Book}
-use Rattle.auction_rows.specs.History.{book_after}
 use Rattle.auction_text.specs.declared.writing.report.ReportLines.{ReportLines}
 use Rattle.run_laws.specs.Answers.{IsAnswer}
 use Rattle.program_opening.specs.Options.{commits_text, opening_asked, policy_of}
-use Rattle.auction_program.specs.inner.Views.{AreViews}
-use Rattle.auction_run.specs.Phases.{hot_sets}
 use Rattle.program_opening.specs.declared.faults.Fault.{Fault}
 use Rattle.program_opening.specs.declared.faults.Fault.TheVariants.{Usage, Read, Resume, Row, Make, Run, Limit, Write, Report, OpenLog, Log}
 use Rattle.program_opening.specs.declared.options.Options.{Options}
-use Rattle.auction_program.specs.declared.execution.Performed.{Performed}
 use Rattle.auction_program.specs.Execution.{added_text, IsAllowed, IsNotRun}
+use Rattle.auction_program.specs.{declared.execution.Performed.{Performed}, inner.Views.{AreViews}}
+use Rattle.auction_run.specs.Phases.{hot_sets}
 
 -- this holds of the two texts of a run from a book: what the options ask for, and what is added
 abbrev pub OfTexts : Options → Book → Performed → (List ℕ → List ℕ → Type 0) → Type 0

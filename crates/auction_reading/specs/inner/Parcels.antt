@@ -1,10 +1,10 @@
 -- Parcels of a text, each read as if nothing stood before it.
 use Rattle.std.specs.Prelude.{ℕ, ◌≡◌, ◌≤◌, ◌+◌, ◌||◌, ◌++◌, ◌∷◌, true, false, All, List, [], Some, drop, length, slice_index_or}
+use Rattle.record_reading.specs.Asking.{Asked, nothing_asked}
 use Rattle.record_reading.specs.declared.inputs.TheConstants.{MOST_RECORDS}
 use Rattle.auction_rows.specs.declared.requests.Request.{Request}
-use Rattle.record_reading.specs.Asking.{Asked, nothing_asked}
-use Rattle.auction_reading.specs.inner.Said.{HasRead, WasRead, read_by}
 use Rattle.auction_reading.specs.declared.parcels.Parcel.{Parcel}
+use Rattle.auction_reading.specs.inner.Said.{HasRead, WasRead, read_by}
 
 -- of two lists of scripts, each script of the first with that of the second after it
 abbrev pub scripts_joined : List (List Request) → List (List Request) → List (List Request)

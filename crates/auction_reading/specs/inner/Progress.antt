@@ -1,13 +1,12 @@
 -- How far an input is read.
 use Rattle.std.specs.Prelude.{ℕ, ◌≡◌, ◌+◌, ◌++◌, ◌==◌, ◌||◌, Bool, false, not, List, Ok, Option, Some, vec_len, if◌then◌else◌}
 use Rattle.csv.specs.Reading.{default_config, reader_state, records, source_of, strip_bom}
-use Rattle.csv.specs.declared.parser.State.TheVariants as st
 use Rattle.csv.specs.declared.reader.Reader.{Reader}
-use Rattle.auction_reading.specs.declared.plain_text.Progress.{Progress}
-use Rattle.record_reading.specs.declared.record.Record.{Record}
-use Rattle.record_reading.specs.Asking.{AskFor, Asked, asked_of, with_record}
-use Rattle.record_reading.specs.Records.{and_then}
+use Rattle.csv.specs.declared.parser.State.TheVariants as st
 use Rattle.auction_reading.specs.Scripts.{read_records, records_of}
+use Rattle.auction_reading.specs.declared.plain_text.Progress.{Progress}
+use Rattle.record_reading.specs.{Asking.{AskFor, Asked, asked_of, with_record}, Records.{and_then}}
+use Rattle.record_reading.specs.declared.record.Record.{Record}
 
 -- What was asked so far is asked by the records before `rest`, which have no fault.
 pub record SoFar (workers : ℕ) (all : List (List (List ℕ))) (count : ℕ) (begun : Bool)

@@ -1,13 +1,11 @@
 -- What the records of a text ask for, wherever it stands in an input.
 use Rattle.std.specs.Prelude.{ℕ, ◌≡◌, ◌≤◌, ◌<◌, ◌+◌, ◌++◌, ◌||◌, ◌&&◌, Bool, false, not, List, [], ◌∷◌, ⊤, drop, length}
 use Rattle.csv.specs.Reading.{default_config, records}
-use Rattle.auction_reading.specs.declared.plain_text.Progress.{Progress}
-use Rattle.record_reading.specs.declared.record.Record.{Record}
-use Rattle.record_reading.specs.declared.inputs.TheConstants.{MOST_RECORDS}
-use Rattle.record_reading.specs.Asking.{Asked, asked_of, with_record}
-use Rattle.record_reading.specs.Lines.{EndsLine}
+use Rattle.auction_reading.specs.{Scripts.{records_of}, declared.plain_text.Progress.{Progress}}
 use Rattle.auction_reading.specs.inner.Progress.{SoFar, unmarked}
-use Rattle.auction_reading.specs.Scripts.{records_of}
+use Rattle.record_reading.specs.{Asking.{Asked, asked_of, with_record}, Lines.{EndsLine}}
+use Rattle.record_reading.specs.declared.inputs.TheConstants.{MOST_RECORDS}
+use Rattle.record_reading.specs.declared.record.Record.{Record}
 
 -- what is asked after these records
 abbrev pub with_records : List Record → Asked → Asked

@@ -1,14 +1,11 @@
 -- One act on the shard in which its object lies.
 use Rattle.std.specs.Prelude.{◌≡◌, List, length, slice_index_or, Some}
-use Rattle.auction_rows.specs.declared.{requests.Object.Object, requests.ItemId.ItemId}
 use Rattle.auction_rows.specs.Requests.{shard_of}
-use Rattle.item_shards.specs.declared.shard.Shard.{Shard}
+use Rattle.auction_rows.specs.declared.{requests.Object.Object, requests.ItemId.ItemId}
 use Rattle.auction_rows.specs.declared.requests.Object.TheVariants as object
+use Rattle.item_shards.specs.{Acting.{CanAct}, Contents.{target}, Looking.{event_at}}
+use Rattle.item_shards.specs.{ShardContents.{contents, HasItemRoom}, declared.shard.Shard.{Shard}}
 use Rattle.item_shards.specs.declared.shard.acts.Act.{Act}
-use Rattle.item_shards.specs.Acting.{CanAct}
-use Rattle.item_shards.specs.Looking.{event_at}
-use Rattle.item_shards.specs.Contents.{target}
-use Rattle.item_shards.specs.ShardContents.{contents, HasItemRoom}
 
 -- the shard of these in which an object lies
 abbrev pub IsShardOf : List Shard → Object → Shard → Type 0

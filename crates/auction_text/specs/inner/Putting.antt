@@ -1,12 +1,10 @@
 -- Lines that are put to a text that waits to be written.
-use Rattle.std.specs.Prelude.{◌≡◌, ℕ, ◌+◌, ◌≤◌, List, ◌++◌, drop, length, Option, Result, IfErr, IfOk, OnOk}
 use Rattle.std.specs.Io.KnownBytes.{Appends}
+use Rattle.std.specs.Prelude.{◌≡◌, ℕ, ◌+◌, ◌≤◌, List, ◌++◌, drop, length, Option, Result, IfErr, IfOk, OnOk}
 use Rattle.auction_rows.specs.declared.rows.Entry.{Entry}
-use Rattle.byte_texts.specs.Writing.{IsPartWritten}
-use Rattle.byte_texts.specs.declared.writing.WriteFault.{WriteFault}
+use Rattle.byte_texts.specs.{Writing.{IsPartWritten}, declared.writing.WriteFault.{WriteFault}}
 use Rattle.byte_texts.specs.declared.writing.WriteFault.TheVariants.{Write}
-use Rattle.auction_text.specs.Order.{comes_before}
-use Rattle.auction_text.specs.Replies.{lines, reply_line}
+use Rattle.auction_text.specs.{Order.{comes_before}, Replies.{lines, reply_line}}
 use Rattle.auction_text.specs.inner.Turns.{front, rest}
 
 -- the line of an entry among the replies, after so many requests of its worker

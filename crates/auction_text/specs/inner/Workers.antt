@@ -1,11 +1,9 @@
 -- What is made for each worker, to put the replies in order.
-use Rattle.std.specs.Prelude.{◌≡◌, ℕ, List, Some, None, slice_get}
-use Rattle.std.specs.Global.{Vec}
+use Rattle.std.specs.{Global.{Vec}, Prelude.{◌≡◌, ℕ, List, Some, None, slice_get}}
 use Rattle.phase_laws.specs.Order.{part}
 use Rattle.auction_rows.specs.declared.rows.Entry.{Entry}
 use Rattle.worker_journals.specs.Journals.{entry_worker}
-use Rattle.auction_text.specs.Order.{comes_before, in_order}
-use Rattle.auction_text.specs.Replies.{lines, reply_line}
+use Rattle.auction_text.specs.{Order.{comes_before, in_order}, Replies.{lines, reply_line}}
 use Rattle.auction_text.specs.inner.Turns.{late}
 
 -- a worker's entries that are late, in order

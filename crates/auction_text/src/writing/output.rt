@@ -1,11 +1,9 @@
 //! The writing of replies, histories, rows and reports.
-ghost use Rattle.std.specs.Prelude.{◌≡◌, ◌↔◌, ◌++◌, map, IfOk, IsErr, IsOkAnd, OnOk};
 ghost use Rattle.std.specs.Io.KnownBytes.{Appends};
+ghost use Rattle.std.specs.Prelude.{◌≡◌, ◌↔◌, ◌++◌, map, IfOk, IsErr, IsOkAnd, OnOk};
 ghost use Rattle.auction_text.specs.Moved.{all_moved, gone_by};
-ghost use Rattle.auction_text.specs.Replies.{history_text, replies_text};
-ghost use Rattle.auction_text.specs.Report.{report_text};
-ghost use Rattle.auction_text.specs.RowLines.{rows_text};
-ghost use Rattle.auction_text.specs.inner.Putting.{PutsText};
+ghost use Rattle.auction_text.specs.{Replies.{history_text, replies_text}, Report.{report_text}};
+ghost use Rattle.auction_text.specs.{RowLines.{rows_text}, inner.Putting.{PutsText}};
 ghost use Rattle.byte_texts.specs.Writing.{IsPartWritten, WritesText};
 
 use crate::writing::Before;

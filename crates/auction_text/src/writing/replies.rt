@@ -1,8 +1,7 @@
 //! The texts of replies, and their lines.
-ghost use Rattle.std.specs.Prelude.{◌≡◌, ◌↔◌, ◌+◌, ◌≤◌, ◌++◌, [], IsTrue, OnOk, codes, length};
 ghost use Rattle.std.specs.List.{flat_map};
-ghost use Rattle.auction_rows.specs.ItemViews.{item_reply};
-ghost use Rattle.auction_rows.specs.StoreReplies.{reply_of};
+ghost use Rattle.std.specs.Prelude.{◌≡◌, ◌↔◌, ◌+◌, ◌≤◌, ◌++◌, [], IsTrue, OnOk, codes, length};
+ghost use Rattle.auction_rows.specs.{ItemViews.{item_reply}, StoreReplies.{reply_of}};
 ghost use Rattle.auction_text.specs.Replies.{bid_text, facts_text, history_line, item_text, place_text, refusal_text, reply_line, reply_text, score_text, state_text};
 
 use auction_rows::{BidShown, ItemShown, ItemView, Refusal, Reply, StoreReply, Ten};

@@ -1,14 +1,12 @@
 //! The replies of each worker in the order of its requests, also as a text of its own, which a
 //! thread of its own makes.
-ghost use Rattle.std.specs.Prelude.{◌≡◌, ◌≤◌, ◌<◌, ◌^◌, None, Ok, length, map, nat_lt, vec_len, IfOk};
 ghost use Rattle.std.specs.List.{AllByRecursion};
+ghost use Rattle.std.specs.Prelude.{◌≡◌, ◌≤◌, ◌<◌, ◌^◌, None, Ok, length, map, nat_lt, vec_len, IfOk};
 ghost use Rattle.phase_laws.specs.Order.{part};
 ghost use Rattle.worker_journals.specs.Journals.{entry_worker};
-ghost use Rattle.auction_text.specs.Moved.{gone_by, all_moved};
-ghost use Rattle.auction_text.specs.Order.{comes_before, in_order};
+ghost use Rattle.auction_text.specs.{Moved.{gone_by, all_moved}, Order.{comes_before, in_order}};
 ghost use Rattle.auction_text.specs.Replies.{lines, replies_text};
-ghost use Rattle.auction_text.specs.inner.Putting.{PutsFront, PutsText, line_after};
-ghost use Rattle.auction_text.specs.inner.Turns.{late};
+ghost use Rattle.auction_text.specs.inner.{Putting.{PutsFront, PutsText, line_after}, Turns.{late}};
 ghost use Rattle.auction_text.specs.inner.Workers.{AreEach, late_of, replies_of};
 
 use crate::writing::Before;

@@ -1,6 +1,5 @@
 //! The lines of a report.
-ghost use Rattle.std.specs.Prelude.{◌≡◌, ◌++◌, OnOk, map};
-ghost use Rattle.std.specs.List.{flat_map};
+ghost use Rattle.std.specs.{List.{flat_map}, Prelude.{◌≡◌, ◌++◌, OnOk, map}};
 ghost use Rattle.auction_text.specs.Replies.{score_text};
 ghost use Rattle.auction_text.specs.Report.{category_line, count_line, counts_text, hot_line, numbered_lines, object_text, refused_count, user_line};
 

@@ -1,6 +1,6 @@
 //! The lines of rows, as records that can be read again.
-ghost use Rattle.std.specs.Prelude.{◌≡◌, ◌++◌, OnOk, codes, decimal, option_to_list};
 ghost use Rattle.std.specs.List.{flat_map};
+ghost use Rattle.std.specs.Prelude.{◌≡◌, ◌++◌, OnOk, codes, decimal, option_to_list};
 ghost use Rattle.auction_rows.specs.History.{row_of_entry, rows_of};
 ghost use Rattle.auction_text.specs.Replies.{lines};
 ghost use Rattle.auction_text.specs.RowLines.{bid_row_text, buy_row_text, byte_in_quotes, comment_row_text, item_row_text, offer_text, quoted, row_line, terms_text};

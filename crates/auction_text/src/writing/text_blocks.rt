@@ -1,8 +1,6 @@
 //! Texts that are written a block at a time.
-ghost use Rattle.std.specs.Prelude.{◌≡◌, ◌+◌, ◌≤◌, [], length, OnOk};
-ghost use Rattle.std.specs.List.{flat_map};
-ghost use Rattle.auction_text.specs.Moved.{gone_by, moved};
-ghost use Rattle.auction_text.specs.Replies.{history_line};
+ghost use Rattle.std.specs.{List.{flat_map}, Prelude.{◌≡◌, ◌+◌, ◌≤◌, [], length, OnOk}};
+ghost use Rattle.auction_text.specs.{Moved.{gone_by, moved}, Replies.{history_line}};
 ghost use Rattle.auction_text.specs.inner.Putting.{PutsText, line_after};
 
 use crate::writing::Before;

@@ -1,9 +1,9 @@
 -- What a copy of the auction has, and what it takes in.
 use Rattle.std.specs.Prelude.{◌≡◌, List, [], ◌∷◌, ◌++◌, Option, IfSome}
-use Rattle.auction_rows.specs.declared.{values.Opening.Opening, rows.Row.Row}
 use Rattle.auction_rows.specs.Book.{Book}
-use Rattle.item_shards.specs.declared.serial.SerialAuction.{SerialAuction}
+use Rattle.auction_rows.specs.declared.{values.Opening.Opening, rows.Row.Row}
 use Rattle.item_shards.specs.Serial.{HoldsBook, CanFollow, serial_opening}
+use Rattle.item_shards.specs.declared.serial.SerialAuction.{SerialAuction}
 use Rattle.auction_window.specs.Published.{book_of}
 
 -- an auction, where there is one, has the rows of these phases after those of the book

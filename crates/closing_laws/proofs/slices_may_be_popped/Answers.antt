@@ -1,7 +1,6 @@
 use Rattle.std.proofs.Common.{List, [], ◌∷◌, reverse}
-use Rattle.std.specs.List.{flat_map}
-use Rattle.std.specs.List.Sorted.{IsPermutation}
 use Rattle.std.proofs.lemmas.List.Sorted.{IsPermutation-refl, IsPermutation-append, IsPermutation-reverse}
+use Rattle.std.specs.List.{Sorted.{IsPermutation}, flat_map}
 use Rattle.phase_transactions.specs.Workers.{WorkerState}
 use Rattle.worker_slices.specs.Slicing.{slices_in}
 use Rattle.closing_laws.specs.Merging.{slices_left}

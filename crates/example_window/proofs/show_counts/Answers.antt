@@ -1,5 +1,4 @@
-use Rattle.std.proofs.Common.{sym, subst, arith}
-use Rattle.std.specs.List.{AllByRecursion}
+use Rattle.std.{proofs.Common.{sym, subst, arith}, specs.List.{AllByRecursion}}
 use Rattle.example_window.specs.Model.{IsMadeBy}
 use Rattle.example_window.proofs.show_counts.Goals as goal
 

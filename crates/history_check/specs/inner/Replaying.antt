@@ -1,11 +1,9 @@
 -- What a replay asks of an entry, and what it keeps of its reply.
 use Rattle.std.specs.Prelude.{ℕ, ◌&&◌, Bool, nat_lt, ◌≡◌, true, false, List, Some}
 use Rattle.auction_rows.specs.declared.{requests.Request.Request, replies.Reply.Reply}
-use Rattle.history_check.specs.declared.lines.Order.{Order}
-use Rattle.history_check.specs.Orders.{is_bound}
+use Rattle.history_check.specs.{Orders.{is_bound}, declared.lines.Order.{Order}}
+use Rattle.history_check.specs.declared.{lines.Wrong.TheVariants.{Due}, replay.Replay.{Replay}}
 use Rattle.auction_text.specs.Replies.{reply_text}
-use Rattle.history_check.specs.declared.lines.Wrong.TheVariants.{Due}
-use Rattle.history_check.specs.declared.replay.Replay.{Replay}
 
 -- whether a request is bound, and its worker's turn has passed
 abbrev pub is_late : Order → Request → ℕ → ℕ → Bool

@@ -1,14 +1,11 @@
 -- The heats of objects that entries write, and how they are ranked to be chosen.
-use Rattle.std.specs.Prelude.{◌≡◌, ◌==◌, ℕ, zero, suc, nat_le, if◌then◌else◌, List, Option, Some, None, map, filter, count_by, IsPermutation, IsSorted}
-use Rattle.std.specs.List.{IsDistinct}
-use Rattle.std.specs.Map.{keys_of, lookup}
+use Rattle.std.specs.{List.{IsDistinct}, Map.{keys_of, lookup}}
 use Rattle.std.specs.Ordering.{nat_cmp, on, then_cmp, flip_args}
+use Rattle.std.specs.Prelude.{◌≡◌, ◌==◌, ℕ, zero, suc, nat_le, if◌then◌else◌, List, Option, Some, None, map, filter, count_by, IsPermutation, IsSorted}
 use Rattle.std.specs.declared.cmp.Ordering.{Ordering}
+use Rattle.auction_rows.specs.{Orders.{object_cmp}, Requests.{same_object, shard_of}}
 use Rattle.auction_rows.specs.declared.requests.Object.{Object}
-use Rattle.auction_rows.specs.Orders.{object_cmp}
-use Rattle.auction_rows.specs.Requests.{same_object, shard_of}
-use Rattle.hot_choice.specs.declared.choice.Candidate.{Candidate}
-use Rattle.hot_choice.specs.inner.Runs.{how_often}
+use Rattle.hot_choice.specs.{declared.choice.Candidate.{Candidate}, inner.Runs.{how_often}}
 
 -- the bucket that an object is counted in
 abbrev pub bucket_of : Object → ℕ

@@ -1,8 +1,7 @@
 -- The objects that entries write, in runs of the same object.
 use Rattle.std.specs.Prelude.{◌≡◌, [], ◌∷◌, ℕ, List, Option, Some, None, flat_map, replicate, count_by}
+use Rattle.auction_rows.specs.{Choosing.{heat}, Requests.{same_object}}
 use Rattle.auction_rows.specs.declared.{requests.Object.Object, rows.Entry.Entry}
-use Rattle.auction_rows.specs.Choosing.{heat}
-use Rattle.auction_rows.specs.Requests.{same_object}
 use Rattle.hot_choice.specs.declared.runs.Run.{Run}
 
 -- the objects of a run, one after the other

@@ -1,8 +1,7 @@
 //! What a transaction does and looks at on a shard, the acts that write a row, and rows written on
 //! a shard that holds every object.
 ghost use Rattle.std.specs.Prelude.{◌≡◌, ◌<◌, ◌≤◌, OnOk, OnErr};
-ghost use Rattle.item_shards.specs.CommitNumbers.{last_number};
-ghost use Rattle.item_shards.specs.Looking.{IsEvent};
+ghost use Rattle.item_shards.specs.{CommitNumbers.{last_number}, Looking.{IsEvent}};
 ghost use Rattle.item_shards.specs.Writing.{writes_of, first_act, second_act};
 
 use crate::shard::Shard;
@@ -46,9 +45,8 @@ pub enum Act {
 }
 
 impl Look {
-    ghost use Rattle.item_shards.specs.Contents.{Contents, target};
+    ghost use Rattle.item_shards.specs.{Contents.{Contents, target}, Looking.{shown_in}};
     ghost use Rattle.item_shards.specs.Events as event;
-    ghost use Rattle.item_shards.specs.Looking.{shown_in};
 
     // The object that it looks at, if there is one.
     fn object(self) -> Option<Object>
@@ -67,8 +65,7 @@ impl Look {
 }
 
 impl Act {
-    ghost use Rattle.item_shards.specs.Contents.{Contents, target};
-    ghost use Rattle.item_shards.specs.Looking.{event_at};
+    ghost use Rattle.item_shards.specs.{Contents.{Contents, target}, Looking.{event_at}};
 
     /// The object that it is about: none of a look at nothing.
     pub fn object(&self) -> Option<Object>
@@ -117,10 +114,9 @@ pub fn writes_of(row: &Row) -> (Act, Act)
 }
 
 impl Shard {
-    ghost use Rattle.item_shards.specs.Contents.{after_act, after_acts};
-    ghost use Rattle.item_shards.specs.ShardContents.{contents, clock, HasBecome};
-    ghost use Rattle.item_shards.specs.Acting.{CanAct, CanDo};
+    ghost use Rattle.item_shards.specs.{Acting.{CanAct, CanDo}, Contents.{after_act, after_acts}};
     ghost use Rattle.item_shards.specs.Looking.{event_at, events_of};
+    ghost use Rattle.item_shards.specs.ShardContents.{contents, clock, HasBecome};
 
     /// Does one act, by one look-up. It takes no memory, and leaves the clock.
     #[inline(always)]
@@ -158,10 +154,8 @@ impl Shard {
 }
 
 impl Shard {
-    ghost use Rattle.auction_rows.specs.declared.requests.Object.{Object};
-    ghost use Rattle.auction_rows.specs.History.{commit_of};
-    ghost use Rattle.item_shards.specs.Acting.{CanWrite, HasRoomFor};
-    ghost use Rattle.item_shards.specs.Contents.{after_acts};
+    ghost use Rattle.auction_rows.specs.{History.{commit_of}, declared.requests.Object.{Object}};
+    ghost use Rattle.item_shards.specs.{Acting.{CanWrite, HasRoomFor}, Contents.{after_acts}};
     ghost use Rattle.item_shards.specs.ShardContents.{contents, rooms, shard_count, shard_number, LiesIn, IsSameShard};
 
     // Does the acts that write a row. Without memory the shard shows what it showed.

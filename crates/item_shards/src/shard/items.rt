@@ -37,12 +37,12 @@ fn expect_items(items: &mut IndexMap<ItemId, ItemRecord>)
 }
 
 impl Shard {
-    ghost use Rattle.auction_rows.specs.declared.requests.Object.TheVariants.{Item};
     ghost use Rattle.auction_rows.specs.Book.{facts_of};
-    ghost use Rattle.item_shards.specs.Values.{quantity_left, left_in, stock, stock_in, HasInStock};
-    ghost use Rattle.item_shards.specs.Slices.{item_slice, IsOfBoth};
+    ghost use Rattle.auction_rows.specs.declared.requests.Object.TheVariants.{Item};
     ghost use Rattle.item_shards.specs.Contents.{with_facts, bid_on, bid_unless, bought_of, bids_merged};
     ghost use Rattle.item_shards.specs.ShardContents.{contents, kept, clock, rooms, with_room, LiesIn, HasItemRoom, HasBecome, HasChanged, IsSameShard, ForEachBook, KeepsBooks};
+    ghost use Rattle.item_shards.specs.Slices.{item_slice, IsOfBoth};
+    ghost use Rattle.item_shards.specs.Values.{quantity_left, left_in, stock, stock_in, HasInStock};
 
     /// Makes room for an item, which no other call shows. This is the only growth after `new`.
     /// Without memory nothing has changed.

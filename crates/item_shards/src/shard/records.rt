@@ -16,9 +16,9 @@ pub struct ItemRecord {
 }
 
 impl ItemRecord {
+    ghost use Rattle.item_shards.specs.Contents.{with_facts, bid_on, bought_of, bids_merged};
     ghost use Rattle.item_shards.specs.Records.{record_value};
     ghost use Rattle.item_shards.specs.Values.{blank, quantity_left, stock, HasInStock};
-    ghost use Rattle.item_shards.specs.Contents.{with_facts, bid_on, bought_of, bids_merged};
 
     pub(crate) fn blank() -> ItemRecord
         ensures { record_value result ≡ blank }

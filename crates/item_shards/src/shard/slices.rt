@@ -1,9 +1,7 @@
 //! The slices of items, users and categories: what a worker keeps of an object while it is split,
 //! and what a shard keeps of each object. A slice merges into a record at a cost that does not grow
 //! with the operations applied to it (Doppel: Narula et al., OSDI 2014).
-ghost use Rattle.std.specs.Prelude.{◌+◌, ◌<◌, ◌^◌, ◌+ℤ◌, FitsSigned};
-ghost use Rattle.std.specs.Bool.{OnTrue};
-ghost use Rattle.std.specs.Int.{w64};
+ghost use Rattle.std.specs.{Bool.{OnTrue}, Int.{w64}, Prelude.{◌+◌, ◌<◌, ◌^◌, ◌+ℤ◌, FitsSigned}};
 ghost use Rattle.item_shards.specs.Slices.{IsOnlyCounted, IsOutbid};
 
 use auction_rows::{BidEntry, ItemEntry, MOST_SHOWN, Stars};
@@ -67,8 +65,8 @@ pub enum Slice {
 }
 
 impl Splittable for ItemSlice {
-    ghost use Rattle.item_shards.specs.Slices.{IsItemSlice, no_bids, with_bid, with_bids, item_slice};
     ghost use Rattle.item_shards.specs.SliceLaws.{item_laws, item_values};
+    ghost use Rattle.item_shards.specs.Slices.{IsItemSlice, no_bids, with_bid, with_bids, item_slice};
 
     type Op = BidEntry;
 
@@ -127,8 +125,8 @@ impl Splittable for ItemSlice {
 }
 
 impl Splittable for UserSlice {
-    ghost use Rattle.item_shards.specs.Slices.{no_comments, with_comment, with_comments, user_slice};
     ghost use Rattle.item_shards.specs.SliceLaws.{user_laws, user_values};
+    ghost use Rattle.item_shards.specs.Slices.{no_comments, with_comment, with_comments, user_slice};
 
     type Op = Stars;
 
@@ -174,8 +172,8 @@ impl Splittable for UserSlice {
 }
 
 impl Splittable for CategorySlice {
-    ghost use Rattle.item_shards.specs.Slices.{IsCategorySlice, no_items, with_item, with_items, category_slice};
     ghost use Rattle.item_shards.specs.SliceLaws.{category_laws, category_values};
+    ghost use Rattle.item_shards.specs.Slices.{IsCategorySlice, no_items, with_item, with_items, category_slice};
 
     type Op = ItemEntry;
 

@@ -1,7 +1,6 @@
 //! The users and categories of a shard: comments about users, items listed in categories, merged
 //! slices.
-ghost use Rattle.std.specs.Prelude.{◌≡◌, ◌+◌, ◌<◌, ◌^◌, ◌+ℤ◌, FitsSigned};
-ghost use Rattle.std.specs.Int.{w64};
+ghost use Rattle.std.specs.{Int.{w64}, Prelude.{◌≡◌, ◌+◌, ◌<◌, ◌^◌, ◌+ℤ◌, FitsSigned}};
 
 use crate::shard::Shard;
 use crate::shard::slices::{CategorySlice, UserSlice};
@@ -10,9 +9,9 @@ use split_records::Splittable;
 
 impl Shard {
     ghost use Rattle.auction_rows.specs.declared.requests.Object.TheVariants.{User, Category};
-    ghost use Rattle.item_shards.specs.Slices.{user_slice, category_slice, IsOfBoth};
     ghost use Rattle.item_shards.specs.Contents.{comment_about, comments_merged, item_listed, items_merged};
     ghost use Rattle.item_shards.specs.ShardContents.{contents, kept, opening, LiesIn, HasChanged};
+    ghost use Rattle.item_shards.specs.Slices.{user_slice, category_slice, IsOfBoth};
 
     /// What is kept of a user.
     pub(crate) fn user_record(&self, user: u32) -> &UserSlice

@@ -9,12 +9,11 @@ use auction_rows::{
 
 impl Shard {
     ghost use Rattle.std.specs.Prelude.{ℕ};
+    ghost use Rattle.auction_rows.specs.{ItemViews.{item_told}, Replies.{reply}};
     ghost use Rattle.auction_rows.specs.declared.requests.Object.TheVariants.{Item, User, Category};
     ghost use Rattle.auction_rows.specs.declared.requests.Request.TheVariants.{ViewItem, ViewBids, ViewCategory, ViewUser};
-    ghost use Rattle.auction_rows.specs.ItemViews.{item_told};
-    ghost use Rattle.auction_rows.specs.Replies.{reply};
-    ghost use Rattle.item_shards.specs.Views.{item_view, bids_view, category_reply, user_reply};
     ghost use Rattle.item_shards.specs.ShardContents.{contents, opening, LiesIn, ForEachBook};
+    ghost use Rattle.item_shards.specs.Views.{item_view, bids_view, category_reply, user_reply};
 
     /// The item with its greatest bid, the number of its bids and what is left; NoSuchItem if it is
     /// not stored.

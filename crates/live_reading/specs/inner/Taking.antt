@@ -3,19 +3,16 @@ use Rattle.std.specs.Prelude.{ℕ, ◌≡◌, ◌<◌, ◌≤◌, ◌+◌, ◌++
 use Rattle.record_reading.specs.Asking.{AskFor, asked_of, requests_in, with_record}
 use Rattle.record_reading.specs.declared.inputs.TheConstants.{MOST_ROWS_OF_A_PART}
 use Rattle.record_reading.specs.declared.record.Record.{Record}
-use Rattle.live_reading.specs.LineBuffers.{lines_left}
-use Rattle.live_reading.specs.LiveLines.{line_says, lines_of, lines_say}
+use Rattle.live_reading.specs.{LineBuffers.{lines_left}, LiveLines.{line_says, lines_of, lines_say}}
 use Rattle.live_reading.specs.LiveReading.{records_said}
 use Rattle.live_reading.specs.declared.line_buffer.LineBuffer.{LineBuffer}
 use Rattle.live_reading.specs.declared.line_taking.LineStop.{LineStop}
 use Rattle.live_reading.specs.declared.line_taking.LineStop.TheVariants.{Full, End, Fault}
-use Rattle.live_reading.specs.declared.live_lines.LineFault.{LineFault}
-use Rattle.live_reading.specs.declared.live_lines.Said.{Said}
-use Rattle.live_reading.specs.declared.live_lines.Said.TheVariants as says
-use Rattle.live_reading.specs.declared.live_parts.LiveEnd.{LiveEnd}
-use Rattle.live_reading.specs.declared.live_parts.LiveEnd.TheVariants as end
-use Rattle.live_reading.specs.declared.live_parts.LiveInput.{LiveInput}
+use Rattle.live_reading.specs.declared.live_lines.{LineFault.{LineFault}, Said.{Said}}
+use Rattle.live_reading.specs.declared.live_parts.{LiveEnd.{LiveEnd}, LiveInput.{LiveInput}}
 use Rattle.live_reading.specs.declared.part_records.Taken.{Taken}
+use Rattle.live_reading.specs.declared.live_lines.Said.TheVariants as says
+use Rattle.live_reading.specs.declared.live_parts.LiveEnd.TheVariants as end
 
 -- What was taken first and what is taken now are for a part of as many workers and requests.
 pub record AreForOnePart (old new : Taken) : Type 0 where

@@ -1,14 +1,12 @@
 -- How far the text of a log is read.
-use Rattle.std.specs.Prelude.{◌≡◌, ◌<◌, ◌+◌, ◌^◌, ◌++◌, ℕ, List, [], All, Option, Some, length}
 use Rattle.std.specs.Io.KnownBytes.{Appends}
+use Rattle.std.specs.Prelude.{◌≡◌, ◌<◌, ◌+◌, ◌^◌, ◌++◌, ℕ, List, [], All, Option, Some, length}
 use Rattle.auction_rows.specs.Book.{Book}
 use Rattle.phase_floor.specs.Adding.{IsStartOf}
-use Rattle.auction_text.specs.RowLines.{rows_text}
-use Rattle.auction_text.specs.ReadFault.{ReadFault}
+use Rattle.auction_text.specs.{ReadFault.{ReadFault}, RowLines.{rows_text}}
 use Rattle.auction_text.specs.ReadFault.TheVariants as read
 use Rattle.byte_texts.specs.Writing.{IsPartWritten}
-use Rattle.log_opening.specs.ReadBack.{IsInRange}
-use Rattle.log_opening.specs.declared.parts.ReadRows.{ReadRows}
+use Rattle.log_opening.specs.{ReadBack.{IsInRange}, declared.parts.ReadRows.{ReadRows}}
 
 -- So far a text is read: its rows are those of a book, and their text has so many bytes.
 pub record HasRead (reading : ReadRows) (book : Book) : Type 0 where

@@ -1,13 +1,10 @@
 -- What the workers of a phase are given as it begins.
 use Rattle.std.specs.Prelude.{◌≡◌, ◌+◌, ◌<◌, ℕ, List, [], length, slice_index, slice_index_or}
 use Rattle.worker_journals.specs.Journals.{empty_journal}
-use Rattle.worker_slices.specs.Slicing.{slices_of}
+use Rattle.worker_slices.specs.{Slicing.{slices_of}, Stashes.{StashState}}
 use Rattle.phase_transactions.specs.Workers.{HasStashRoom}
-use Rattle.worker_slices.specs.Stashes.{StashState}
-use Rattle.phase_floor.specs.declared.start.Kit.{Kit}
-use Rattle.phase_floor.specs.Floors.{Stocks, AreStocksOf, stash_at}
-use Rattle.phase_floor.specs.States.{JoinedState, states_of}
-use Rattle.phase_floor.specs.Begins.{IsTooLong}
+use Rattle.phase_floor.specs.{Begins.{IsTooLong}, Floors.{Stocks, AreStocksOf, stash_at}}
+use Rattle.phase_floor.specs.{States.{JoinedState, states_of}, declared.start.Kit.{Kit}}
 
 -- each worker's stash has room for its quota, where something is hot
 abbrev pub HaveStashRoom : Stocks → List StashState → List ℕ → Type 0

@@ -1,16 +1,13 @@
 -- The parts of receipts, and the slices that are merged as a phase closes.
-use Rattle.std.specs.Prelude.{◌≡◌, ℕ, ◌≤◌, Bool, true, false, List, [], map, length, reverse}
 use Rattle.std.specs.List.{AllByRecursion}
+use Rattle.std.specs.Prelude.{◌≡◌, ℕ, ◌≤◌, Bool, true, false, List, [], map, length, reverse}
 use Rattle.auction_rows.specs.declared.requests.Object.{Object}
 use Rattle.item_shards.specs.declared.shard.slices.Slice.{Slice}
+use Rattle.shard_boxes.specs.{Keys.{KeyState}, States.{ShardState}}
 use Rattle.shard_boxes.specs.declared.limits.TheConstants.{MOST_COMMITS}
-use Rattle.shard_boxes.specs.Keys.{KeyState}
-use Rattle.shard_boxes.specs.States.{ShardState}
 use Rattle.worker_journals.specs.Journals.{JournalView}
-use Rattle.worker_slices.specs.declared.counters.Counters.{Counters}
-use Rattle.worker_slices.specs.declared.slices.Hot.{Hot}
-use Rattle.worker_slices.specs.Slicing.{slices_in, HaveAtMost}
-use Rattle.worker_slices.specs.Stashes.{StashState}
+use Rattle.worker_slices.specs.{Slicing.{slices_in, HaveAtMost}, Stashes.{StashState}}
+use Rattle.worker_slices.specs.declared.{counters.Counters.{Counters}, slices.Hot.{Hot}}
 use Rattle.phase_transactions.specs.Workers.{WorkerState, IsExplained}
 use Rattle.closing_laws.specs.Phases.{key_of, journal_of, counters_of}
 use Rattle.auction_shards.specs.Shards.{IsKnown, opening_in}

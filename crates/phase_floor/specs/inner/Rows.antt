@@ -1,12 +1,11 @@
 -- What a row needs of a state, of its worker's counters and of the shards.
 use Rattle.std.specs.Prelude.{◌<◌, [], ◌∷◌, length, ◌≡◌, ℕ, List}
+use Rattle.auction_rows.specs.{Book.{Book, worker_of}, History.{GoOn}}
 use Rattle.auction_rows.specs.declared.{rows.Row.Row, values.Opening.Opening}
-use Rattle.auction_rows.specs.Book.{Book, worker_of}
-use Rattle.auction_rows.specs.History.{GoOn}
 use Rattle.closing_laws.specs.Standing.{counters_at}
 use Rattle.phase_floor.specs.States.{JoinedState, IsBookOf}
-use Rattle.shard_boxes.specs.declared.limits.TheConstants.{MOST_COMMITS}
 use Rattle.shard_boxes.specs.States.{ShardState, state_at}
+use Rattle.shard_boxes.specs.declared.limits.TheConstants.{MOST_COMMITS}
 use Rattle.auction_shards.specs.Shards.{AreNumbered}
 use Rattle.worker_slices.specs.declared.counters.Counters.{Counters}
 use Rattle.phase_transactions.specs.Performing.{HaveOpening}

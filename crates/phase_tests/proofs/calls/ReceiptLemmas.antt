@@ -3,12 +3,11 @@ use Rattle.std.proofs.Common.{◌≡◌, ℕ, zero, suc, ◌<◌, List, [], ◌�
 use Rattle.std.specs.Prelude.{IfOk, IfErr}
 use Rattle.auction_rows.specs.declared.{requests.Request.Request, replies.Reply.Reply}
 use Rattle.shard_boxes.specs.States.{ShardState}
+use Rattle.phase_transactions.specs.Performing.{HasCommitted, HasDealtWith, HasFailed}
 use Rattle.phase_transactions.specs.Workers.{WorkerState, with_try}
 use Rattle.phase_transactions.specs.declared.done.{Done.Done, PermitFault.PermitFault}
-use Rattle.phase_transactions.specs.Performing.{HasCommitted, HasDealtWith, HasFailed}
-use Rattle.phase_floor.specs.Closings.{AreReceiptsOf, IsReceipt}
-use Rattle.phase_floor.specs.Floors.{FloorState}
 use Rattle.phase_floor.proofs.Receipts.{committed, dealt, failed}
+use Rattle.phase_floor.specs.{Closings.{AreReceiptsOf, IsReceipt}, Floors.{FloorState}}
 
 pub only_receipt : {floor : FloorState} {receipt : WorkerState} {receipts : List WorkerState} → length floor.counters ≡ 1 → receipts ≡ receipt ∷ [] → IsReceipt floor 0 receipt → AreReceiptsOf floor receipts
 only_receipt {floor} {receipt} one is its = subst (AreReceiptsOf floor) (sym is) (sym one, λ w below. at _ w (subst (λ n. w < n) one below))

@@ -1,14 +1,9 @@
 -- The shards of boxes that are closed.
 use Rattle.std.proofs.Common.{◌≡◌, ℕ, List, [], ◌∷◌, length, map, Some, slice_get, refl, sym, ap, subst, ◌∙◌, arith}
-use Rattle.std.specs.Prelude.{IfSome}
-use Rattle.std.proofs.lemmas.Option.{same_Some}
-use Rattle.auction_rows.specs.declared.requests.Object.{Object}
-use Rattle.auction_rows.specs.Requests.{shard_of}
-use Rattle.item_shards.specs.declared.shard.Shard.{Shard}
-use Rattle.item_shards.specs.ShardContents.{LiesIn}
-use Rattle.shard_boxes.specs.Closed.{AreClosed}
-use Rattle.shard_boxes.specs.Keys.{KeyState}
-use Rattle.shard_boxes.specs.States.{ShardState, state_of}
+use Rattle.std.{proofs.lemmas.Option.{same_Some}, specs.Prelude.{IfSome}}
+use Rattle.auction_rows.specs.{Requests.{shard_of}, declared.requests.Object.{Object}}
+use Rattle.item_shards.specs.{ShardContents.{LiesIn}, declared.shard.Shard.{Shard}}
+use Rattle.shard_boxes.specs.{Closed.{AreClosed}, Keys.{KeyState}, States.{ShardState, state_of}}
 
 -- an object that lies in the first of four shards lies there still
 pub first_lies : (object : Object) → shard_of object 4 ≡ 0 → (initial : List ShardState) (workers : ℕ) (keys : List KeyState) (shards : List Shard) (shard : Shard) → length initial ≡ 4

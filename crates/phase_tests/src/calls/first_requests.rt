@@ -1,7 +1,6 @@
 //! A store, asked once more where it is refused memory, and a view that needs none.
 ghost use Rattle.std.specs.Prelude.{◌≡◌};
-ghost use Rattle.phase_tests.specs.NewShards.{BeginsWith};
-ghost use Rattle.phase_tests.specs.Permits.{IsPermitFor};
+ghost use Rattle.phase_tests.specs.{NewShards.{BeginsWith}, Permits.{IsPermitFor}};
 
 use crate::calls::printing::{look_for_memory, print_count, print_journal};
 use crate::permits::closing::{assert_clocks, close_one, first_facts};

@@ -1,8 +1,6 @@
 //! A joined phase of one worker, in whose stash a view waits.
 ghost use Rattle.std.specs.Prelude.{◌≡◌, ◌∷◌, [], length, vec_len, IfOk};
-ghost use Rattle.phase_floor.specs.Closings.{IsReceipt};
-ghost use Rattle.phase_floor.specs.Floors.{AreBegun};
-ghost use Rattle.phase_floor.specs.States.{states_of};
+ghost use Rattle.phase_floor.specs.{Closings.{IsReceipt}, Floors.{AreBegun}, States.{states_of}};
 
 use crate::calls::closing::close;
 use crate::calls::printing::{look_for_memory, print_answer, print_count};

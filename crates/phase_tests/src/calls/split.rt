@@ -1,8 +1,6 @@
 //! A split phase of one worker, in which the vases are hot.
 ghost use Rattle.std.specs.Prelude.{◌≡◌, ◌∷◌, [], length, map, IfOk};
-ghost use Rattle.phase_floor.specs.Begins.{empty_stash};
-ghost use Rattle.phase_floor.specs.Closings.{IsReceipt};
-ghost use Rattle.phase_floor.specs.Floors.{AreBegun};
+ghost use Rattle.phase_floor.specs.{Begins.{empty_stash}, Closings.{IsReceipt}, Floors.{AreBegun}};
 ghost use Rattle.phase_floor.specs.States.{states_of};
 
 use crate::calls::closing::close;

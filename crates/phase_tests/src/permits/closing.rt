@@ -2,8 +2,7 @@
 ghost use Rattle.std.specs.Prelude.{◌≡◌, ◌≤◌, ◌∷◌, [], map, slice_get, vec_capacity, IfSome};
 ghost use Rattle.auction_rows.specs.declared.requests.Object.TheVariants.{Item};
 ghost use Rattle.item_shards.specs.ShardContents.{LiesIn};
-ghost use Rattle.shard_boxes.specs.States.{state_of};
-ghost use Rattle.shard_boxes.specs.Closed.{AreClosed};
+ghost use Rattle.shard_boxes.specs.{Closed.{AreClosed}, States.{state_of}};
 ghost use Rattle.phase_transactions.specs.Workers.{IsIdle};
 ghost use Rattle.phase_tests.specs.Permits.{IsOnlyKey};
 

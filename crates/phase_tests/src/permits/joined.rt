@@ -1,8 +1,7 @@
 //! A joined permit, and how it performs.
 ghost use Rattle.std.specs.Prelude.{◌≡◌, ◌+◌, ◌≤◌, length, IfOk};
 ghost use Rattle.phase_transactions.specs.Workers.{IsUnused};
-ghost use Rattle.phase_tests.specs.NewShards.{BeginsWith};
-ghost use Rattle.phase_tests.specs.Permits.{IsPermitFor};
+ghost use Rattle.phase_tests.specs.{NewShards.{BeginsWith}, Permits.{IsPermitFor}};
 
 use crate::testing::boxes_of_one;
 use auction_rows::{MOST_TRIES, Reply, Request};

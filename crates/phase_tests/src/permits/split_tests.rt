@@ -1,7 +1,6 @@
 //! Stores on hot objects alone.
 ghost use Rattle.std.specs.Prelude.{◌≡◌};
-ghost use Rattle.phase_tests.specs.NewShards.{BeginsWith};
-ghost use Rattle.phase_tests.specs.Permits.{IsPermitFor};
+ghost use Rattle.phase_tests.specs.{NewShards.{BeginsWith}, Permits.{IsPermitFor}};
 
 use crate::permits::closing::{assert_clocks, close_one};
 use crate::permits::split::{bid, comment, perform, split_permit};

@@ -1,7 +1,6 @@
 //! Two workers who perform at one time, each on a thread of its own, over the same boxes.
 ghost use Rattle.std.specs.Prelude.{◌≡◌};
-ghost use Rattle.phase_transactions.specs.Performing.{HaveOpening};
-ghost use Rattle.phase_transactions.specs.Workers.{IsIdle, IsUnused};
+ghost use Rattle.phase_transactions.specs.{Performing.{HaveOpening}, Workers.{IsIdle, IsUnused}};
 ghost use Rattle.phase_tests.specs.NewShards.{BeginsWith};
 
 use crate::permits::closing::{assert_clocks, close_two};

@@ -1,35 +1,25 @@
 -- A transaction that has taken its shards, and what its request is answered by.
 use Rattle.std.specs.Prelude.{◌≡◌, ℕ, suc, max, ◌<◌, ◌≤◌, false, List, ◌∷◌, [], Option, None, Some, length, ⊤}
-use Rattle.auction_rows.specs.declared.{requests.ItemId.ItemId, requests.Facts.Facts, requests.Object.Object, requests.Request.Request, replies.Refusal.Refusal, replies.Reply.Reply}
+use Rattle.auction_rows.specs.{Refusals.{number_refusal}, Requests.{item_of}}
 use Rattle.auction_rows.specs.declared.requests.Object.TheVariants.{Item, User, Category}
 use Rattle.auction_rows.specs.declared.requests.Request.TheVariants.{ViewItem, ViewBids, ViewCategory, ViewUser}
-use Rattle.item_shards.specs.declared.shard.acts.Look.{Look}
+use Rattle.auction_rows.specs.declared.{requests.ItemId.ItemId, requests.Facts.Facts, requests.Object.Object, requests.Request.Request, replies.Refusal.Refusal, replies.Reply.Reply}
+use Rattle.item_shards.specs.{Answering.{refusal_with}, CommitNumbers.{last_number}, Values.{stock}}
+use Rattle.item_shards.specs.declared.shard.{Shard.{Shard}, acts.Look.{Look}}
 use Rattle.item_shards.specs.declared.shard.acts.Look.TheVariants as look
-use Rattle.auction_rows.specs.Refusals.{number_refusal}
-use Rattle.auction_rows.specs.Requests.{item_of}
-use Rattle.item_shards.specs.Answering.{refusal_with}
-use Rattle.item_shards.specs.CommitNumbers.{last_number}
 use Rattle.item_shards.specs.ShardContents.{HasItemRoom, LiesIn, clock, contents, opening as opening_of}
-use Rattle.item_shards.specs.declared.shard.Shard.{Shard}
-use Rattle.item_shards.specs.Values.{stock}
-use Rattle.shard_boxes.specs.Helds.{HeldState}
-use Rattle.shard_boxes.specs.Keys.{BoxId, KeyState}
+use Rattle.shard_boxes.specs.{Helds.{HeldState}, Keys.{BoxId, KeyState}}
 use Rattle.shard_boxes.specs.States.{ShardState, state_of}
-use Rattle.phase_transactions.specs.declared.deeds.Deeds.{Deeds}
-use Rattle.worker_slices.specs.declared.homes.Homes.{Homes}
-use Rattle.phase_transactions.specs.declared.taken.Begun.{Begun}
-use Rattle.phase_transactions.specs.declared.taken.Taken.{Taken}
-use Rattle.phase_transactions.specs.declared.taken.Taken.TheVariants as taken
+use Rattle.phase_transactions.specs.{Performing.{HaveOpening, StoresItem, asks}, Txns.{is_put_off}}
+use Rattle.phase_transactions.specs.{Workers.{WorkerState, next_item}, declared.deeds.Deeds.{Deeds}}
+use Rattle.phase_transactions.specs.declared.taken.{Begun.{Begun}, Taken.{Taken}}
 use Rattle.phase_transactions.specs.inner.Deeds.{IsReplyBy, IsNextIf, AreDeedsOf, AreGoodOn, acts_for, event_with, footprint_on, stock_on}
-use Rattle.phase_transactions.specs.inner.Homes.{AreHomesOf}
-use Rattle.phase_transactions.specs.inner.HeldShards.{IsAsTaken}
-use Rattle.phase_transactions.specs.Performing.{HaveOpening, StoresItem, asks}
-use Rattle.worker_slices.specs.Slicing.{hot_objects, stocks_of, stock_of}
-use Rattle.worker_slices.specs.Homes.{shard_at}
+use Rattle.phase_transactions.specs.inner.{HeldShards.{IsAsTaken}, Homes.{AreHomesOf}}
 use Rattle.phase_transactions.specs.inner.Takens.{footprint_of, greatest_held, held_in, is_one_of, HasTakenAll, AreHeldAll}
-use Rattle.worker_slices.specs.Counting.{IsOwn}
-use Rattle.phase_transactions.specs.Txns.{is_put_off}
-use Rattle.phase_transactions.specs.Workers.{WorkerState, next_item}
+use Rattle.phase_transactions.specs.declared.taken.Taken.TheVariants as taken
+use Rattle.worker_slices.specs.{Counting.{IsOwn}, Homes.{shard_at}}
+use Rattle.worker_slices.specs.Slicing.{hot_objects, stocks_of, stock_of}
+use Rattle.worker_slices.specs.declared.homes.Homes.{Homes}
 
 -- What a transaction goes by: its phase, its worker's key, and where its objects are.
 pub record Step : Type 0 where

@@ -1,39 +1,30 @@
 -- What a request does, once its homes are known.
 use Rattle.std.specs.Prelude.{◌≡◌, ◌==◌, ℕ, Bool, false, if◌then◌else◌, List, [], ◌∷◌, ◌++◌, Option, Some, None, MatchOption, option_map, ⊤}
-use Rattle.auction_rows.specs.declared.{requests.ItemId.ItemId, requests.Facts.Facts, requests.Object.Object, requests.Request.Request, replies.Refusal.Refusal, replies.Reply.Reply}
-use Rattle.auction_rows.specs.declared.requests.Object.TheVariants.{Item}
-use Rattle.auction_rows.specs.declared.replies.Reply.TheVariants.{ItemStored, Refused}
 use Rattle.auction_rows.specs.Replies.{row_of}
+use Rattle.auction_rows.specs.declared.replies.Reply.TheVariants.{ItemStored, Refused}
+use Rattle.auction_rows.specs.declared.requests.Object.TheVariants.{Item}
 use Rattle.auction_rows.specs.declared.requests.Request.TheVariants.{StoreBid}
+use Rattle.auction_rows.specs.declared.{requests.ItemId.ItemId, requests.Facts.Facts, requests.Object.Object, requests.Request.Request, replies.Refusal.Refusal, replies.Reply.Reply}
 use Rattle.shard_boxes.specs.Helds.{HeldState}
-use Rattle.phase_transactions.specs.declared.deeds.Deeds.{Deeds}
-use Rattle.worker_slices.specs.declared.slices.Hot.{Hot}
+use Rattle.phase_transactions.specs.Txns.{IsReplyTo, refusal_by, ReadSet}
+use Rattle.phase_transactions.specs.{Workers.{WorkerState, next_item}, declared.deeds.Deeds.{Deeds}}
+use Rattle.phase_transactions.specs.declared.{deeds.Written.{Written}, taken.Taken.{Taken}}
 use Rattle.phase_transactions.specs.inner.Takens.{each_once}
-use Rattle.worker_slices.specs.Homes.{shard_at}
-use Rattle.item_shards.specs.declared.shard.acts.Act.{Act}
+use Rattle.phase_transactions.specs.declared.taken.Taken.TheVariants as taken
+use Rattle.worker_slices.specs.{Homes.{shard_at}, Slicing.{hot_objects}, declared.homes.Home.{Home}}
+use Rattle.worker_slices.specs.declared.slices.Hot.{Hot}
+use Rattle.worker_slices.specs.declared.homes.Home.TheVariants as home
+use Rattle.item_shards.specs.{Acting.{CanActOn}, Answering.{stock_needed}}
+use Rattle.item_shards.specs.{Contents.{Contents, after_act}, Events.{Event}, Looking.{IsTrueAct}}
+use Rattle.item_shards.specs.{Shown.{Shown}, Values.{stock, stock_facts}}
+use Rattle.item_shards.specs.Writing.{padded, done_on, looks_of, writes_if}
+use Rattle.item_shards.specs.declared.shard.{Shard.{Shard}, acts.Act.{Act}}
 use Rattle.item_shards.specs.declared.shard.acts.Act.TheVariants.{AddItem, ListItem, Bid, Comment, Buy, Look}
 use Rattle.item_shards.specs.declared.shard.acts.Look.{Look as LookedAt}
 use Rattle.item_shards.specs.declared.shard.acts.Look.TheVariants as look
-use Rattle.item_shards.specs.Events.{Event}
 use Rattle.item_shards.specs.Events as event
-use Rattle.item_shards.specs.Shown.{Shown}
 use Rattle.item_shards.specs.Shown as shown
-use Rattle.item_shards.specs.Writing.{padded, done_on, looks_of, writes_if}
 use Rattle.item_shards.specs.ShardContents.{contents, clock, opening as opening_of, rooms, shard_count, shard_number}
-use Rattle.item_shards.specs.declared.shard.Shard.{Shard}
-use Rattle.item_shards.specs.Acting.{CanActOn}
-use Rattle.item_shards.specs.Answering.{stock_needed}
-use Rattle.item_shards.specs.Contents.{Contents, after_act}
-use Rattle.item_shards.specs.Looking.{IsTrueAct}
-use Rattle.item_shards.specs.Values.{stock, stock_facts}
-use Rattle.worker_slices.specs.declared.homes.Home.{Home}
-use Rattle.worker_slices.specs.declared.homes.Home.TheVariants as home
-use Rattle.phase_transactions.specs.declared.deeds.Written.{Written}
-use Rattle.phase_transactions.specs.declared.taken.Taken.{Taken}
-use Rattle.phase_transactions.specs.declared.taken.Taken.TheVariants as taken
-use Rattle.worker_slices.specs.Slicing.{hot_objects}
-use Rattle.phase_transactions.specs.Txns.{IsReplyTo, refusal_by, ReadSet}
-use Rattle.phase_transactions.specs.Workers.{WorkerState, next_item}
 
 -- whether the home of an object is the shard of this number
 abbrev pub is_at : Home → ℕ → Bool

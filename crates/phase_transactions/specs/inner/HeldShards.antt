@@ -1,10 +1,8 @@
 -- A shard that is held, and the acts and the line with which it is put back.
 use Rattle.std.specs.Prelude.{◌≡◌, ℕ, ◌<◌, ◌≤◌, true, List, [], ◌∷◌, Some}
-use Rattle.item_shards.specs.CommitNumbers.{last_number}
-use Rattle.item_shards.specs.declared.shard.acts.Act.{Act}
-use Rattle.item_shards.specs.declared.shard.acts.Act.TheVariants.{Look}
+use Rattle.item_shards.specs.{CommitNumbers.{last_number}, ShardContents.{clock}}
+use Rattle.item_shards.specs.declared.shard.acts.Act.{TheVariants.{Look}, Act}
 use Rattle.item_shards.specs.declared.shard.acts.Look.TheVariants as look
-use Rattle.item_shards.specs.ShardContents.{clock}
 use Rattle.shard_boxes.specs.Helds.{HeldState, taken_at}
 use Rattle.shard_boxes.specs.Keys.{KeyState, seen_at, holds_at, putting}
 use Rattle.shard_boxes.specs.Lines.{Line, IsShardHistory, MayFollow}

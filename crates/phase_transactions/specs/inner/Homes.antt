@@ -1,11 +1,10 @@
 -- Where a worker finds the objects of a request.
 use Rattle.std.specs.Prelude.{◌≡◌, ℕ}
-use Rattle.auction_rows.specs.declared.requests.Request.{Request}
 use Rattle.auction_rows.specs.declared.requests.Object.TheVariants.{Item, User, Category}
+use Rattle.auction_rows.specs.declared.requests.Request.{Request}
 use Rattle.auction_rows.specs.declared.requests.Request.TheVariants.{StoreItem, StoreBid, StoreComment, BuyNow, ViewItem, ViewBids, ViewCategory, ViewUser}
+use Rattle.worker_slices.specs.{Homes.{IsHomeOf}, declared.homes.Homes.{Homes}}
 use Rattle.worker_slices.specs.declared.homes.Home.TheVariants as home
-use Rattle.worker_slices.specs.declared.homes.Homes.{Homes}
-use Rattle.worker_slices.specs.Homes.{IsHomeOf}
 use Rattle.phase_transactions.specs.Workers.{WorkerState, next_item}
 
 -- the homes of a request's item, and of its user or category

@@ -1,16 +1,11 @@
 -- What a view shows.
-use Rattle.std.specs.Prelude.{◌≡◌, ℕ, None}
-use Rattle.std.specs.List.{AllByRecursion}
+use Rattle.std.specs.{List.{AllByRecursion}, Prelude.{◌≡◌, ℕ, None}}
 use Rattle.auction_rows.specs.declared.{requests.Request.Request, replies.Reply.Reply}
+use Rattle.item_shards.specs.{Looking.{IsTrueOf}, ShardContents.{contents}}
 use Rattle.item_shards.specs.declared.shard.acts.Look.{Look}
-use Rattle.item_shards.specs.Looking.{IsTrueOf}
-use Rattle.item_shards.specs.ShardContents.{contents}
 use Rattle.worker_slices.specs.declared.counters.Counters.{Counters}
-use Rattle.phase_transactions.specs.declared.taken.Taken.{Taken}
-use Rattle.phase_transactions.specs.inner.Begun.{look_for}
-use Rattle.phase_transactions.specs.inner.Deeds.{shown_with}
-use Rattle.phase_transactions.specs.inner.Takens.{held_in}
-use Rattle.phase_transactions.specs.Txns.{IsReplyTo}
+use Rattle.phase_transactions.specs.{Txns.{IsReplyTo}, declared.taken.Taken.{Taken}}
+use Rattle.phase_transactions.specs.inner.{Begun.{look_for}, Deeds.{shown_with}, Takens.{held_in}}
 
 -- the shards that were taken show a reply to a view
 pub record IsShownBy {N : Type 0} (took : Taken N) (request : Request) (look : Look)

@@ -1,34 +1,26 @@
 -- What is done of a part, and why it is not.
 use Rattle.std.specs.Prelude.{ℕ, ◌≡◌, ◌<◌, ◌≤◌, ◌+◌, ◌++◌, List, [], Option, None, Some, false, length, map, slice_index_or}
+use Rattle.auction_rows.specs.{Book.{Book}, History.{book_after}}
 use Rattle.auction_rows.specs.declared.limits.TheConstants.{MOST_OF_A_WORKER}
 use Rattle.auction_rows.specs.declared.requests.{Request.Request, Opened.Opened}
-use Rattle.auction_rows.specs.Book.{Book}
-use Rattle.auction_rows.specs.History.{book_after}
-use Rattle.auction_run.specs.GoingOn.{AreShortOn, IsShortOn}
-use Rattle.auction_run.specs.Phases.{hot_sets}
-use Rattle.auction_run.specs.Outcome.{Outcome}
+use Rattle.auction_run.specs.{GoingOn.{AreShortOn, IsShortOn}, Outcome.{Outcome}, Phases.{hot_sets}}
+use Rattle.auction_run.specs.declared.checks.Stopped.{TheVariants.{Failed, Refused}, Stopped}
 use Rattle.auction_run.specs.RunFault.TheVariants as run
-use Rattle.auction_run.specs.declared.checks.Stopped.{Stopped}
-use Rattle.auction_run.specs.declared.checks.Stopped.TheVariants.{Failed, Refused}
-use Rattle.auction_text.specs.Moved.{Gone, gone_by}
+use Rattle.auction_text.specs.{InputLimits.{MOST_ROWS_OF_A_PART}, Moved.{Gone, gone_by}}
 use Rattle.auction_text.specs.Scripts.{Asked}
-use Rattle.auction_text.specs.InputLimits.{MOST_ROWS_OF_A_PART}
 use Rattle.closing_laws.specs.Standing.{counters_at, stores}
 use Rattle.item_shards.specs.OpeningRows.{rows_by}
 use Rattle.log_opening.specs.Parts.{rows_from}
 use Rattle.part_log.specs.declared.log.Teller.{Teller}
 use Rattle.phase_floor.specs.States.{JoinedState}
-use Rattle.run_laws.specs.Answers.{IsAnswer}
-use Rattle.run_laws.specs.Serving.{script_of}
+use Rattle.run_laws.specs.{Answers.{IsAnswer}, Serving.{script_of}}
 use Rattle.shard_boxes.specs.declared.limits.TheConstants.{MOST_COMMITS}
-use Rattle.program_opening.specs.Options.{opening_asked, policy_of}
-use Rattle.program_opening.specs.declared.faults.Fault.{Fault}
+use Rattle.program_opening.specs.{Options.{opening_asked, policy_of}, declared.faults.Fault.{Fault}}
 use Rattle.program_opening.specs.declared.faults.Fault.TheVariants.{Row, Run, Limit}
 use Rattle.program_opening.specs.declared.options.Options.{Options}
 use Rattle.program_serving.specs.PartRuns.{IsStart, RunsPart}
 use Rattle.program_serving.specs.ServeFaults.{IsFirstBadRow, IsPartFault, IsPartRefused}
-use Rattle.program_serving.specs.Serving.{AddsRows, ends_at_fault}
-use Rattle.program_serving.specs.declared.parts.Served.{Served}
+use Rattle.program_serving.specs.{Serving.{AddsRows, ends_at_fault}, declared.parts.Served.{Served}}
 
 -- Scripts of the options' workers begin with the options' auction, at this book.
 pub record BeginsAt (options : Options) (auction : JoinedState) (scripts : List (List Request))

@@ -1,24 +1,19 @@
 -- What is known between two parts of an input.
 use Rattle.std.specs.Prelude.{ℕ, ◌≡◌, ◌++◌, List, [], ◌∷◌, Option, None, Some, IfSome, false}
 use Rattle.auction_rows.specs.Book.{Book}
-use Rattle.auction_text.specs.LiveParts.{HasToSay, live_workers}
-use Rattle.auction_text.specs.Moved.{Gone, gone_by}
-use Rattle.auction_text.specs.LineFault.{LineFault}
+use Rattle.auction_text.specs.{LineFault.{LineFault}, LiveEnd.{LiveEnd}}
+use Rattle.auction_text.specs.{LiveEnd.TheVariants.{More, Fault, All}, LiveInput.{LiveInput}}
+use Rattle.auction_text.specs.{LiveParts.{HasToSay, live_workers}, Moved.{Gone, gone_by}}
 use Rattle.auction_text.specs.Said.{Said}
 use Rattle.auction_text.specs.Said.TheVariants as says
-use Rattle.auction_text.specs.LiveEnd.{LiveEnd}
-use Rattle.auction_text.specs.LiveEnd.TheVariants.{More, Fault, All}
-use Rattle.auction_text.specs.LiveInput.{LiveInput}
 use Rattle.part_log.specs.declared.log.Teller.{Teller}
 use Rattle.program_opening.specs.declared.options.Options.{Options}
 use Rattle.program_serving.specs.FaultLines.{fault_text, limit_text}
 use Rattle.program_serving.specs.PartRuns.{IsStart, rows_before}
 use Rattle.program_serving.specs.Serving.{AreTold, IsServed, Step, book_left, ends_at_fault, gone_after, line_answer, nothing_gone, served_rows, served_text, turned_answer}
-use Rattle.program_serving.specs.declared.fault_lines.Turned.{Turned}
-use Rattle.program_serving.specs.declared.fault_lines.Turned.TheVariants.{Line, Past}
+use Rattle.program_serving.specs.declared.fault_lines.Turned.{TheVariants.{Line, Past}, Turned}
 use Rattle.program_serving.specs.declared.fault_lines.TurnedLine.{TurnedLine}
-use Rattle.program_serving.specs.declared.parts.Served.{Served}
-use Rattle.program_serving.specs.declared.session.Session.{Session}
+use Rattle.program_serving.specs.declared.{parts.Served.{Served}, session.Session.{Session}}
 
 -- an input of so many workers has yet to say this
 abbrev pub YetToSay : {R : Type 0} → (R → Option (List ℕ)) → ℕ → LiveInput R → List Said → Type 0

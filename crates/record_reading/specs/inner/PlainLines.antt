@@ -1,16 +1,12 @@
 -- Plain fields and lines of a text, and what `csv` reads of them.
+use Rattle.std.specs.{Char.{is_ascii_digit}, List.{list_all}}
 use Rattle.std.specs.Prelude.{ℕ, Bool, true, false, not, ◌==◌, ◌&&◌, ◌≡◌, ◌≤◌, ◌<◌, ◌-◌, ◌+◌, ◌⊎◌, Ok, List, [], ◌∷◌, ◌++◌, Some, drop, get_or, length}
-use Rattle.std.specs.Char.{is_ascii_digit}
-use Rattle.std.specs.List.{list_all}
-use Rattle.csv.specs.Machine.{next_record}
-use Rattle.csv.specs.Reading.{default_config}
+use Rattle.csv.specs.{Machine.{next_record}, Reading.{default_config}}
 use Rattle.csv.specs.declared.parser.State.TheVariants as st
 use Rattle.auction_rows.specs.declared.requests.{ItemId.ItemId, Request.Request}
-use Rattle.record_reading.specs.Fields.{item_id, number, quantity}
-use Rattle.record_reading.specs.Kinds.{has_count, kind_of}
+use Rattle.record_reading.specs.{Fields.{item_id, number, quantity}, Kinds.{has_count, kind_of}}
 use Rattle.record_reading.specs.Lines.{ReadsFirst, has_no_feed, line_feed, quote}
-use Rattle.record_reading.specs.Records.{request_of}
-use Rattle.record_reading.specs.declared.fields.RequestKind.{RequestKind}
+use Rattle.record_reading.specs.{Records.{request_of}, declared.fields.RequestKind.{RequestKind}}
 
 -- the bytes of a comma and a carriage return
 abbrev pub comma : ℕ

@@ -1,8 +1,7 @@
 -- Fields of a text that are in quotes, and what `csv` reads of them.
-use Rattle.std.specs.Prelude.{ℕ, Bool, true, not, ◌==◌, ◌≡◌, ◌≤◌, ◌<◌, ◌-◌, List, [], ◌∷◌, ◌++◌, drop, get_or, length}
 use Rattle.std.specs.List.{list_all}
-use Rattle.record_reading.specs.Lines.{quote}
-use Rattle.record_reading.specs.inner.PlainLines.{HasRead, comma}
+use Rattle.std.specs.Prelude.{ℕ, Bool, true, not, ◌==◌, ◌≡◌, ◌≤◌, ◌<◌, ◌-◌, List, [], ◌∷◌, ◌++◌, drop, get_or, length}
+use Rattle.record_reading.specs.{Lines.{quote}, inner.PlainLines.{HasRead, comma}}
 
 -- no byte of a field is a quote
 abbrev pub has_no_quote : List ℕ → Bool

@@ -2,9 +2,8 @@
 use Rattle.std.specs.Prelude.{◌≡◌, ◌≢◌, ℕ, List, ◌∷◌, Option, Some, None}
 use Rattle.atomic_table.specs.Table.{Me, rest}
 use Rattle.crossbeam_queue.specs.Fifo.{Held}
-use Rattle.ruled_cell.specs.declared.Stage.TheVariants.{Idle, Holding}
+use Rattle.ruled_cell.specs.{Cell.{staged}, declared.Stage.TheVariants.{Idle, Holding}}
 use Rattle.ruled_cell.specs.declared.Turn.{Turn}
-use Rattle.ruled_cell.specs.Cell.{staged}
 
 module _ {V : Type 0} where
   abbrev pub idle : V → Turn V

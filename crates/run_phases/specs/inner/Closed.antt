@@ -1,15 +1,13 @@
 -- What a phase of a run leaves.
 use Rattle.std.specs.Prelude.{◌≡◌, ℕ, suc, ◌+◌, ◌<◌, List, ◌++◌, length}
-use Rattle.auction_rows.specs.declared.{limits.Policy.Policy, requests.Object.Object, requests.Request.Request, rows.Entry.Entry}
 use Rattle.auction_rows.specs.Phases.{IsNumbered}
+use Rattle.auction_rows.specs.declared.{limits.Policy.Policy, requests.Object.Object, requests.Request.Request, rows.Entry.Entry}
 use Rattle.worker_slices.specs.Stashes.{StashState}
 use Rattle.closing_laws.specs.Standing.{counters_at}
 use Rattle.phase_floor.specs.States.{JoinedState, StandsFor}
 use Rattle.worker_journals.specs.Merged.{added, merged}
-use Rattle.run_laws.specs.Books.{ReplaysOn}
-use Rattle.run_laws.specs.Run.{IsPhasePerformed, calls_of}
-use Rattle.run_phases.specs.declared.phase.Running.{Running}
-use Rattle.run_phases.specs.inner.Plans.{waiting_in}
+use Rattle.run_laws.specs.{Books.{ReplaysOn}, Run.{IsPhasePerformed, calls_of}}
+use Rattle.run_phases.specs.{declared.phase.Running.{Running}, inner.Plans.{waiting_in}}
 
 -- The next phase of a state was performed, with these stashes and hot objects, and has closed with
 -- these entries: it leaves the next state, and these stashes.

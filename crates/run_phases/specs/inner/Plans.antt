@@ -1,15 +1,12 @@
 -- What the next phase of a run is given, and when a run may perform it.
-use Rattle.std.specs.Prelude.{ℕ, ◌≡◌, ◌+◌, ◌<◌, ◌≤◌, ◌^◌, true, false, List, [], Some, length, slice_get}
 use Rattle.std.specs.List.{AllByRecursion}
+use Rattle.std.specs.Prelude.{ℕ, ◌≡◌, ◌+◌, ◌<◌, ◌≤◌, ◌^◌, true, false, List, [], Some, length, slice_get}
 use Rattle.auction_rows.specs.declared.limits.TheConstants.{MOST_OF_A_WORKER}
 use Rattle.auction_rows.specs.declared.{limits.Policy.Policy, requests.Object.Object, requests.Request.Request}
 use Rattle.worker_slices.specs.Stashes.{StashState}
 use Rattle.closing_laws.specs.Standing.{counters_at}
-use Rattle.phase_floor.specs.Floors.{stash_at}
-use Rattle.phase_floor.specs.States.{JoinedState, states_of, DoAllExist}
-use Rattle.run_laws.specs.Phases.{is_split, quota}
-use Rattle.run_laws.specs.Run.{first_index}
-use Rattle.run_laws.specs.Serving.{script_of}
+use Rattle.phase_floor.specs.{Floors.{stash_at}, States.{JoinedState, states_of, DoAllExist}}
+use Rattle.run_laws.specs.{Phases.{is_split, quota}, Run.{first_index}, Serving.{script_of}}
 use Rattle.run_phases.specs.declared.plan.PhasePlan.{PhasePlan}
 
 -- the calls that wait in a worker's stash

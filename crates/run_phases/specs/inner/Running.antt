@@ -1,19 +1,15 @@
 -- What a run knows between two phases.
 use Rattle.std.specs.Prelude.{ℕ, ◌+◌, ◌-◌, ◌<◌, ◌≤◌, ◌≡◌, min, List, length, drop}
+use Rattle.auction_rows.specs.{Book.{Book}, History.{IsBook}}
 use Rattle.auction_rows.specs.declared.{limits.Policy.Policy, values.Opening.Opening, requests.Request.Request}
-use Rattle.auction_rows.specs.Book.{Book}
-use Rattle.auction_rows.specs.History.{IsBook}
 use Rattle.item_shards.specs.OpeningRows.{rows_by}
 use Rattle.closing_laws.specs.Standing.{counters_at}
 use Rattle.phase_floor.specs.States.{StandsFor}
 use Rattle.worker_journals.specs.Merged.{merged}
-use Rattle.run_laws.specs.Books.{HasReplayed}
-use Rattle.run_laws.specs.Run.{HasRun, AreChosen, first_index}
+use Rattle.run_laws.specs.{Books.{HasReplayed}, Run.{HasRun, AreChosen, first_index}}
 use Rattle.run_laws.specs.Serving.{script_of, segment_of, AreNumbered}
-use Rattle.run_phases.specs.Beginning.{AreShortFor}
-use Rattle.run_phases.specs.Phases.{hot_sets}
-use Rattle.run_phases.specs.inner.Plans.{waiting_in}
-use Rattle.run_phases.specs.declared.phase.Running.{Running}
+use Rattle.run_phases.specs.{Beginning.{AreShortFor}, Phases.{hot_sets}}
+use Rattle.run_phases.specs.{declared.phase.Running.{Running}, inner.Plans.{waiting_in}}
 
 -- What a run from an opening book knows before a phase.
 pub record IsRunning (opening : Opening) (rows : Book) (policy : Policy)

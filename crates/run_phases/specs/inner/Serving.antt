@@ -1,17 +1,13 @@
 -- What the workers of a phase are given, and what they can do with it.
-use Rattle.std.specs.Prelude.{ℕ, ◌≡◌, ◌<◌, Bool, List, length, slice_index}
 use Rattle.std.specs.List.{AllByRecursion, AllZip}
+use Rattle.std.specs.Prelude.{ℕ, ◌≡◌, ◌<◌, Bool, List, length, slice_index}
 use Rattle.auction_rows.specs.declared.{limits.Policy.Policy, requests.Object.Object, requests.Request.Request, rows.Entry.Entry}
 use Rattle.shard_boxes.specs.States.{ShardState}
-use Rattle.phase_transactions.specs.Performing.{HaveOpening}
-use Rattle.worker_slices.specs.Slicing.{hot_objects}
-use Rattle.worker_slices.specs.Stashes.{StashState}
-use Rattle.phase_transactions.specs.Workers.{WorkerState}
+use Rattle.phase_transactions.specs.{Performing.{HaveOpening}, Workers.{WorkerState}}
+use Rattle.worker_slices.specs.{Slicing.{hot_objects}, Stashes.{StashState}}
 use Rattle.phase_floor.specs.Closings.{AreOfScripts, AreReceiptsOf, Leaves}
-use Rattle.phase_floor.specs.Floors.{FloorState, AreBegun, stash_at}
-use Rattle.phase_floor.specs.States.{JoinedState}
-use Rattle.phase_workers.specs.Tasks.{Task, tasks, CanBeDone, HasDoneTask}
-use Rattle.phase_workers.specs.Working.{ArePermitsOf}
+use Rattle.phase_floor.specs.{Floors.{FloorState, AreBegun, stash_at}, States.{JoinedState}}
+use Rattle.phase_workers.specs.{Tasks.{Task, tasks, CanBeDone, HasDoneTask}, Working.{ArePermitsOf}}
 use Rattle.run_laws.specs.Serving.{script_of}
 use Rattle.run_phases.specs.inner.Plans.{waiting_in, quota_of}
 

@@ -1,8 +1,7 @@
 -- What a grant shows, by its pass.
 use Rattle.ruled_cell.specs.Passes.{Pass, view}
 use Rattle.item_shards.specs.declared.shard.Shard.{Shard}
-use Rattle.shard_boxes.specs.declared.shard_box.Knowledge.{Knowledge}
-use Rattle.shard_boxes.specs.Passes.{GrantState}
+use Rattle.shard_boxes.specs.{Passes.{GrantState}, declared.shard_box.Knowledge.{Knowledge}}
 
 -- what a grant shows by its pass
 abbrev pub grant_of : Pass Shard Knowledge → GrantState

@@ -1,12 +1,9 @@
 -- One grant for each box, as the boxes are opened and closed.
 use Rattle.std.specs.Prelude.{◌≡◌, ℕ, ◌+◌, ◌<◌, false, List, [], length, slice_index_or}
-use Rattle.shard_boxes.specs.declared.shard_box.Knowledge.{Knowledge}
+use Rattle.shard_boxes.specs.{Keys.{BoxId}, Lines.{Line, IsShardHistory, lines_of}}
+use Rattle.shard_boxes.specs.{Passes.{Speaks, IsSpare, start_of, GrantState}, Seats.{boxes_of}}
 use Rattle.shard_boxes.specs.States.{ShardState, state_at}
-use Rattle.shard_boxes.specs.Lines.{Line, IsShardHistory, lines_of}
-use Rattle.shard_boxes.specs.Keys.{BoxId}
-use Rattle.shard_boxes.specs.Passes.{Speaks, IsSpare, start_of, GrantState}
-use Rattle.shard_boxes.specs.inner.Steps.{ready}
-use Rattle.shard_boxes.specs.Seats.{boxes_of}
+use Rattle.shard_boxes.specs.{declared.shard_box.Knowledge.{Knowledge}, inner.Steps.{ready}}
 
 -- two grants can be united, the second for the workers that follow those of the first
 pub record CanUnite (box : BoxId) (grant other : GrantState) : Type 0 where

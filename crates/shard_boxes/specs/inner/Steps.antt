@@ -1,12 +1,10 @@
 -- What a pass knows at first, and after each of its steps.
 use Rattle.std.specs.Prelude.{◌≡◌, ℕ, ◌+◌, ltb, cond, true, false, List, [], ◌∷◌, ◌++◌, length, replicate, Option, Some, None}
 use Rattle.item_shards.specs.declared.shard.Shard.{Shard}
+use Rattle.shard_boxes.specs.{Keys.{added, entries}, Lines.{Line, after_lines, StartsWith}}
+use Rattle.shard_boxes.specs.{Passes.{start_of}, States.{state_of}}
 use Rattle.shard_boxes.specs.declared.shard_box.Knowledge.{Knowledge}
-use Rattle.shard_boxes.specs.States.{state_of}
-use Rattle.shard_boxes.specs.Lines.{Line, after_lines, StartsWith}
-use Rattle.shard_boxes.specs.Keys.{added, entries}
 use Rattle.shard_boxes.specs.inner.Rule.{IsLawfulList, HasParts}
-use Rattle.shard_boxes.specs.Passes.{start_of}
 
 -- the maker of a box is as after a phase of one worker, who did nothing
 abbrev pub maker : Knowledge

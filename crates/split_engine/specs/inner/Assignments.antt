@@ -1,14 +1,10 @@
 -- What a worker is given of a split phase, and what it has done.
-use Rattle.std.specs.Prelude.{◌≡◌, ℕ, suc, Bool, List, [], ◌∷◌, ◌++◌, ◌<◌, ◌≤◌, ◌+◌, ◌-◌, ◌*◌, length}
 use Rattle.std.specs.List.{AllByRecursion}
-use Rattle.split_engine.specs.declared.entry.Entry.{Entry}
-use Rattle.split_engine.specs.declared.few.TheConstants.{MOST_KEYS}
-use Rattle.split_engine.specs.declared.state.Cursor.{Cursor}
-use Rattle.split_engine.specs.Rules.{Rules, most_acts, index_end}
-use Rattle.split_engine.specs.Serial.{IsWithin}
-use Rattle.split_engine.specs.Splitting.{slices_of, all_merged}
-use Rattle.split_engine.specs.inner.Commits.{joined}
-use Rattle.split_engine.specs.Serving.{calls_before}
+use Rattle.std.specs.Prelude.{◌≡◌, ℕ, suc, Bool, List, [], ◌∷◌, ◌++◌, ◌<◌, ◌≤◌, ◌+◌, ◌-◌, ◌*◌, length}
+use Rattle.split_engine.specs.{Rules.{Rules, most_acts, index_end}, Serial.{IsWithin}}
+use Rattle.split_engine.specs.{Serving.{calls_before}, Splitting.{slices_of, all_merged}}
+use Rattle.split_engine.specs.declared.{entry.Entry.{Entry}, few.TheConstants.{MOST_KEYS}}
+use Rattle.split_engine.specs.{declared.state.Cursor.{Cursor}, inner.Commits.{joined}}
 use Rattle.split_engine.specs.inner.Phases.{IsUnused, HasPerformedOnSlices}
 
 -- the table as the phase opened, its hot keys, and a worker, its script, its quota and where it

@@ -1,7 +1,6 @@
 -- A short list as its model has it.
 use Rattle.std.specs.Prelude.{List, [], ◌∷◌}
-use Rattle.split_engine.specs.declared.few.Kept.{Kept}
-use Rattle.split_engine.specs.declared.few.Kept.TheVariants.{Nothing, One, Two, Three, Four}
+use Rattle.split_engine.specs.declared.few.Kept.{TheVariants.{Nothing, One, Two, Three, Four}, Kept}
 
 abbrev pub listed : {T : Type 0} → Kept T → List T
 listed Nothing = []

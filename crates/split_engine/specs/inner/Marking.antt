@@ -1,9 +1,8 @@
 -- Marks of requests.
-use Rattle.std.specs.Prelude.{Bool, false, List, length, map, replicate, ◌≡◌, ℕ}
 use Rattle.std.specs.Option.{option_map}
+use Rattle.std.specs.Prelude.{Bool, false, List, length, map, replicate, ◌≡◌, ℕ}
+use Rattle.split_engine.specs.{Checking.{has_line}, Serving.{request_at}}
 use Rattle.split_engine.specs.declared.referee.Line.{Line}
-use Rattle.split_engine.specs.Serving.{request_at}
-use Rattle.split_engine.specs.Checking.{has_line}
 
 -- of each request of some scripts, that it is not marked
 abbrev pub no_marks : {Q : Type 0} → List (List Q) → List (List Bool)

@@ -1,14 +1,11 @@
 -- What phases make of the state of a run.
-use Rattle.std.specs.Prelude.{◌≡◌, ℕ, suc, Bool, true, false, not, ◌&&◌, List, [], ◌∷◌, ◌++◌, ◌<◌, ◌≤◌, ◌+◌, ◌*◌, map, length, replicate, slice_index_or, ⊤, ◌⊎◌}
 use Rattle.std.specs.List.{filter, list_all, AllByRecursion}
+use Rattle.std.specs.Prelude.{◌≡◌, ℕ, suc, Bool, true, false, not, ◌&&◌, List, [], ◌∷◌, ◌++◌, ◌<◌, ◌≤◌, ◌+◌, ◌*◌, map, length, replicate, slice_index_or, ⊤, ◌⊎◌}
 use Rattle.phase_laws.specs.Order.{IsOrderedBy}
-use Rattle.split_engine.specs.declared.entry.Entry.{Entry}
-use Rattle.split_engine.specs.declared.few.TheConstants.{MOST_KEYS}
-use Rattle.split_engine.specs.declared.state.Cursor.{Cursor}
-use Rattle.split_engine.specs.Rules.{Rules}
-use Rattle.split_engine.specs.Serial.{ReplaysFrom, table_after, IsWithin}
-use Rattle.split_engine.specs.Splitting.{IsSplitEntry, slices_of}
+use Rattle.split_engine.specs.{Rules.{Rules}, Serial.{ReplaysFrom, table_after, IsWithin}}
 use Rattle.split_engine.specs.Serving.{calls_before, call_of, calls_of, entries_of, count, IsInTurn}
+use Rattle.split_engine.specs.{Splitting.{IsSplitEntry, slices_of}, declared.entry.Entry.{Entry}}
+use Rattle.split_engine.specs.declared.{few.TheConstants.{MOST_KEYS}, state.Cursor.{Cursor}}
 
 -- whether a key is hot
 abbrev pub is_hot : List Bool → ℕ → Bool

@@ -1,8 +1,8 @@
 use Rattle.std.proofs.Common.{◌≡◌, ◌<◌, ap, sym, ◌∙◌, insert, length, eqb-true, arith}
 use Rattle.std.proofs.lemmas.Bool.{eqb-false}
 use Rattle.top_records.proofs.Places.{put_within, put_for_last, put_past}
-use Rattle.top_records.proofs.put_at.Goals as goal
 use Rattle.top_records.proofs.put_at.Goals.{then-is_full+else-index, else-is_full}
+use Rattle.top_records.proofs.put_at.Goals as goal
 
 pub returns-then-index : goal.returns-then-index
 returns-then-index g c =

@@ -1,10 +1,8 @@
 -- The requests of a journal's heads, where they lie.
-use Rattle.std.specs.Prelude.{◌≡◌, ℕ, ◌<◌, List, [], ◌∷◌, ◌++◌, Option, map, length, slice_get, unwrap_or}
 use Rattle.std.specs.List.{AllByRecursion}
-use Rattle.auction_rows.specs.declared.requests.Request.{Request}
-use Rattle.auction_rows.specs.declared.requests.Request.TheVariants.{ViewUser}
-use Rattle.worker_journals.specs.declared.asked.Asked.{Asked}
-use Rattle.worker_journals.specs.declared.asked.Asked.TheVariants.{Kept, Own}
+use Rattle.std.specs.Prelude.{◌≡◌, ℕ, ◌<◌, List, [], ◌∷◌, ◌++◌, Option, map, length, slice_get, unwrap_or}
+use Rattle.auction_rows.specs.declared.requests.Request.{TheVariants.{ViewUser}, Request}
+use Rattle.worker_journals.specs.declared.asked.Asked.{TheVariants.{Kept, Own}, Asked}
 use Rattle.worker_journals.specs.declared.heads.Head.{Head}
 
 -- a request that no head says

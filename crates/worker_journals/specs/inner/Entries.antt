@@ -1,10 +1,8 @@
 -- The entries that a journal's heads say.
-use Rattle.std.specs.Prelude.{◌≡◌, ℕ, ◌+◌, ◌-◌, ◌≤◌, List, map, length}
-use Rattle.std.specs.List.{AllByRecursion}
+use Rattle.std.specs.{List.{AllByRecursion}, Prelude.{◌≡◌, ℕ, ◌+◌, ◌-◌, ◌≤◌, List, map, length}}
 use Rattle.auction_rows.specs.declared.rows.Entry.{Entry}
-use Rattle.worker_journals.specs.declared.heads.Head.{Head}
-use Rattle.worker_journals.specs.inner.HeadLists.{AskedHead}
 use Rattle.worker_journals.specs.Journals.{JournalView, seen, IsLawfulJournal}
+use Rattle.worker_journals.specs.{declared.heads.Head.{Head}, inner.HeadLists.{AskedHead}}
 use Rattle.worker_journals.specs.inner.Sides.{SideLists, reply_from, HasReply, SaysReply}
 
 -- the entry that a head of a worker's journal of a phase says, with the journal's side lists

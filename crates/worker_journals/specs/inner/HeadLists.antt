@@ -1,9 +1,8 @@
 -- The heads of a journal, with their requests.
 use Rattle.std.specs.Prelude.{◌≡◌, ℕ, Bool, true, List, [], ◌∷◌, Some, map, slice_get}
 use Rattle.auction_rows.specs.declared.requests.Request.{Request}
-use Rattle.worker_journals.specs.declared.heads.Head.{Head}
+use Rattle.worker_journals.specs.{Rising.{RisesTo}, declared.heads.Head.{Head}}
 use Rattle.worker_journals.specs.declared.heads.ShortReply.{ShortReply}
-use Rattle.worker_journals.specs.Rising.{RisesTo}
 
 -- a head by its parts
 abbrev pub head_by : ℕ → ℕ → ShortReply → Head

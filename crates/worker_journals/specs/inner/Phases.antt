@@ -1,10 +1,8 @@
 -- The phases of a history, by their journals.
+use Rattle.std.specs.{Global.{Vec}, List.{flat_map, AllByRecursion}}
 use Rattle.std.specs.Prelude.{◌≡◌, ℕ, List, [], ◌∷◌, length, map}
-use Rattle.std.specs.Global.{Vec}
-use Rattle.std.specs.List.{flat_map, AllByRecursion}
 use Rattle.auction_rows.specs.declared.rows.Entry.{Entry}
-use Rattle.worker_journals.specs.Histories.{ArePhase, HistoryView}
-use Rattle.worker_journals.specs.Journals.{JournalView}
+use Rattle.worker_journals.specs.{Histories.{ArePhase, HistoryView}, Journals.{JournalView}}
 use Rattle.worker_journals.specs.Merged.{merged}
 
 -- the entries of phases, one phase after the other

@@ -1,10 +1,9 @@
 -- What is left of journals while their entries are told in one order.
-use Rattle.std.specs.Prelude.{◌≡◌, ℕ, ◌<◌, ◌≤◌, List, [], ◌∷◌, ◌++◌, Option, None, Some, map, take, drop, length, slice_get, slice_index_or, unwrap_or, IfSome, nat_lt, if◌then◌else◌}
 use Rattle.std.specs.List.{flat_map, AllByRecursion}
-use Rattle.auction_rows.specs.declared.rows.Entry.{Entry}
-use Rattle.auction_rows.specs.declared.requests.Request.TheVariants.{ViewUser}
-use Rattle.auction_rows.specs.declared.replies.Reply.TheVariants.{Refused}
+use Rattle.std.specs.Prelude.{◌≡◌, ℕ, ◌<◌, ◌≤◌, List, [], ◌∷◌, ◌++◌, Option, None, Some, map, take, drop, length, slice_get, slice_index_or, unwrap_or, IfSome, nat_lt, if◌then◌else◌}
 use Rattle.auction_rows.specs.declared.replies.Refusal.TheVariants.{NoSuchItem}
+use Rattle.auction_rows.specs.declared.replies.Reply.TheVariants.{Refused}
+use Rattle.auction_rows.specs.declared.{requests.Request.TheVariants.{ViewUser}, rows.Entry.{Entry}}
 use Rattle.worker_journals.specs.Journals.{JournalView, entry_number, IsLawfulJournal}
 use Rattle.worker_journals.specs.Merged.{entries_of, AreByWorker}
 

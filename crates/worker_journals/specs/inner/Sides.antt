@@ -1,13 +1,12 @@
 -- What a journal keeps beside its heads, and what is said with it.
 use Rattle.std.specs.Prelude.{◌≡◌, ℕ, pos, ◌+◌, ◌-◌, ◌<◌, ◌≤◌, List, [], ◌++◌, ⊤, None, length, take, drop, slice_index_or}
-use Rattle.auction_rows.specs.declared.limits.TheConstants.{MOST_SHOWN}
-use Rattle.auction_rows.specs.declared.{replies.Reply.Reply, replies.ItemView.ItemView}
+use Rattle.auction_rows.specs.{ItemViews.{item_reply}, declared.limits.TheConstants.{MOST_SHOWN}}
 use Rattle.auction_rows.specs.declared.replies.Reply.TheVariants.{ItemStored, BidStored, CommentStored, Bought, ItemSeen, BidsSeen, CategorySeen, UserSeen, Refused}
-use Rattle.auction_rows.specs.ItemViews.{item_reply}
+use Rattle.auction_rows.specs.declared.{replies.Reply.Reply, replies.ItemView.ItemView}
+use Rattle.worker_journals.specs.Shown.{ShownLists, nothing_shown, shown_in}
 use Rattle.worker_journals.specs.declared.heads.ShortReply.{ShortReply}
 use Rattle.worker_journals.specs.declared.heads.ShortReply.TheVariants as told
 use Rattle.worker_journals.specs.declared.heads.UserSeen.{UserSeen as SeenUser}
-use Rattle.worker_journals.specs.Shown.{ShownLists, nothing_shown, shown_in}
 
 -- the side lists of a journal
 pub record SideLists : Type 0 where

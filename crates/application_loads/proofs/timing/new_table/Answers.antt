@@ -1,5 +1,4 @@
-use Rattle.std.proofs.Common.{sym, subst}
-use Rattle.std.specs.List.{AllByRecursion}
+use Rattle.std.{proofs.Common.{sym, subst}, specs.List.{AllByRecursion}}
 use Rattle.application_loads.proofs.Tables.{all_more}
 use Rattle.application_loads.proofs.timing.new_table.Goals as goal
 

@@ -1,7 +1,7 @@
 use Rattle.std.proofs.Common.{◌≡◌, ◌++◌, length, length-append, take, append_assoc, sym, ap, ◌∙◌, subst, arith}
 use Rattle.std.specs.List.{flat_map, AllByRecursion}
-use Rattle.application_log.specs.Logs.{lines_of, log_text, requests_of}
 use Rattle.application_log.proofs.LogLemmas.{all_append, count_both, lines_le, log_text-append, more_pieces}
+use Rattle.application_log.specs.Logs.{lines_of, log_text, requests_of}
 use Rattle.application_log.proofs.commit_log.write_lines.Goals as goal
 
 pub overflow_add-lines : goal.overflow_add-lines

@@ -1,5 +1,4 @@
-use Rattle.std.proofs.Common.{◌≡◌, ◌++◌, length, take}
-use Rattle.std.specs.List.{flat_map, AllByRecursion}
+use Rattle.std.{proofs.Common.{◌≡◌, ◌++◌, length, take}, specs.List.{flat_map, AllByRecursion}}
 use Rattle.application_log.specs.Logs.{lines_of, log_text, requests_of}
 use Rattle.application_log.proofs.commit_log.write_lines.Given as goal
 

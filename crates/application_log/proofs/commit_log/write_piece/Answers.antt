@@ -1,10 +1,9 @@
 use Rattle.std.proofs.Common.{rules, ◌≡◌, ◌+◌, ◌≤◌, ◌++◌, ◌∷◌, [], length, take, sym, ap, ◌∙◌, subst, arith}
 use Rattle.std.specs.List.{AllByRecursion}
 use Rattle.split_engine.specs.declared.entry.Entry.{Entry}
-use Rattle.application_log.specs.Lines.{IsWritten}
-use Rattle.application_log.specs.Logs.{lines_of, log_text, requests_of}
 use Rattle.application_log.proofs.LogLemmas.{all_append, count_logged, count_unlogged, logged_more, more_requests, unlogged_more}
 use Rattle.application_log.proofs.commit_log.write_piece.Goals.{then-is_logged+in_ok-push, else-is_logged}
+use Rattle.application_log.specs.{Lines.{IsWritten}, Logs.{lines_of, log_text, requests_of}}
 use Rattle.application_log.proofs.commit_log.write_piece.Goals as goal
 
 pub loop-place-preserved : goal.loop-place-preserved

@@ -1,5 +1,4 @@
-use Rattle.std.proofs.Common.{◌≡◌, ◌++◌, ◌≤◌, length, take}
-use Rattle.std.specs.List.{AllByRecursion}
+use Rattle.std.{proofs.Common.{◌≡◌, ◌++◌, ◌≤◌, length, take}, specs.List.{AllByRecursion}}
 use Rattle.application_log.specs.Logs.{lines_of, log_text, requests_of}
 use Rattle.application_log.proofs.commit_log.write_piece.Given as goal
 

@@ -1,9 +1,9 @@
 use Rattle.std.proofs.Common.{◌≡◌, ◌++◌, ◌<◌, length, take, append_assoc, ap, sym, ◌∙◌, subst, arith}
 use Rattle.std.specs.List.{AllByRecursion}
 use Rattle.split_engine.specs.Serial.{IsWithin}
-use Rattle.application_log.specs.declared.loggable.TheConstants.{MOST_LINES}
-use Rattle.application_log.specs.Logs.{lines_of, log_text, requests_of}
 use Rattle.application_log.proofs.LogLemmas.{all_append, all_behind, all_front, all_take, cut_text, lines_of-take-le, log_text-append, never, requests_of-append}
+use Rattle.application_log.specs.Logs.{lines_of, log_text, requests_of}
+use Rattle.application_log.specs.declared.loggable.TheConstants.{MOST_LINES}
 use Rattle.application_log.proofs.laws.a_log_is_never_refused.Goals as goal
 
 pub returns : goal.returns

@@ -1,8 +1,7 @@
-use Rattle.std.proofs.Common.{sym, ap, ◌∙◌, subst}
-use Rattle.std.proofs.KnownBytes.{Appends-trans}
+use Rattle.std.proofs.{Common.{sym, ap, ◌∙◌, subst}, KnownBytes.{Appends-trans}}
 use Rattle.std.specs.Io.KnownBytes.{Appends}
-use Rattle.application_log.specs.Logs.{log_text, requests_of}
 use Rattle.application_log.proofs.LogLemmas.{log_text-append, requests_of-append}
+use Rattle.application_log.specs.Logs.{log_text, requests_of}
 use Rattle.application_log.proofs.laws.parts_are_one_history.Goals as goal
 
 pub returns : goal.returns

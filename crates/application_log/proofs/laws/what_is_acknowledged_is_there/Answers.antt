@@ -1,8 +1,7 @@
 use Rattle.std.proofs.Common.{◌++◌, [], length, take, append_assoc, ap, sym, ◌∙◌, subst}
-use Rattle.std.proofs.lemmas.List.{append-nil}
-use Rattle.std.specs.List.{AllByRecursion}
-use Rattle.application_log.specs.Logs.{after_requests, log_text, requests_of}
+use Rattle.std.{proofs.lemmas.List.{append-nil}, specs.List.{AllByRecursion}}
 use Rattle.application_log.proofs.LogLemmas.{after_history, all_append, all_behind, all_front, all_take, cut_text, log_text-append, requests_of-append, same_table, take-requests}
+use Rattle.application_log.specs.Logs.{after_requests, log_text, requests_of}
 use Rattle.application_log.proofs.laws.what_is_acknowledged_is_there.Goals as goal
 
 pub returns-clause-acknowledged : goal.returns-clause-acknowledged

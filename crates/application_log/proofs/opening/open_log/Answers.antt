@@ -1,12 +1,9 @@
 use Rattle.std.proofs.Common.{◌≡◌, ◌+◌, ◌*◌, ◌++◌, ◌∷◌, [], length, length-append, IfSome, inr, refl, sym, ap, ◌∙◌, subst, arith}
 use Rattle.std.specs.List.{AllByRecursion}
 use Rattle.split_engine.specs.declared.few.TheConstants.{MOST_KEYS}
-use Rattle.application_log.specs.Lines.{HasNoEnd}
-use Rattle.application_log.specs.Logs.{log_text}
-use Rattle.application_log.specs.Faults.{IsOpenFault}
+use Rattle.application_log.proofs.{LineLemmas.{error_is, if_known}, LogLemmas.{text_behind}}
+use Rattle.application_log.specs.{Faults.{IsOpenFault}, Lines.{HasNoEnd}, Logs.{log_text}}
 use Rattle.application_log.specs.declared.opening.OpenFault.{OpenFault}
-use Rattle.application_log.proofs.LineLemmas.{error_is, if_known}
-use Rattle.application_log.proofs.LogLemmas.{text_behind}
 use Rattle.application_log.proofs.opening.open_log.Goals as goal
 
 pub loop-number-init : goal.loop-number-init

@@ -1,5 +1,4 @@
-use Rattle.std.proofs.Common.{◌<◌, sym, subst}
-use Rattle.std.specs.List.{AllByRecursion}
+use Rattle.std.{proofs.Common.{◌<◌, sym, subst}, specs.List.{AllByRecursion}}
 use Rattle.application_log.proofs.reading.is_within.Goals as goal
 
 pub returns-clause-yes : goal.returns-clause-yes

@@ -1,5 +1,4 @@
-use Rattle.std.proofs.Common.{rules, ◌≡◌, ◌++◌, IfSome, sym, ◌∙◌}
-use Rattle.std.proofs.lemmas.Bool.{eqb-false}
+use Rattle.std.proofs.{Common.{rules, ◌≡◌, ◌++◌, IfSome, sym, ◌∙◌}, lemmas.Bool.{eqb-false}}
 use Rattle.std.specs.Io.BufRead.{take_through}
 use Rattle.application_log.proofs.LineLemmas.{before_last, none_read, same_last}
 use Rattle.application_log.proofs.reading.read_whole_line.Goals as goal

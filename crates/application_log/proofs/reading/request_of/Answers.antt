@@ -1,6 +1,5 @@
 use Rattle.std.proofs.Common.{subst}
-use Rattle.application_log.specs.Lines.{IsWritten}
-use Rattle.application_log.proofs.LineLemmas.{unwritten}
+use Rattle.application_log.{proofs.LineLemmas.{unwritten}, specs.Lines.{IsWritten}}
 use Rattle.application_log.proofs.reading.request_of.Goals as goal
 
 pub returns-then-not-is_logged-clause-only : goal.returns-then-not-is_logged-clause-only

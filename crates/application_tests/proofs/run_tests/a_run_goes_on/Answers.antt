@@ -1,5 +1,4 @@
-use Rattle.std.proofs.Common.{◌+◌, ◌*◌, length, sym, subst, arith}
-use Rattle.std.specs.List.{AllByRecursion}
+use Rattle.std.{proofs.Common.{◌+◌, ◌*◌, length, sym, subst, arith}, specs.List.{AllByRecursion}}
 use Rattle.application_tests.specs.Model.{IsMadeBy}
 use Rattle.application_tests.proofs.run_tests.a_run_goes_on.Goals as goal
 

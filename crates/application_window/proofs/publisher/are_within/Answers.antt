@@ -1,7 +1,6 @@
-use Rattle.std.proofs.Common.{subst, sym, true≢false}
+use Rattle.std.proofs.{Common.{subst, sym, true≢false}, lemmas.List.{take_all}}
 use Rattle.std.specs.List.{AllByRecursion}
 use Rattle.split_engine.specs.Serial.{IsWithin}
-use Rattle.std.proofs.lemmas.List.{take_all}
 use Rattle.application_window.proofs.Elements.{all_take, all_at}
 use Rattle.application_window.proofs.publisher.are_within.Goals as goal
 

@@ -1,8 +1,6 @@
 use Rattle.std.proofs.Common.{◌≡◌, ◌+◌, true, false, length, refl, sym, ap, ◌∙◌, arith}
-use Rattle.std.specs.Prelude.{Result, Ok, Err}
-use Rattle.std.specs.Result.{is_err, is_ok}
-use Rattle.std.proofs.lemmas.Bool.{false≢true}
-use Rattle.std.proofs.lemmas.List.{length_push}
+use Rattle.std.proofs.lemmas.{Bool.{false≢true}, List.{length_push}}
+use Rattle.std.specs.{Prelude.{Result, Ok, Err}, Result.{is_err, is_ok}}
 use Rattle.application_window.proofs.Growing.{none_more}
 use Rattle.application_window.proofs.publisher.open_windows.Goals as goal
 

@@ -1,5 +1,4 @@
-use Rattle.std.proofs.Common.{◌<◌, take}
-use Rattle.std.specs.List.{AllByRecursion}
+use Rattle.std.{proofs.Common.{◌<◌, take}, specs.List.{AllByRecursion}}
 use Rattle.application_window.proofs.table_copy.are_keys.Given as goal
 
 abbrev pub invariant-loop-place : goal.invariant-loop-place

@@ -1,7 +1,5 @@
-use Rattle.std.proofs.Common.{◌≡◌, ℕ, ◌+◌, ◌*◌, take}
-use Rattle.std.specs.List.{AllByRecursion}
-use Rattle.split_engine.specs.declared.few.TheConstants.{MOST_KEYS}
-use Rattle.split_engine.specs.Serial.{table_after}
+use Rattle.std.{proofs.Common.{◌≡◌, ℕ, ◌+◌, ◌*◌, take}, specs.List.{AllByRecursion}}
+use Rattle.split_engine.specs.{Serial.{table_after}, declared.few.TheConstants.{MOST_KEYS}}
 use Rattle.application_window.proofs.table_copy.perform_part.Given as goal
 
 abbrev pub invariant-loop-place : goal.invariant-loop-place

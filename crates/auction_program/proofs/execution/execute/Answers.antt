@@ -1,12 +1,11 @@
 use Rattle.std.proofs.Common.{◌≡◌, IfSome, ap, subst, ◌∙◌}
-use Rattle.item_shards.specs.OpeningBooks as book
 use Rattle.item_shards.specs.OpeningRows.{AreRows, opening_rows}
-use Rattle.program_opening.specs.Options.{opening_asked}
+use Rattle.item_shards.specs.OpeningBooks as book
+use Rattle.program_opening.{proofs.ErrorLemmas.{error_is}, specs.Options.{opening_asked}}
 use Rattle.program_opening.specs.declared.faults.Fault.TheVariants.{Resume, Write}
+use Rattle.auction_program.proofs.Answering.{answered, not_long, not_performed, of_input, refused, write_is}
 use Rattle.auction_program.specs.Execution.{ArePartWritten, AreWritten, IsCausedBy, IsOneWritten, IsRefused}
 use Rattle.auction_program.specs.inner.Performing.{IsNotPerformed}
-use Rattle.program_opening.proofs.ErrorLemmas.{error_is}
-use Rattle.auction_program.proofs.Answering.{answered, not_long, not_performed, of_input, refused, write_is}
 use Rattle.auction_program.proofs.execution.execute.Goals as goal
 
 pub returns-in_err-book-clause-cause : goal.returns-in_err-book-clause-cause

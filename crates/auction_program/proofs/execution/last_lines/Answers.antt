@@ -1,7 +1,6 @@
 use Rattle.std.proofs.Common.{◌∙◌, ap}
-use Rattle.auction_program.specs.Report.{category_views, user_views}
-use Rattle.auction_program.specs.inner.Views.{IsEnd}
 use Rattle.auction_program.proofs.ViewLemmas.{if_ok_some}
+use Rattle.auction_program.specs.{Report.{category_views, user_views}, inner.Views.{IsEnd}}
 use Rattle.auction_program.proofs.execution.last_lines.Goals as goal
 
 pub returns : goal.returns

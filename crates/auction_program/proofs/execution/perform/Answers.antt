@@ -1,11 +1,9 @@
-use Rattle.std.proofs.Common.{subst}
-use Rattle.std.proofs.lemmas.Result.{IfOk-weaker}
+use Rattle.std.proofs.{Common.{subst}, lemmas.Result.{IfOk-weaker}}
 use Rattle.item_shards.specs.OpeningBooks as opened
-use Rattle.program_opening.specs.declared.faults.Fault.TheVariants.{Run}
-use Rattle.auction_program.specs.Execution.{IsNotRun}
-use Rattle.auction_program.specs.inner.Performing.{IsNotPerformed}
 use Rattle.program_opening.proofs.ErrorLemmas.{error_is}
-use Rattle.auction_program.proofs.Answering.{not_run}
+use Rattle.program_opening.specs.declared.faults.Fault.TheVariants.{Run}
+use Rattle.auction_program.{proofs.Answering.{not_run}, specs.Execution.{IsNotRun}}
+use Rattle.auction_program.specs.inner.Performing.{IsNotPerformed}
 use Rattle.auction_program.proofs.execution.perform.Goals as goal
 
 pub perform_watched-requires-clause-report : goal.perform_watched-requires-clause-report

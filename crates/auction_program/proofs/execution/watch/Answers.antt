@@ -1,23 +1,18 @@
 use Rattle.std.proofs.Common.{rules, ◌≡◌, ◌∙◌, [], List, length, ap, sym, subst, MatchOption}
 use Rattle.std.proofs.lemmas.Option.{IfSome_then}
 use base.Growing.{prefix_refl}
-use Rattle.auction_rows.specs.declared.rows.Row.{Row}
-use Rattle.auction_rows.specs.Book.{Book}
-use Rattle.auction_rows.specs.History.{book_after, ReplaysFrom}
-use Rattle.auction_rows.proofs.HistoryLemmas.{book_after-replays}
-use Rattle.auction_run.specs.Boards.{phase_rows}
-use Rattle.auction_run.proofs.BoardLemmas.{rows_length}
+use Rattle.auction_rows.{proofs.HistoryLemmas.{book_after-replays}, specs.Book.{Book}}
+use Rattle.auction_rows.specs.{History.{book_after, ReplaysFrom}, declared.rows.Row.{Row}}
+use Rattle.auction_run.{proofs.BoardLemmas.{rows_length}, specs.Boards.{phase_rows}}
 use Rattle.auction_window.specs.Published.{book_of}
 use Rattle.item_shards.specs.OpeningBooks as opened
 use Rattle.phase_floor.specs.States.{StandsFor}
-use Rattle.program_opening.specs.Options.{opening_asked}
+use Rattle.program_opening.{proofs.ErrorLemmas.{error_is}, specs.Options.{opening_asked}}
 use Rattle.program_opening.specs.declared.faults.Fault.TheVariants.{Run}
-use Rattle.auction_program.specs.Execution.{IsNotRun}
+use Rattle.auction_program.{proofs.Answering.{not_run}, specs.Execution.{IsNotRun}}
+use Rattle.auction_program.specs.declared.execution.Performed.{Performed}
 use Rattle.auction_program.specs.inner.Performing.{HasLastViews, IsNotPerformed}
 use Rattle.auction_program.specs.inner.Views.{AreViews, IsEnd}
-use Rattle.auction_program.specs.declared.execution.Performed.{Performed}
-use Rattle.program_opening.proofs.ErrorLemmas.{error_is}
-use Rattle.auction_program.proofs.Answering.{not_run}
 use Rattle.auction_program.proofs.execution.watch.Goals as goal
 
 pub returns-clause-performs : goal.returns-clause-performs

@@ -1,9 +1,8 @@
 use Rattle.std.proofs.Common.{◌≡◌, ap, ◌∙◌, arith}
 use base.Growing.{prefix_refl, prefix_trans}
 use Rattle.auction_rows.specs.Replies.{reply}
-use Rattle.auction_program.specs.Report.{views}
+use Rattle.auction_program.{proofs.ViewLemmas.{still_end, view_more}, specs.Report.{views}}
 use Rattle.auction_program.specs.inner.Views.{view_of}
-use Rattle.auction_program.proofs.ViewLemmas.{still_end, view_more}
 use Rattle.auction_program.proofs.texts.views_of.Goals as goal
 
 pub loop-number-init : goal.loop-number-init

@@ -1,9 +1,7 @@
 use Rattle.std.proofs.Common.{◌≡◌, List}
 use mathlib.Core.List.{IsPrefix}
-use Rattle.auction_rows.specs.declared.rows.Row.{Row}
-use Rattle.auction_rows.specs.Book.{Book}
-use Rattle.auction_program.specs.Report.{views}
-use Rattle.auction_program.specs.inner.Views.{view_of, IsEnd}
+use Rattle.auction_rows.specs.{Book.{Book}, declared.rows.Row.{Row}}
+use Rattle.auction_program.specs.{Report.{views}, inner.Views.{view_of, IsEnd}}
 use Rattle.auction_program.proofs.texts.views_of.Given as goal
 
 abbrev pub invariant-loop-number : goal.invariant-loop-number

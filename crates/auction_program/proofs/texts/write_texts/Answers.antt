@@ -1,17 +1,15 @@
 use Rattle.std.proofs.Common.{◌≡◌, [], if◌then◌else◌, ap, inr, subst, sym}
+use Rattle.std.proofs.{KnownBytes.{Appends-trans}, lemmas.Result.{IfErr-weaker, on_ok_weaker}}
 use Rattle.std.specs.Io.KnownBytes.{Appends}
-use Rattle.std.proofs.KnownBytes.{Appends-trans}
-use Rattle.std.proofs.lemmas.Result.{IfErr-weaker, on_ok_weaker}
 use Rattle.auction_rows.specs.History.{book_after}
-use Rattle.byte_texts.specs.Writing.{IsPartWritten}
-use Rattle.byte_texts.specs.declared.writing.WriteFault.{WriteFault}
+use Rattle.byte_texts.specs.{Writing.{IsPartWritten}, declared.writing.WriteFault.{WriteFault}}
 use Rattle.program_opening.specs.Options.{commits_text, opening_asked}
+use Rattle.auction_program.proofs.WrittenLemmas.{nothing_added, report_added}
 use Rattle.auction_program.specs.Execution.{added_text, ArePartWritten, IsOneWritten}
 use Rattle.auction_program.specs.Report.{report_of}
+use Rattle.auction_program.proofs.texts.write_texts.Goals as goal
 use Rattle.auction_run.specs.Phases.{hot_sets}
 use Rattle.program_serving.proofs.TextLemmas.{part_of_added}
-use Rattle.auction_program.proofs.WrittenLemmas.{nothing_added, report_added}
-use Rattle.auction_program.proofs.texts.write_texts.Goals as goal
 
 pub returns-in-Some : goal.returns-in-Some
 returns-in-Some g c =

@@ -1,6 +1,6 @@
 use Rattle.std.proofs.Common.{arith, ◌++◌, ◌∙◌, ap, refl, subst, take}
-use Rattle.auction_reading.specs.inner.Said.{HasRead, read_by}
 use Rattle.auction_reading.proofs.SaidLemmas.{has_read_further, has_read_none, scripts_stay}
+use Rattle.auction_reading.specs.inner.Said.{HasRead, read_by}
 use Rattle.auction_reading.proofs.buffered_lines.read_lines.Goals as goal
 
 pub loop-init : goal.loop-init

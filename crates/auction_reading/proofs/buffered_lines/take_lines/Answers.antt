@@ -1,8 +1,7 @@
-use Rattle.std.proofs.Common.{arith, ◌≤◌, ◌+◌, ◌-◌, take, drop}
-use Rattle.std.proofs.lemmas.Grind.{common_steps}
+use Rattle.std.proofs.{Common.{arith, ◌≤◌, ◌+◌, ◌-◌, take, drop}, lemmas.Grind.{common_steps}}
 use Rattle.record_reading.proofs.BufferLemmas.{ends_later, held, moved}
-use Rattle.auction_reading.specs.inner.Said.{read_by}
 use Rattle.auction_reading.proofs.SaidLemmas.{has_read_before, has_read_none}
+use Rattle.auction_reading.specs.inner.Said.{read_by}
 use Rattle.auction_reading.proofs.buffered_lines.take_lines.Goals as goal
 
 pub read_front-requires-clause-ends : goal.read_front-requires-clause-ends

@@ -1,5 +1,4 @@
-use Rattle.auction_reading.specs.Scripts.{records_of}
-use Rattle.auction_reading.proofs.RowsFirst.{rows_first}
+use Rattle.auction_reading.{proofs.RowsFirst.{rows_first}, specs.Scripts.{records_of}}
 use Rattle.auction_reading.proofs.laws.rows_come_first.Goals as goal
 
 pub returns : goal.returns

@@ -1,9 +1,7 @@
 use Rattle.std.proofs.Common.{arith, ◌≡◌, ◌+◌, ◌++◌, ◌∙◌, List, ap, ap₂, rules, sym}
-use Rattle.std.specs.Prelude.{OnOk}
-use Rattle.std.proofs.lemmas.Result.{IfOk-at_ok}
+use Rattle.std.{proofs.lemmas.Result.{IfOk-at_ok}, specs.Prelude.{OnOk}}
 use Rattle.auction_rows.specs.declared.requests.Request.{Request}
-use Rattle.auction_reading.specs.inner.Parcels.{scripts_with}
-use Rattle.auction_reading.proofs.ParcelLemmas.{parts_with}
+use Rattle.auction_reading.{proofs.ParcelLemmas.{parts_with}, specs.inner.Parcels.{scripts_with}}
 use Rattle.auction_reading.proofs.parcel_joins.+joining.Goals as goal
 
 pub returns : goal.returns

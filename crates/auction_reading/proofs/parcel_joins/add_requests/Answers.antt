@@ -1,6 +1,5 @@
 use Rattle.std.proofs.Common.{arith, ◌≡◌, ◌∙◌, ◌++◌, [], List, ap, append-nil, sym}
-use Rattle.std.specs.Prelude.{slice_index_or}
-use Rattle.std.proofs.lemmas.Result.{on_ok_weaker}
+use Rattle.std.{proofs.lemmas.Result.{on_ok_weaker}, specs.Prelude.{slice_index_or}}
 use Rattle.auction_rows.specs.declared.requests.Request.{Request}
 use Rattle.auction_reading.specs.inner.Parcels.{requests_of}
 use Rattle.auction_reading.proofs.parcel_joins.add_requests.Goals as goal

@@ -1,9 +1,8 @@
 use Rattle.std.proofs.Common.{arith, ◌≡◌, ◌<◌, ◌≤◌, ◌+◌, ◌∙◌, ℕ, List, ap, get_or, length, refl, subst, sym}
 use Rattle.record_reading.specs.declared.inputs.TheConstants.{MOST_RECORDS}
+use Rattle.auction_reading.proofs.{ParcelLemmas.{reads_more, rows_more}, SaidLemmas.{has_read_none}}
 use Rattle.auction_reading.specs.inner.Parcels.{AreParcels, Follows, IsParcel}
 use Rattle.auction_reading.specs.inner.Said.{WasRead, read_by}
-use Rattle.auction_reading.proofs.ParcelLemmas.{reads_more, rows_more}
-use Rattle.auction_reading.proofs.SaidLemmas.{has_read_none}
 use Rattle.auction_reading.proofs.parcel_joins.join_all_rows.Goals as goal
 
 pub loop-parcel-init : goal.loop-parcel-init

@@ -1,7 +1,7 @@
 use Rattle.std.proofs.Common.{◌≡◌, ◌≤◌, ℕ, List, drop, length, take}
 use Rattle.record_reading.specs.declared.inputs.TheConstants.{MOST_RECORDS}
-use Rattle.auction_reading.specs.inner.Said.{HasRead, read_by}
 use Rattle.auction_reading.specs.inner.Parcels.{AreParcels, but_requests, read_with_all}
+use Rattle.auction_reading.specs.inner.Said.{HasRead, read_by}
 use Rattle.auction_reading.proofs.parcel_joins.join_all_rows.Given as goal
 
 abbrev pub invariant-loop-parcel : goal.invariant-loop-parcel

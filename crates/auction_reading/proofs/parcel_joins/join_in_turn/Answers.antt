@@ -1,7 +1,7 @@
 use Rattle.std.proofs.Common.{arith, ◌<◌, ◌≤◌, ◌∙◌, List, ap, length, refl, sym, take_all}
 use Rattle.auction_rows.specs.declared.requests.Request.{Request}
-use Rattle.auction_reading.specs.inner.Parcels.{scripts_with}
 use Rattle.auction_reading.proofs.ParcelLemmas.{one_joined, others_yet}
+use Rattle.auction_reading.specs.inner.Parcels.{scripts_with}
 use Rattle.auction_reading.proofs.parcel_joins.join_in_turn.Goals as goal
 
 pub loop-script-init : goal.loop-script-init

@@ -1,9 +1,8 @@
 use Rattle.std.proofs.Common.{arith, ◌≡◌, ◌∙◌, List, ap, drop, length, subst, sym, take}
 use Rattle.std.proofs.lemmas.List.{with_items_is}
 use Rattle.auction_rows.specs.declared.requests.Request.{Request}
-use Rattle.auction_reading.specs.inner.Said.{HasRead, WasRead, read_by}
-use Rattle.auction_reading.specs.inner.Parcels.{scripts_with}
 use Rattle.auction_reading.proofs.ParcelLemmas.{requests_joined}
+use Rattle.auction_reading.specs.inner.{Parcels.{scripts_with}, Said.{HasRead, WasRead, read_by}}
 use Rattle.auction_reading.proofs.parcel_joins.join_parcels.Goals as goal
 
 pub returns-clause-within : goal.returns-clause-within

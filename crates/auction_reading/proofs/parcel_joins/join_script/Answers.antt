@@ -1,7 +1,6 @@
 use Rattle.std.proofs.Common.{◌∙◌, ◌++◌, List, ap, append-nil, sym, take_all}
-use Rattle.auction_reading.specs.declared.parcels.Parcel.{Parcel}
-use Rattle.auction_reading.specs.inner.Parcels.{all_requests_of}
 use Rattle.auction_reading.proofs.ParcelLemmas.{requests_more}
+use Rattle.auction_reading.specs.{declared.parcels.Parcel.{Parcel}, inner.Parcels.{all_requests_of}}
 use Rattle.auction_reading.proofs.parcel_joins.join_script.Goals as goal
 
 pub loop-parcel-init : goal.loop-parcel-init

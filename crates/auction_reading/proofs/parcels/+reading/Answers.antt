@@ -1,6 +1,5 @@
 use Rattle.std.proofs.Common.{rules}
-use Rattle.auction_reading.specs.inner.Parcels.{AreParcels}
-use Rattle.auction_reading.proofs.ParcelLemmas.{both_are}
+use Rattle.auction_reading.{proofs.ParcelLemmas.{both_are}, specs.inner.Parcels.{AreParcels}}
 use Rattle.auction_reading.proofs.parcels.+reading.Goals as goal
 
 pub returns : goal.returns

@@ -1,5 +1,4 @@
-use Rattle.std.proofs.Common.{arith, ◌≤◌, length}
-use Rattle.std.proofs.lemmas.List.{length-take-le}
+use Rattle.std.proofs.{Common.{arith, ◌≤◌, length}, lemmas.List.{length-take-le}}
 use Rattle.auction_reading.proofs.PieceLemmas.{ends_in}
 use Rattle.auction_reading.proofs.parcels.cut.Goals as goal
 

@@ -1,6 +1,5 @@
 use Rattle.std.proofs.Common.{arith, ◌<◌, ◌≤◌, length, subst, sym, take, take_all}
-use Rattle.std.proofs.lemmas.List.{take_more_set}
-use Rattle.std.proofs.lemmas.List.Elements.{All-nil, All-push}
+use Rattle.std.proofs.lemmas.List.{Elements.{All-nil, All-push}, take_more_set}
 use Rattle.auction_reading.specs.inner.Parcels.{AreParcels, IsParcel}
 use Rattle.auction_reading.proofs.parcels.read_in_turn.Goals as goal
 

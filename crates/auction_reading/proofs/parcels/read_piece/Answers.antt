@@ -1,7 +1,6 @@
 use Rattle.std.proofs.Common.{arith, ◌<◌, ◌≤◌, drop}
-use Rattle.auction_reading.specs.inner.Said.{read_by}
-use Rattle.auction_reading.proofs.SaidLemmas.{has_read_none}
 use Rattle.auction_reading.proofs.PieceLemmas.{ends_piece, piece_length, piece_read}
+use Rattle.auction_reading.{proofs.SaidLemmas.{has_read_none}, specs.inner.Said.{read_by}}
 use Rattle.auction_reading.proofs.parcels.read_piece.Goals as goal
 
 pub returns-then-end-from-clause-reads : goal.returns-then-end-from-clause-reads

@@ -1,5 +1,4 @@
-use Rattle.std.proofs.Common.{◌≡◌, ◌&&◌, arith, false}
-use Rattle.std.proofs.lemmas.Bool.{and_left, and_right}
+use Rattle.std.proofs.{Common.{◌≡◌, ◌&&◌, arith, false}, lemmas.Bool.{and_left, and_right}}
 use Rattle.auction_reading.proofs.SaidLemmas.{reads_line, reads_no_line}
 use Rattle.auction_reading.proofs.plain_text.add_line.Goals.{else-said-via-then-said+else-progress, else-said-via-else-said}
 use Rattle.auction_reading.proofs.plain_text.add_line.Goals as goal

@@ -1,6 +1,6 @@
 use Rattle.std.proofs.Common.{◌≡◌, ℕ, arith, drop, subst}
-use Rattle.auction_reading.specs.inner.Said.{HasRead, read_by}
 use Rattle.auction_reading.proofs.SaidLemmas.{has_read_none, has_read_then}
+use Rattle.auction_reading.specs.inner.Said.{HasRead, read_by}
 use Rattle.auction_reading.proofs.plain_text.read_plain.Goals as goal
 
 pub loop-at-init : goal.loop-at-init

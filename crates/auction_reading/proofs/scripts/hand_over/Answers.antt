@@ -1,9 +1,8 @@
 use Rattle.std.proofs.Common.{◌≡◌, ◌∙◌, ◌++◌, List, ℕ, ap, ap₂, append_assoc}
-use Rattle.std.proofs.lemmas.Result.{IfErr-weaker, on_ok_weaker}
-use Rattle.std.specs.Fmt.{option_append}
+use Rattle.std.{proofs.lemmas.Result.{IfErr-weaker, on_ok_weaker}, specs.Fmt.{option_append}}
 use Rattle.auction_reading.proofs.ProgressLemmas.{front, read_up_to_front}
-use Rattle.record_reading.proofs.BufferLemmas.{known_all}
 use Rattle.auction_reading.proofs.scripts.hand_over.Goals as goal
+use Rattle.record_reading.proofs.BufferLemmas.{known_all}
 
 pub returns-clause-input : goal.returns-clause-input
 returns-clause-input g c =

@@ -1,6 +1,5 @@
 use Rattle.std.proofs.Common.{◌++◌, ◌∷◌, map, append-nil, append_assoc, ap, sym, ◌∙◌}
-use Rattle.std.specs.Vec.Iter.{into_iter_items}
-use Rattle.std.proofs.lemmas.List.{map_push, nil_from_length}
+use Rattle.std.{proofs.lemmas.List.{map_push, nil_from_length}, specs.Vec.Iter.{into_iter_items}}
 use Rattle.auction_reading.proofs.scripts.lists_of.Goals as goal
 
 pub loop-script-preserved : goal.loop-script-preserved

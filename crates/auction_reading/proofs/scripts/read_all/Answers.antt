@@ -1,8 +1,7 @@
 use Rattle.std.proofs.Common.{ap, arith, sym, ◌∙◌, ◌≡◌, true, false, Err}
 use Rattle.std.proofs.lemmas.Result.{IfOk-from_err, err_from_is_err_and}
 use Rattle.csv.specs.Records.{fields_of}
-use Rattle.record_reading.specs.declared.inputs.TheConstants.{MOST_RECORDS}
-use Rattle.record_reading.specs.Asking.{asked_of}
+use Rattle.record_reading.specs.{Asking.{asked_of}, declared.inputs.TheConstants.{MOST_RECORDS}}
 use Rattle.auction_reading.proofs.ProgressLemmas.{reading_up_to}
 use Rattle.auction_reading.proofs.SoFar.{reading_end, reading_fault, reading_long, reading_more}
 use Rattle.auction_reading.proofs.scripts.read_all.Goals as goal

@@ -1,10 +1,9 @@
 use Rattle.std.proofs.Common.{◌≡◌, ◌≤◌, ◌-◌, ℕ, List, vec_len}
 use Rattle.csv.specs.Reading.{strip_bom}
+use Rattle.record_reading.specs.{Asking.{asked_of}, Reading.{IsPlain}}
 use Rattle.record_reading.specs.declared.inputs.TheConstants.{MOST_RECORDS}
-use Rattle.auction_reading.specs.inner.Progress.{IsAtStart, IsReadUpTo, unmarked}
-use Rattle.record_reading.specs.Reading.{IsPlain}
-use Rattle.record_reading.specs.Asking.{asked_of}
 use Rattle.auction_reading.proofs.SoFar.{IsReading}
+use Rattle.auction_reading.specs.inner.Progress.{IsAtStart, IsReadUpTo, unmarked}
 use Rattle.auction_reading.proofs.scripts.read_all.Given as goal
 
 abbrev pub invariant-loop-progress : goal.invariant-loop-progress

@@ -1,8 +1,7 @@
 use Rattle.std.proofs.Common.{arith, ◌≡◌, ◌<◌, ◌∙◌, [], Err, ap, length}
 use Rattle.std.proofs.lemmas.Result.{IfOk-from_err, err_from_is_err_and}
 use Rattle.record_reading.proofs.BufferLemmas.{known_all}
-use Rattle.auction_reading.proofs.ProgressLemmas.{read_to_end}
-use Rattle.auction_reading.proofs.SaidLemmas.{read_from_start}
+use Rattle.auction_reading.proofs.{ProgressLemmas.{read_to_end}, SaidLemmas.{read_from_start}}
 use Rattle.auction_reading.proofs.scripts.read_input.Goals as goal
 
 pub returns-then-held-eq0-clause-input : goal.returns-then-held-eq0-clause-input

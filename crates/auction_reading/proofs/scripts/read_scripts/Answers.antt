@@ -1,6 +1,5 @@
 use Rattle.std.proofs.Common.{◌≡◌, Err, List, ap, subst, sym, ◌∙◌}
-use Rattle.std.specs.Prelude.{IfSome, Ok}
-use Rattle.std.proofs.lemmas.Result.{err_from_is_err_and}
+use Rattle.std.{proofs.lemmas.Result.{err_from_is_err_and}, specs.Prelude.{IfSome, Ok}}
 use Rattle.auction_rows.specs.declared.requests.{Request.Request, Opened.Opened}
 use Rattle.record_reading.specs.Asking.{Asked}
 use Rattle.auction_reading.specs.Scripts.{input_of}

@@ -1,7 +1,7 @@
 use Rattle.auction_rows.proofs.HistoryLemmas.{book_after-replays, rows_go_on, replays_parts}
-use Rattle.phase_laws.proofs.ReplayLemmas.{replays_append}
 use Rattle.auction_rows.specs.History.{IsRight, after_entry}
 use Rattle.auction_rows.proofs.laws.histories.Goals as goal
+use Rattle.phase_laws.proofs.ReplayLemmas.{replays_append}
 
 pub returns : goal.returns
 returns c = record {

@@ -1,5 +1,4 @@
-use Rattle.auction_rows.proofs.RequestLemmas.{row_made}
-use Rattle.auction_rows.specs.Refusals.{refusal}
+use Rattle.auction_rows.{proofs.RequestLemmas.{row_made}, specs.Refusals.{refusal}}
 use Rattle.auction_rows.proofs.laws.stores_add_rows.Goals as goal
 
 pub returns : goal.returns

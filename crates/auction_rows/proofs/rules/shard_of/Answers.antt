@@ -1,7 +1,6 @@
 use Rattle.std.proofs.Common.{ap, sym, ◌∙◌, ◌%◌}
-use Rattle.auction_rows.specs.Requests.{shard_of}
-use Rattle.auction_rows.specs.declared.requests.Object.{Object}
 use Rattle.auction_rows.proofs.rules.shard_of.Goals.{in-Item, in-User, in-Category}
+use Rattle.auction_rows.specs.{Requests.{shard_of}, declared.requests.Object.{Object}}
 use Rattle.auction_rows.proofs.rules.shard_of.Goals as goal
 
 pub returns-clause-shard : goal.returns-clause-shard

@@ -1,8 +1,6 @@
-use Rattle.std.proofs.Common.{arith, ◌≡◌, ◌<◌, ◌∙◌, ap}
+use Rattle.std.proofs.{Common.{arith, ◌≡◌, ◌<◌, ◌∙◌, ap}, lemmas.Bool.{false≢true}}
 use Rattle.std.specs.Prelude.{slice_index_or}
-use Rattle.std.proofs.lemmas.Bool.{false≢true}
-use Rattle.item_shards.specs.OpeningBooks.{rows_of_book}
-use Rattle.item_shards.specs.OpeningRows.{rows_by}
+use Rattle.item_shards.specs.{OpeningBooks.{rows_of_book}, OpeningRows.{rows_by}}
 use Rattle.run_phases.proofs.ScriptLemmas.{one_worker_more}
 use Rattle.auction_run.proofs.checks.are_short.Goals as goal
 

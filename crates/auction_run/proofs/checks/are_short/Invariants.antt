@@ -1,6 +1,5 @@
 use Rattle.std.proofs.Common.{ℕ, ◌+◌, ◌<◌, ◌≤◌, length}
-use Rattle.item_shards.specs.OpeningBooks.{rows_of_book}
-use Rattle.item_shards.specs.OpeningRows.{rows_by}
+use Rattle.item_shards.specs.{OpeningBooks.{rows_of_book}, OpeningRows.{rows_by}}
 use Rattle.run_laws.specs.Serving.{script_of}
 use Rattle.auction_run.proofs.checks.are_short.Given as goal
 

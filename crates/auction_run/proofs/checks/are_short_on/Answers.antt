@@ -1,5 +1,4 @@
-use Rattle.std.proofs.Common.{◌∙◌, refl, sym, arith, rules}
-use Rattle.std.proofs.lemmas.Bool.{false≢true}
+use Rattle.std.proofs.{Common.{◌∙◌, refl, sym, arith, rules}, lemmas.Bool.{false≢true}}
 use Rattle.run_phases.proofs.ScriptLemmas.{one_worker_more}
 use Rattle.auction_run.proofs.checks.are_short_on.Goals as goal
 

@@ -1,5 +1,4 @@
-use Rattle.std.proofs.Common.{◌∙◌, sym}
-use Rattle.std.proofs.lemmas.Bool.{false≢true}
+use Rattle.std.proofs.{Common.{◌∙◌, sym}, lemmas.Bool.{false≢true}}
 use Rattle.auction_run.proofs.checks.check_on.Goals as goal
 
 pub returns-then-not-has_quotas-clause-checked : goal.returns-then-not-has_quotas-clause-checked

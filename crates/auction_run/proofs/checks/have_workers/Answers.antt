@@ -1,5 +1,4 @@
-use Rattle.std.proofs.Common.{◌≤◌, arith, length}
-use Rattle.std.proofs.lemmas.Grind.{common_steps}
+use Rattle.std.proofs.{Common.{◌≤◌, arith, length}, lemmas.Grind.{common_steps}}
 use Rattle.auction_run.proofs.checks.have_workers.Goals as goal
 
 pub returns : goal.returns

@@ -3,15 +3,13 @@ use Rattle.auction_rows.specs.Book.{Book}
 use Rattle.auction_window.specs.Published.{book_of}
 use Rattle.phase_floor.specs.States.{JoinedState, IsBookOf}
 use Rattle.job_threads.proofs.ThreadLemmas.{err_as}
-use Rattle.auction_run.specs.declared.checks.Stopped.TheVariants.{Failed}
-use Rattle.run_phases.specs.Boards.{HasShownAfter}
-use Rattle.run_phases.specs.Beginning.{BeginsWith}
-use Rattle.auction_run.specs.GoingOn.{HasShownFirstNext}
-use Rattle.run_phases.specs.Outcomes.{HasShownFirstAfter, IsOutcome}
 use Rattle.auction_run.proofs.AnswerLemmas.{answered_stopped}
-use Rattle.run_phases.proofs.BoardLemmas.{up_to_date}
 use Rattle.auction_run.proofs.GoingOnLemmas.{begins_of, left_book}
+use Rattle.auction_run.specs.GoingOn.{HasShownFirstNext}
+use Rattle.auction_run.specs.declared.checks.Stopped.TheVariants.{Failed}
 use Rattle.auction_run.proofs.parts.run_on_checked.Goals as goal
+use Rattle.run_phases.{proofs.BoardLemmas.{up_to_date}, specs.Beginning.{BeginsWith}}
+use Rattle.run_phases.specs.{Boards.{HasShownAfter}, Outcomes.{HasShownFirstAfter, IsOutcome}}
 
 pub run_from-requires-clause-begins : goal.run_from-requires-clause-begins
 run_from-requires-clause-begins g c κs within = λ cannot.

@@ -1,12 +1,11 @@
-use Rattle.std.proofs.Common.{◌≡◌, ◌≤◌, length, refl, subst, sym}
-use Rattle.std.specs.Prelude.{IfErr}
+use Rattle.std.{proofs.Common.{◌≡◌, ◌≤◌, length, refl, subst, sym}, specs.Prelude.{IfErr}}
 use Rattle.auction_rows.specs.declared.limits.TheConstants.{MOST_WORKERS}
 use Rattle.job_threads.proofs.ThreadLemmas.{err_as}
-use Rattle.run_phases.specs.declared.faults.RunFault.TheVariants.{Memory}
-use Rattle.auction_run.specs.declared.checks.Stopped.TheVariants.{Failed}
-use Rattle.auction_run.specs.GoingOn.{AnswersNextRun, HasShownFirstNext, IsReadyFor}
-use Rattle.auction_run.proofs.AnswerLemmas.{answered_stopped, not_given_back}
 use Rattle.run_phases.proofs.BoardLemmas.{none_shown}
+use Rattle.run_phases.specs.declared.faults.RunFault.TheVariants.{Memory}
+use Rattle.auction_run.proofs.AnswerLemmas.{answered_stopped, not_given_back}
+use Rattle.auction_run.specs.GoingOn.{AnswersNextRun, HasShownFirstNext, IsReadyFor}
+use Rattle.auction_run.specs.declared.checks.Stopped.TheVariants.{Failed}
 use Rattle.auction_run.proofs.parts.run_on_shown.Goals as goal
 
 pub run_on_checked-requires-clause-ready : goal.run_on_checked-requires-clause-ready

@@ -1,21 +1,17 @@
 use Rattle.std.proofs.Common.{◌≡◌, ◌<◌, ◌∙◌, [], All, ap, arith, length, subst, sym}
-use Rattle.auction_rows.specs.declared.limits.TheConstants.{MOST_OF_A_WORKER}
-use Rattle.auction_rows.specs.Book.{worker_of}
-use Rattle.std.specs.Prelude.{IfOk}
-use Rattle.std.proofs.lemmas.Result.{IfErr-weaker, IfOk-weaker}
+use Rattle.std.{proofs.lemmas.Result.{IfErr-weaker, IfOk-weaker}, specs.Prelude.{IfOk}}
+use Rattle.auction_rows.specs.{Book.{worker_of}, declared.limits.TheConstants.{MOST_OF_A_WORKER}}
 use Rattle.job_threads.proofs.ThreadLemmas.{err_as}
 use Rattle.item_shards.specs.OpeningBooks.{opening_of, rows_of_book}
+use Rattle.run_phases.{proofs.BoardLemmas.{none_shown, up_to_date}, specs.Beginning.{BeginsWith}}
+use Rattle.run_phases.specs.{Outcomes.{IsOutcome}, declared.course.Outcome.{Outcome}}
 use Rattle.run_phases.specs.declared.faults.RunFault.TheVariants.{Memory}
-use Rattle.run_phases.specs.declared.course.Outcome.{Outcome}
-use Rattle.run_phases.specs.Beginning.{BeginsWith}
-use Rattle.auction_run.specs.Runs.{HasShownAll, HasShownFirst}
-use Rattle.run_phases.specs.Outcomes.{IsOutcome}
 use Rattle.auction_run.proofs.AnswerLemmas.{answered, answered_memory}
-use Rattle.run_phases.proofs.BoardLemmas.{none_shown, up_to_date}
 use Rattle.auction_run.proofs.GoingOnLemmas.{begins_resumed, left_book, of_both}
+use Rattle.auction_run.proofs.runs.run_checked.Goals.{After-run_from}
+use Rattle.auction_run.specs.Runs.{HasShownAll, HasShownFirst}
 use Rattle.auction_run.proofs.runs.run_checked.Given as given
 use Rattle.auction_run.proofs.runs.run_checked.Goals as goal
-use Rattle.auction_run.proofs.runs.run_checked.Goals.{After-run_from}
 
 pub overflow_cast-workers : goal.overflow_cast-workers
 overflow_cast-workers g c = omega (arith, ap length c.as_slice.ensures, c.requires.workers.few)

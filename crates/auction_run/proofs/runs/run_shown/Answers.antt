@@ -1,12 +1,10 @@
-use Rattle.std.proofs.Common.{◌≡◌, [], subst, sym}
-use Rattle.std.specs.Prelude.{IfErr}
+use Rattle.std.{proofs.Common.{◌≡◌, [], subst, sym}, specs.Prelude.{IfErr}}
 use Rattle.item_shards.specs.OpeningBooks.{opening_of, rows_of_book}
 use Rattle.job_threads.proofs.ThreadLemmas.{err_as}
+use Rattle.run_phases.{proofs.BoardLemmas.{none_shown}, specs.Beginning.{AreShort, HaveWorkers}}
 use Rattle.run_phases.specs.declared.faults.RunFault.TheVariants.{Memory}
-use Rattle.run_phases.specs.Beginning.{AreShort, HaveWorkers}
-use Rattle.auction_run.specs.Runs.{AnswersRun, HasShownFirst}
 use Rattle.auction_run.proofs.AnswerLemmas.{answered_first, answered_memory, not_first}
-use Rattle.run_phases.proofs.BoardLemmas.{none_shown}
+use Rattle.auction_run.specs.Runs.{AnswersRun, HasShownFirst}
 use Rattle.auction_run.proofs.runs.run_shown.Goals as goal
 
 pub run_checked-requires-clause-workers : goal.run_checked-requires-clause-workers

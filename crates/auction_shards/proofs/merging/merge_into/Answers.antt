@@ -1,10 +1,9 @@
 use Rattle.std.proofs.Common.{subst}
 use Rattle.auction_rows.specs.declared.requests.Object.TheVariants.{Item, User, Category}
-use Rattle.item_shards.specs.declared.shard.slices.Slice.TheVariants as slice
 use Rattle.item_shards.specs.ShardContents.{LiesIn, contents, opening}
-use Rattle.auction_shards.specs.Merging.{CanMergeInto}
+use Rattle.item_shards.specs.declared.shard.slices.Slice.TheVariants as slice
+use Rattle.auction_shards.{proofs.Merges.{room_of, with_merged}, specs.Merging.{CanMergeInto}}
 use Rattle.auction_shards.specs.Shards.{IsKnown}
-use Rattle.auction_shards.proofs.Merges.{room_of, with_merged}
 use Rattle.auction_shards.proofs.merging.merge_into.Goals as goal
 
 pub merge_item-requires : goal.merge_item-requires

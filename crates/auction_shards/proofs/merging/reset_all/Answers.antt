@@ -1,6 +1,5 @@
 use Rattle.std.proofs.Common.{◌≡◌, ◌<◌, map, length, set, refl, sym, ap, ◌∙◌, arith}
-use Rattle.std.proofs.lemmas.List.{length-map, get_or-map, map-set}
-use Rattle.std.proofs.lemmas.List.Edits.{map_over_more}
+use Rattle.std.proofs.lemmas.List.{Edits.{map_over_more}, length-map, get_or-map, map-set}
 use Rattle.shard_boxes.specs.States.{state_of}
 use Rattle.auction_shards.specs.Shards.{at_start}
 use Rattle.auction_shards.proofs.merging.reset_all.Goals as goal

@@ -1,7 +1,6 @@
 use Rattle.std.proofs.Common.{◌≡◌, ◌<◌, Some, length, map, get_or, ap, sym, ◌∙◌, arith}
 use Rattle.auction_rows.specs.Requests.{shard_of}
-use Rattle.item_shards.specs.Contents.{Contents, after_act, target}
-use Rattle.item_shards.specs.ShardContents.{contents}
+use Rattle.item_shards.specs.{Contents.{Contents, after_act, target}, ShardContents.{contents}}
 use Rattle.item_shards.specs.Values.{blank}
 use Rattle.shard_boxes.specs.States.{state_of}
 use Rattle.auction_shards.proofs.Acts.{act_done, none_done}

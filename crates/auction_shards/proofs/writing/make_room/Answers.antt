@@ -1,14 +1,11 @@
 use Rattle.std.proofs.Common.{◌≡◌, ◌<◌, length, set, ap, sym, subst, ◌∙◌, arith}
 use Rattle.std.proofs.lemmas.Result.{on_ok_weaker}
-use Rattle.auction_rows.specs.declared.requests.Object.TheVariants.{Item}
+use Rattle.auction_rows.specs.{History.{commit_of}, Requests.{shard_of}}
 use Rattle.auction_rows.specs.declared.replies.Reply.TheVariants.{ItemStored}
-use Rattle.auction_rows.specs.History.{commit_of}
-use Rattle.auction_rows.specs.Requests.{shard_of}
-use Rattle.item_shards.specs.ShardContents.{rooms}
-use Rattle.item_shards.proofs.WriteLemmas.{has_own_room, row_of_item}
+use Rattle.auction_rows.specs.declared.requests.Object.TheVariants.{Item}
+use Rattle.item_shards.{proofs.WriteLemmas.{has_own_room, row_of_item}, specs.ShardContents.{rooms}}
+use Rattle.auction_shards.proofs.{Acts.{room_there, shown_still}, Placed.{lies_there}}
 use Rattle.auction_shards.specs.inner.Acting.{HasRoomIn}
-use Rattle.auction_shards.proofs.Placed.{lies_there}
-use Rattle.auction_shards.proofs.Acts.{room_there, shown_still}
 use Rattle.auction_shards.proofs.writing.make_room.Goals as goal
 
 pub prepare_item-requires : goal.prepare_item-requires

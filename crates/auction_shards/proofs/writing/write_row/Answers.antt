@@ -1,12 +1,10 @@
 use Rattle.std.proofs.Common.{[], ◌∷◌, map, sym, ap, subst, ◌∙◌}
-use Rattle.item_shards.specs.Acting.{CanActOn}
-use Rattle.item_shards.specs.Contents.{target}
+use Rattle.item_shards.specs.{Acting.{CanActOn}, Contents.{target}}
 use Rattle.item_shards.specs.ShardContents.{contents, opening, rooms, shard_count, shard_number}
 use Rattle.item_shards.specs.Writing.{writes_of, first_act, second_act}
 use Rattle.shard_boxes.specs.States.{state_of}
-use Rattle.auction_shards.specs.Shards.{AreOfOne}
-use Rattle.auction_shards.specs.Writing.{CanWriteOn, HaveDone}
 use Rattle.auction_shards.proofs.Acts.{both_written, can_first, can_second, still_of_one}
+use Rattle.auction_shards.specs.{Shards.{AreOfOne}, Writing.{CanWriteOn, HaveDone}}
 use Rattle.auction_shards.proofs.writing.write_row.Goals as goal
 
 pub act-requires-clause-shards : goal.act-requires-clause-shards

@@ -1,10 +1,8 @@
-use Rattle.std.proofs.Common.{ap}
-use Rattle.std.proofs.lemmas.List.Sorted.{ranks_by}
+use Rattle.std.proofs.{Common.{ap}, lemmas.List.Sorted.{ranks_by}}
 use Rattle.auction_rows.specs.declared.rows.Entry.{Entry}
-use Rattle.auction_text.specs.Order.{comes_before}
-use Rattle.auction_text.specs.Replies.{lines, reply_line}
 use Rattle.auction_text.proofs.ReplyOrder.{precedence_total}
 use Rattle.auction_text.proofs.SortLemmas.{permutation-sorted, sorted-already, sorted_from_up, ties-sorted, up-sorted}
+use Rattle.auction_text.specs.{Order.{comes_before}, Replies.{lines, reply_line}}
 use Rattle.auction_text.proofs.laws.replies_in_order.Goals as goal
 
 pub returns-clause-same : goal.returns-clause-same

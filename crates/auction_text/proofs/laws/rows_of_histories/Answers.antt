@@ -1,7 +1,6 @@
 use Rattle.std.proofs.Common.{ap, sym}
 use Rattle.auction_rows.proofs.HistoryLemmas.{book_after-replays}
-use Rattle.auction_text.specs.Replies.{lines}
-use Rattle.auction_text.specs.RowLines.{row_line}
+use Rattle.auction_text.specs.{Replies.{lines}, RowLines.{row_line}}
 use Rattle.auction_text.proofs.laws.rows_of_histories.Goals as goal
 
 pub returns : goal.returns

@@ -1,7 +1,5 @@
-use Rattle.std.proofs.Common.{◌∙◌, ◌++◌, List, ap, sym, rules}
-use Rattle.std.proofs.lemmas.List.{append-nil}
-use Rattle.auction_rows.specs.declared.rows.Entry.{Entry}
-use Rattle.auction_rows.specs.History.{rows_of}
+use Rattle.std.proofs.{Common.{◌∙◌, ◌++◌, List, ap, sym, rules}, lemmas.List.{append-nil}}
+use Rattle.auction_rows.specs.{History.{rows_of}, declared.rows.Entry.{Entry}}
 use Rattle.worker_journals.specs.Merged.{merged}
 use Rattle.auction_window.proofs.RowLemmas.{gone_by}
 use Rattle.auction_window.proofs.phases.last_rows.Goals as goal

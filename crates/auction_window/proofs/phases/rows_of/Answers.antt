@@ -1,5 +1,4 @@
-use Rattle.std.proofs.Common.{◌∙◌, ap}
-use Rattle.std.proofs.lemmas.List.{take_all}
+use Rattle.std.proofs.{Common.{◌∙◌, ap}, lemmas.List.{take_all}}
 use Rattle.auction_rows.specs.History.{rows_of}
 use Rattle.auction_window.proofs.RowLemmas.{one_more}
 use Rattle.auction_window.proofs.phases.rows_of.Goals as goal

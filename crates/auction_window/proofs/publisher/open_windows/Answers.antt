@@ -1,9 +1,6 @@
 use Rattle.std.proofs.Common.{◌≡◌, ◌+◌, List, true, false, All, length, refl, sym, ap, ◌∙◌, subst, arith}
-use Rattle.std.specs.Prelude.{Result, Ok, Err}
-use Rattle.std.specs.Result.{is_err, is_ok}
-use Rattle.std.proofs.lemmas.Bool.{false≢true}
-use Rattle.std.proofs.lemmas.List.{length_push}
-use Rattle.std.proofs.lemmas.List.Elements.{All-push}
+use Rattle.std.proofs.lemmas.{Bool.{false≢true}, List.{Elements.{All-push}, length_push}}
+use Rattle.std.specs.{Prelude.{Result, Ok, Err}, Result.{is_err, is_ok}}
 use Rattle.auction_rows.specs.declared.rows.Row.{Row}
 use Rattle.auction_window.proofs.publisher.open_windows.Goals as goal
 

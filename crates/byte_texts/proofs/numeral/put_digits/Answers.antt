@@ -1,6 +1,5 @@
 use Rattle.std.proofs.Common.{◌≡◌, ◌≤◌, arith, decimal, length, rules}
-use Rattle.std.proofs.lemmas.Fmt.{length-decimal-le}
-use Rattle.std.proofs.lemmas.Grind.{common_steps}
+use Rattle.std.proofs.lemmas.{Fmt.{length-decimal-le}, Grind.{common_steps}}
 use Rattle.byte_texts.proofs.DecimalLemmas.{digits_from}
 use Rattle.byte_texts.proofs.numeral.put_digits.Goals as goal
 

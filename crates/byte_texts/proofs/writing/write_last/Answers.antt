@@ -1,8 +1,6 @@
 use Rattle.std.proofs.Common.{◌≡◌, ◌∙◌, ◌+◌, ℕ, List, [], Option, ap, append-nil, length, subst, sym, take}
-use Rattle.std.proofs.KnownBytes.{Appends-trans}
-use Rattle.std.proofs.Math.Seq.{take-append-add}
-use Rattle.std.proofs.lemmas.Result.{IfErr-weaker}
-use Rattle.std.specs.Io.KnownBytes.{Appends}
+use Rattle.std.proofs.{KnownBytes.{Appends-trans}, Math.Seq.{take-append-add}}
+use Rattle.std.{proofs.lemmas.Result.{IfErr-weaker}, specs.Io.KnownBytes.{Appends}}
 use Rattle.byte_texts.specs.Writing.{IsPartWritten}
 use Rattle.byte_texts.specs.declared.writing.WriteFault.TheVariants.{Write}
 use Rattle.byte_texts.proofs.writing.write_last.Goals as goal

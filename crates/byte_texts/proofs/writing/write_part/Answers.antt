@@ -1,7 +1,6 @@
 use Rattle.std.proofs.Common.{arith, take-add, length-drop, subst, sym}
+use Rattle.std.proofs.{KnownBytes.{Appends-trans}, lemmas.List.{take_rest}}
 use Rattle.std.specs.Io.KnownBytes.{Appends}
-use Rattle.std.proofs.KnownBytes.{Appends-trans}
-use Rattle.std.proofs.lemmas.List.{take_rest}
 use Rattle.byte_texts.proofs.writing.write_part.Goals as goal
 
 pub loop-written-preserved : goal.loop-written-preserved

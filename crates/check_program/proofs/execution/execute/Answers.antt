@@ -1,10 +1,7 @@
-use Rattle.std.proofs.Common.{◌≡◌, ap}
-use Rattle.std.specs.Io.KnownBytes.{Appends}
-use Rattle.std.specs.Prelude.{Err}
+use Rattle.std.{proofs.Common.{◌≡◌, ap}, specs.{Io.KnownBytes.{Appends}, Prelude.{Err}}}
 use Rattle.byte_texts.specs.Writing.{IsPartWritten}
 use Rattle.item_shards.specs.OpeningBooks as book
-use Rattle.check_program.proofs.FaultLemmas.{unless_failed, write_is}
-use Rattle.check_program.proofs.FindingLemmas.{tells}
+use Rattle.check_program.proofs.{FaultLemmas.{unless_failed, write_is}, FindingLemmas.{tells}}
 use Rattle.check_program.proofs.execution.execute.Goals as goal
 
 pub returns-clause-tells : goal.returns-clause-tells

@@ -1,5 +1,4 @@
-use Rattle.std.proofs.Common.{◌++◌, ◌∙◌, ℕ, List, ap, subst}
-use Rattle.std.proofs.lemmas.Result.{on_ok_weaker}
+use Rattle.std.proofs.{Common.{◌++◌, ◌∙◌, ℕ, List, ap, subst}, lemmas.Result.{on_ok_weaker}}
 use Rattle.std.specs.Io.KnownBytes.{Appends}
 use Rattle.byte_texts.specs.Writing.{IsPartWritten}
 use Rattle.history_check.specs.declared.lines.Verdict.{Verdict}

@@ -1,10 +1,9 @@
 use Rattle.std.proofs.Common.{◌∙◌, ap, ap₂, codes, refl}
 use Rattle.auction_rows.specs.declared.limits.TheConstants.{MOST_WORKERS}
 use Rattle.clap.specs.Matches.{found_of, one_text}
-use Rattle.program_options.specs.declared.options.TheConstants.{MOST_ASKED}
 use Rattle.program_options.proofs.NumberOptions.{number_is}
-use Rattle.check_program.specs.Words.{order_of, program}
-use Rattle.check_program.proofs.OptionLemmas.{name_found}
+use Rattle.program_options.specs.declared.options.TheConstants.{MOST_ASKED}
+use Rattle.check_program.{proofs.OptionLemmas.{name_found}, specs.Words.{order_of, program}}
 use Rattle.check_program.proofs.options.options_of.Goals as goal
 
 pub returns-clause-given : goal.returns-clause-given

@@ -1,12 +1,10 @@
 use Rattle.std.proofs.Common.{◌≡◌, List, ℕ, map, string_bytes, sym, subst}
-use Rattle.std.specs.Prelude.{IfErr}
 use Rattle.std.proofs.lemmas.Result.{IfErr-weaker, IfOk-weaker, err_from_is_err_and}
-use Rattle.clap.specs.Matches.{first_value, found_of, one_text}
-use Rattle.clap.specs.Simple.{app_of}
+use Rattle.std.specs.Prelude.{IfErr}
+use Rattle.clap.specs.{Matches.{first_value, found_of, one_text}, Simple.{app_of}}
 use Rattle.program_options.specs.Words.{AreTaken, HaveNumbers, text_in, value_in}
 use Rattle.program_options.specs.declared.words.UsageFault.TheVariants.{Memory}
-use Rattle.check_program.specs.Words.{SayOptions, program}
-use Rattle.check_program.proofs.OptionLemmas.{is_free}
+use Rattle.check_program.{proofs.OptionLemmas.{is_free}, specs.Words.{SayOptions, program}}
 use Rattle.check_program.proofs.options.read_options.Goals as goal
 
 pub returns : goal.returns

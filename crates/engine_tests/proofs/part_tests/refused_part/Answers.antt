@@ -1,7 +1,5 @@
-use Rattle.std.proofs.Common.{◌≡◌, Result, subst, sym}
-use Rattle.std.specs.Prelude.{IfErr}
-use Rattle.auction_run.specs.Boards.{IsUpToDate}
-use Rattle.auction_run.specs.GoingOn.{GivesBack, IsStopped}
+use Rattle.std.{proofs.Common.{◌≡◌, Result, subst, sym}, specs.Prelude.{IfErr}}
+use Rattle.auction_run.specs.{Boards.{IsUpToDate}, GoingOn.{GivesBack, IsStopped}}
 use Rattle.engine_tests.proofs.part_tests.refused_part.Goals as goal
 
 -- What holds of a fault holds of the same one.

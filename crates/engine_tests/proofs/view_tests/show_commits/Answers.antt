@@ -1,5 +1,4 @@
-use Rattle.std.proofs.Common.{◌≡◌, ◌∷◌, [], ◌++◌, take, ap, ◌∙◌}
-use Rattle.std.proofs.lemmas.List.{take-append-drop}
+use Rattle.std.proofs.{Common.{◌≡◌, ◌∷◌, [], ◌++◌, take, ap, ◌∙◌}, lemmas.List.{take-append-drop}}
 use Rattle.auction_rows.specs.History.{rows_of}
 use Rattle.auction_window.specs.Published.{Published}
 use Rattle.engine_tests.proofs.RowLemmas.{first_follows, last_follows}

@@ -1,5 +1,4 @@
-use Rattle.std.proofs.Common.{arith}
-use Rattle.std.proofs.lemmas.Result.{IfOk-at_ok}
+use Rattle.std.proofs.{Common.{arith}, lemmas.Result.{IfOk-at_ok}}
 use Rattle.item_shards.specs.OpeningBooks.{opening_of, rows_of_book}
 use Rattle.engine_tests.proofs.RowLemmas.{run_rows}
 use Rattle.engine_tests.proofs.view_tests.two_commits.Goals as goal

@@ -1,5 +1,4 @@
-use Rattle.std.proofs.Common.{ap, ◌∙◌, arith}
-use Rattle.std.proofs.lemmas.Fmt.{parse-decimal}
+use Rattle.std.proofs.{Common.{ap, ◌∙◌, arith}, lemmas.Fmt.{parse-decimal}}
 use Rattle.std.specs.Result.{result_ok}
 use Rattle.example_ledger.proofs.ledger.number.Goals as goal
 

@@ -1,6 +1,5 @@
 use Rattle.std.proofs.Common.{◌∷◌, [], map}
-use Rattle.phase_floor.specs.Begins.{empty_stash}
-use Rattle.phase_floor.proofs.Receipts.{begun_receipts}
+use Rattle.phase_floor.{proofs.Receipts.{begun_receipts}, specs.Begins.{empty_stash}}
 use Rattle.example_phases.proofs.split.split_phase.Goals as goal
 
 pub perform_begun-requires-clause-receipts : goal.perform_begun-requires-clause-receipts

@@ -1,5 +1,4 @@
-use Rattle.std.proofs.Common.{[]}
-use Rattle.std.proofs.lemmas.Result.{IfOk-at_ok}
+use Rattle.std.proofs.{Common.{[]}, lemmas.Result.{IfOk-at_ok}}
 use Rattle.floor_tests.proofs.AddedLemmas.{has_book, nothing_stored}
 use Rattle.floor_tests.proofs.adding_tests.added_rows_are_shown.Goals as goal
 

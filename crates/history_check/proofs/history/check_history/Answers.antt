@@ -1,9 +1,8 @@
 use Rattle.std.proofs.Common.{◌∙◌, [], true, false, arith, subst}
 use Rattle.item_shards.specs.OpeningBooks.{opening_of, rows_of_book}
-use Rattle.history_check.specs.Checking.{IsWrong}
-use Rattle.history_check.specs.inner.Reading.{ReadsLine}
-use Rattle.history_check.specs.declared.lines.CheckFault.TheVariants.{TooLong}
 use Rattle.history_check.proofs.ReadingLemmas.{all_found, begins, fault_is, finds, goes_on, lack_found, many_read, one_too_many, some_and, some_there, wrong_found}
+use Rattle.history_check.specs.{Checking.{IsWrong}, declared.lines.CheckFault.TheVariants.{TooLong}}
+use Rattle.history_check.specs.inner.Reading.{ReadsLine}
 use Rattle.history_check.proofs.history.check_history.Goals as goal
 
 pub loop-number-init : goal.loop-number-init

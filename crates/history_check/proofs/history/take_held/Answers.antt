@@ -1,8 +1,7 @@
+use Rattle.std.proofs.BufReadLemmas.{Consumes_shown}
 use Rattle.std.proofs.Common.{◌≡◌, ◌+◌, ◌++◌, ◌∙◌, true, List, ℕ, ap, arith, subst, sym, take}
 use Rattle.std.specs.Io.BufRead.{FillKeeps}
-use Rattle.std.proofs.BufReadLemmas.{Consumes_shown}
-use Rattle.history_check.specs.inner.Reading.{ReadsLine}
-use Rattle.history_check.proofs.LineLemmas.{held_line}
+use Rattle.history_check.{proofs.LineLemmas.{held_line}, specs.inner.Reading.{ReadsLine}}
 use Rattle.history_check.proofs.history.take_held.Goals as goal
 
 pub returns-clause-line : goal.returns-clause-line

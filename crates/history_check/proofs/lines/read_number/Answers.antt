@@ -1,7 +1,6 @@
-use Rattle.std.proofs.Common.{◌++◌, ◌∷◌, ◌+◌, take, drop, sym, ap, ◌∙◌}
+use Rattle.std.proofs.{Common.{◌++◌, ◌∷◌, ◌+◌, take, drop, sym, ap, ◌∙◌}, lemmas.List.{take_rest}}
 use Rattle.std.specs.Prelude.{decimal}
 use Rattle.auction_text.specs.Fields.{number}
-use Rattle.std.proofs.lemmas.List.{take_rest}
 use Rattle.history_check.proofs.NumberLemmas.{no_space, no_number, number_is, front_is, rest_is, space_is, split_here, number_text}
 use Rattle.history_check.proofs.lines.read_number.Goals as goal
 

@@ -1,9 +1,7 @@
-use Rattle.std.proofs.Common.{◌≡◌, ◌++◌, ap, sym, subst, ◌∙◌}
+use Rattle.std.proofs.{Common.{◌≡◌, ◌++◌, ap, sym, subst, ◌∙◌}, lemmas.List.{append-nil}}
 use Rattle.std.specs.Prelude.{IsPermutation}
-use Rattle.std.proofs.lemmas.List.{append-nil}
+use Rattle.hot_choice.proofs.{ChoiceLemmas.{row_skipped}, RankLemmas.{sorted_is}}
 use Rattle.hot_choice.specs.inner.Ranking.{hot_ones}
-use Rattle.hot_choice.proofs.ChoiceLemmas.{row_skipped}
-use Rattle.hot_choice.proofs.RankLemmas.{sorted_is}
 use Rattle.hot_choice.proofs.choice.candidates.Goals as goal
 
 pub loop-object-init : goal.loop-object-init

@@ -1,5 +1,4 @@
-use Rattle.std.proofs.Common.{ap, ◌∙◌}
-use Rattle.std.proofs.lemmas.Result.{IfOk-weaker}
+use Rattle.std.proofs.{Common.{ap, ◌∙◌}, lemmas.Result.{IfOk-weaker}}
 use Rattle.hot_choice.specs.inner.Runs.{how_often, objects_of}
 use Rattle.hot_choice.proofs.choice.choose_hot.Goals as goal
 

@@ -1,9 +1,7 @@
-use Rattle.std.proofs.Common.{sym, ap, subst, ◌∙◌}
-use Rattle.std.proofs.lemmas.Result.{IfOk-weaker}
+use Rattle.std.proofs.{Common.{sym, ap, subst, ◌∙◌}, lemmas.Result.{IfOk-weaker}}
 use Rattle.worker_journals.specs.Merged.{merged}
 use Rattle.auction_rows.specs.Choosing.{choose}
-use Rattle.hot_choice.specs.inner.Runs.{AreWritten, objects_of}
-use Rattle.hot_choice.proofs.ChosenLemmas.{none_chosen}
+use Rattle.hot_choice.{proofs.ChosenLemmas.{none_chosen}, specs.inner.Runs.{AreWritten, objects_of}}
 use Rattle.hot_choice.proofs.choice.choose_hot_after.Goals as goal
 
 pub returns-then-hot_max-eq0 : goal.returns-then-hot_max-eq0

@@ -1,8 +1,7 @@
 use Rattle.std.proofs.Common.{◌∙◌, arith, refl, ap}
 use Rattle.std.proofs.lemmas.List.{get_or-replicate, length-set, take_all}
-use Rattle.hot_choice.specs.inner.Ranking.{in_bucket}
+use Rattle.hot_choice.{proofs.HeatLemmas.{run_in_bucket}, specs.inner.Ranking.{in_bucket}}
 use Rattle.hot_choice.specs.inner.Runs.{objects_of}
-use Rattle.hot_choice.proofs.HeatLemmas.{run_in_bucket}
 use Rattle.hot_choice.proofs.choice.count_by_bucket.Goals as goal
 
 pub loop-run-init : goal.loop-run-init

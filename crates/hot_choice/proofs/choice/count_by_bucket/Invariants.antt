@@ -1,6 +1,5 @@
 use Rattle.std.proofs.Common.{◌≡◌, ℕ, ◌<◌, length, take, get_or}
-use Rattle.hot_choice.specs.inner.Ranking.{in_bucket}
-use Rattle.hot_choice.specs.inner.Runs.{objects_of}
+use Rattle.hot_choice.specs.inner.{Ranking.{in_bucket}, Runs.{objects_of}}
 use Rattle.hot_choice.proofs.choice.count_by_bucket.Given as goal
 
 -- the objects of the runs so far are counted

@@ -1,12 +1,11 @@
 use Rattle.std.proofs.Common.{◌≡◌, ◌+◌, true, false, [], take, sym, subst}
+use Rattle.std.proofs.lemmas.{Bool.{le-leb, lt-leb}, List.{take_all}}
 use Rattle.std.specs.Prelude.{nat_le, slice_index}
-use Rattle.std.proofs.lemmas.Bool.{le-leb, lt-leb}
-use Rattle.std.proofs.lemmas.List.{take_all}
-use Rattle.hot_choice.specs.inner.Runs.{objects_of}
 use Rattle.hot_choice.proofs.HeatLemmas.{HasHeatsOf, may_be_hot, no_heats, run_counted, run_passed_over, hot_ones_are_counted}
 use Rattle.hot_choice.proofs.RunLemmas.{runs_taken}
-use Rattle.hot_choice.proofs.choice.heats.Goals as goal
 use Rattle.hot_choice.proofs.choice.heats.Goals.{then-counts-bucket_of+in_ok-count, else-counts-bucket_of}
+use Rattle.hot_choice.specs.inner.Runs.{objects_of}
+use Rattle.hot_choice.proofs.choice.heats.Goals as goal
 
 pub loop-run-init : goal.loop-run-init
 loop-run-init c =

@@ -1,6 +1,5 @@
 use Rattle.std.proofs.Common.{take}
-use Rattle.hot_choice.specs.inner.Runs.{objects_of}
-use Rattle.hot_choice.proofs.HeatLemmas.{HasHeatsOf, may_be_hot}
+use Rattle.hot_choice.{proofs.HeatLemmas.{HasHeatsOf, may_be_hot}, specs.inner.Runs.{objects_of}}
 use Rattle.hot_choice.proofs.choice.heats.Given as goal
 
 -- each object that may be hot has its heat so far

@@ -1,10 +1,8 @@
-use Rattle.std.proofs.Common.{List, map, take, ap, subst, sym, ◌∙◌}
+use Rattle.std.proofs.{Common.{List, map, take, ap, subst, sym, ◌∙◌}, lemmas.Result.{IfOk-weaker}}
 use Rattle.std.specs.List.{IsDistinct}
-use Rattle.std.proofs.lemmas.Result.{IfOk-weaker}
 use Rattle.auction_rows.specs.Requests.{same_object}
-use Rattle.hot_choice.specs.declared.choice.Candidate.{Candidate}
-use Rattle.hot_choice.specs.inner.Runs.{objects_of}
 use Rattle.hot_choice.proofs.ChosenLemmas.{distinct, chosen}
+use Rattle.hot_choice.specs.{declared.choice.Candidate.{Candidate}, inner.Runs.{objects_of}}
 use Rattle.hot_choice.proofs.choice.hottest.Goals as goal
 
 pub first_of-requires : goal.first_of-requires

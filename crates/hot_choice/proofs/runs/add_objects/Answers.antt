@@ -1,10 +1,8 @@
 use Rattle.std.proofs.Common.{rules, refl, ◌≡◌, ◌++◌, ◌∷◌, [], List, sym, ap, ◌∙◌, append_assoc}
-use Rattle.std.specs.Prelude.{option_to_list}
-use Rattle.std.proofs.lemmas.List.{append-nil}
-use Rattle.auction_rows.specs.declared.{requests.Object.Object, rows.Entry.Entry}
+use Rattle.std.{proofs.lemmas.List.{append-nil}, specs.Prelude.{option_to_list}}
 use Rattle.auction_rows.specs.Choosing.{objects_written}
-use Rattle.hot_choice.specs.inner.Runs.{objects_of}
-use Rattle.hot_choice.proofs.RunLemmas.{written_more}
+use Rattle.auction_rows.specs.declared.{requests.Object.Object, rows.Entry.Entry}
+use Rattle.hot_choice.{proofs.RunLemmas.{written_more}, specs.inner.Runs.{objects_of}}
 use Rattle.hot_choice.proofs.runs.add_objects.Goals as goal
 
 -- an entry that was the first of those that are left is the last of those that were told

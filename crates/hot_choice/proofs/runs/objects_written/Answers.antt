@@ -1,9 +1,7 @@
 use Rattle.std.proofs.Common.{◌++◌, ◌∷◌, [], take, sym, ap, ◌∙◌}
-use Rattle.std.specs.Prelude.{option_to_list}
-use Rattle.std.proofs.lemmas.List.{take_all, take_more}
+use Rattle.std.{proofs.lemmas.List.{take_all, take_more}, specs.Prelude.{option_to_list}}
 use Rattle.auction_rows.specs.Choosing.{objects_written}
-use Rattle.hot_choice.specs.inner.Runs.{objects_of}
-use Rattle.hot_choice.proofs.RunLemmas.{written_more}
+use Rattle.hot_choice.{proofs.RunLemmas.{written_more}, specs.inner.Runs.{objects_of}}
 use Rattle.hot_choice.proofs.runs.objects_written.Goals as goal
 
 pub loop-entry-init : goal.loop-entry-init

@@ -1,11 +1,9 @@
 use Rattle.std.proofs.Common.{◌≡◌, List, ◌++◌, ◌∷◌, [], take, sym, ap, subst, ◌∙◌}
 use Rattle.std.proofs.lemmas.List.{take_all, take_more}
-use Rattle.auction_rows.specs.declared.requests.Object.{Object}
-use Rattle.auction_rows.specs.Choosing.{objects_written}
-use Rattle.worker_journals.specs.Merged.{merged}
-use Rattle.worker_journals.proofs.MergedLemmas.{all_entries}
-use Rattle.hot_choice.specs.inner.Runs.{AreWritten, objects_of}
+use Rattle.auction_rows.specs.{Choosing.{objects_written}, declared.requests.Object.{Object}}
+use Rattle.worker_journals.{proofs.MergedLemmas.{all_entries}, specs.Merged.{merged}}
 use Rattle.hot_choice.proofs.RunLemmas.{written_in_turn, written_in_any_order}
+use Rattle.hot_choice.specs.inner.Runs.{AreWritten, objects_of}
 use Rattle.hot_choice.proofs.runs.objects_written_last.Goals as goal
 
 pub loop-journal-init : goal.loop-journal-init

@@ -1,5 +1,4 @@
-use Rattle.item_shards.proofs.EntryLemmas.{entry_stands, untaken_stands}
-use Rattle.item_shards.proofs.LookLemmas.{entry_true}
+use Rattle.item_shards.proofs.{EntryLemmas.{entry_stands, untaken_stands}, LookLemmas.{entry_true}}
 use Rattle.item_shards.proofs.laws.acts_of_entries.Goals as goal
 
 pub returns-clause-stands : goal.returns-clause-stands

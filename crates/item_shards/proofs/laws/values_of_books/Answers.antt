@@ -1,5 +1,4 @@
-use Rattle.item_shards.proofs.RowLemmas.{value_next}
-use Rattle.item_shards.proofs.StandingLemmas.{blank_of_none}
+use Rattle.item_shards.proofs.{RowLemmas.{value_next}, StandingLemmas.{blank_of_none}}
 use Rattle.item_shards.proofs.laws.values_of_books.Goals as goal
 
 pub returns : goal.returns

@@ -1,8 +1,7 @@
-use Rattle.std.proofs.Common.{length, ap, ◌∙◌, get_or}
-use Rattle.std.proofs.Math.ListN.{length-set}
+use Rattle.std.proofs.{Common.{length, ap, ◌∙◌, get_or}, Math.ListN.{length-set}}
 use Rattle.item_shards.proofs.OpeningLemmas.{counted_next, uncounted_next}
-use Rattle.item_shards.proofs.openings.asked_by_each.Goals as goal
 use Rattle.item_shards.proofs.openings.asked_by_each.Goals.{then-opened-lt-MOST_WORKERS, else-opened-lt-MOST_WORKERS}
+use Rattle.item_shards.proofs.openings.asked_by_each.Goals as goal
 
 pub loop-opened-preserved : goal.loop-opened-preserved
 loop-opened-preserved c =

@@ -1,7 +1,6 @@
 use Rattle.std.proofs.Common.{◌≡◌, ℕ, ◌<◌, ◌≤◌, ◌↔◌, Bool, true, false, List, length, MatchBool, IsTrue, refl, subst, arith, rules, tests, get_or}
+use Rattle.std.proofs.lemmas.{Bool.{false≢true}, Iterator.{cases_from_any, YieldsList-from_slice}}
 use Rattle.std.specs.List.{HoldsAt, AllWithin}
-use Rattle.std.proofs.lemmas.Iterator.{cases_from_any, YieldsList-from_slice}
-use Rattle.std.proofs.lemmas.Bool.{false≢true}
 use Rattle.auction_rows.specs.declared.requests.Opened.{Opened}
 use Rattle.item_shards.specs.OpeningRows.{asked_by, IsTooLong}
 use Rattle.item_shards.proofs.openings.is_too_long.Goals as goal

@@ -1,5 +1,4 @@
-use Rattle.std.proofs.Common.{[], ◌∷◌, ◌++◌, ◌∙◌}
-use Rattle.std.proofs.lemmas.List.{replicate_more}
+use Rattle.std.proofs.{Common.{[], ◌∷◌, ◌++◌, ◌∙◌}, lemmas.List.{replicate_more}}
 use Rattle.item_shards.proofs.shard.identities.Goals as goal
 
 pub loop-made-preserved : goal.loop-made-preserved

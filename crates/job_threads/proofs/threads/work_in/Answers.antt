@@ -1,8 +1,7 @@
 use Rattle.std.proofs.Common.{◌≡◌, ◌+◌, ◌<◌, ◌≤◌, [], ◌∷◌, length, vec_capacity, sym, ap, subst, ◌∙◌}
 use Rattle.std.specs.List.{AllByRecursion, AllZip}
-use Rattle.job_threads.specs.Threads.{IsUnstarted}
-use Rattle.job_threads.specs.inner.Handles.{job_of}
 use Rattle.job_threads.proofs.ThreadLemmas.{err_as, first_and_rest, not_empty, one_zipped, room_of_first, room_of_rest}
+use Rattle.job_threads.specs.{Threads.{IsUnstarted}, inner.Handles.{job_of}}
 use Rattle.job_threads.proofs.threads.work_in.Goals as goal
 
 pub returns-clause-answers : goal.returns-clause-answers

@@ -1,6 +1,6 @@
 use Rattle.std.proofs.Common.{drop, false, length, subst, sym, true}
-use Rattle.live_reading.specs.inner.Lines.{Passes}
 use Rattle.live_reading.proofs.SkippingLemmas.{line_ends, line_goes_on}
+use Rattle.live_reading.specs.inner.Lines.{Passes}
 use Rattle.live_reading.proofs.line_skipping.front_len.Goals as goal
 
 pub returns-in-Some-line_len-clause-passes : goal.returns-in-Some-line_len-clause-passes

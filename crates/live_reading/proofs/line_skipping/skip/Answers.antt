@@ -1,9 +1,8 @@
 use Rattle.std.proofs.Common.{◌≡◌, ◌<◌, ◌∙◌, drop, false, length, subst, sym, true}
-use Rattle.live_reading.specs.LineBuffers.{held}
-use Rattle.live_reading.specs.inner.Lines.{IsPast}
-use Rattle.record_reading.specs.declared.buffers.TheConstants.{ROOM_TO_READ}
 use Rattle.live_reading.proofs.SkippingLemmas.{passed_all, passed_whole, passes_held, passing_none, passing_part, passing_read}
+use Rattle.live_reading.specs.{LineBuffers.{held}, inner.Lines.{IsPast}}
 use Rattle.live_reading.proofs.line_skipping.skip.Goals as goal
+use Rattle.record_reading.specs.declared.buffers.TheConstants.{ROOM_TO_READ}
 
 pub loop-init : goal.loop-init
 loop-init g c = record { passing = λ bytes known. passing_none g.R.Read.remaining c.args.front bytes c.args.lines.now known }

@@ -1,6 +1,5 @@
 use Rattle.std.proofs.Common.{◌≡◌, ℕ, List, Some}
-use Rattle.live_reading.specs.LineBuffers.{lines_left}
-use Rattle.live_reading.proofs.SkippingLemmas.{IsPassing}
+use Rattle.live_reading.{proofs.SkippingLemmas.{IsPassing}, specs.LineBuffers.{lines_left}}
 use Rattle.live_reading.proofs.line_skipping.skip.Given as goal
 
 abbrev pub invariant-loop : goal.invariant-loop

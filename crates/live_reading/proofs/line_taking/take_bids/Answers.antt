@@ -1,7 +1,7 @@
 use Rattle.std.proofs.Common.{arith, ◌+◌, ◌∙◌, drop, refl}
-use Rattle.live_reading.specs.declared.line_taking.LineStop.TheVariants.{Full}
 use Rattle.live_reading.proofs.LiveLineLemmas.{bid_says}
 use Rattle.live_reading.proofs.LiveTakingLemmas.{bid_rows, bid_text, text_none, text_then}
+use Rattle.live_reading.specs.declared.line_taking.LineStop.TheVariants.{Full}
 use Rattle.live_reading.proofs.line_taking.take_bids.Goals as goal
 
 pub loop-at-init : goal.loop-at-init

@@ -1,6 +1,6 @@
 use Rattle.std.proofs.Common.{◌≡◌, ◌<◌, ◌≤◌, ◌-◌, drop, length, vec_len}
-use Rattle.live_reading.specs.inner.Taking.{TakesText}
 use Rattle.live_reading.specs.declared.line_taking.LineStop.TheVariants.{Full}
+use Rattle.live_reading.specs.inner.Taking.{TakesText}
 use Rattle.live_reading.proofs.line_taking.take_bids.Given as goal
 
 abbrev pub invariant-loop-at : goal.invariant-loop-at

@@ -1,8 +1,7 @@
 use Rattle.std.proofs.Common.{◌≡◌, ◌∙◌, IfNone, ap, drop, subst, sym, true}
-use Rattle.live_reading.specs.LineBuffers.{held}
-use Rattle.record_reading.specs.Lines.{has_no_feed}
-use Rattle.live_reading.specs.inner.Taking.{HasRoom, TakesText, stop_at}
+use Rattle.live_reading.specs.{LineBuffers.{held}, inner.Taking.{HasRoom, TakesText, stop_at}}
 use Rattle.live_reading.proofs.line_taking.take_held.Goals as goal
+use Rattle.record_reading.specs.Lines.{has_no_feed}
 
 pub returns-clause-takes : goal.returns-clause-takes
 returns-clause-takes g c =

@@ -1,11 +1,9 @@
 use Rattle.std.proofs.Common.{arith, ◌≡◌, ◌<◌, ap, false, length, subst, sym}
-use Rattle.live_reading.specs.LineBuffers.{held}
-use Rattle.live_reading.specs.LiveLines.{is_long}
-use Rattle.live_reading.specs.inner.Taking.{TakesFrom, TakesSaid, next_says}
-use Rattle.record_reading.specs.declared.buffers.TheConstants.{ROOM_TO_READ}
 use Rattle.live_reading.proofs.LiveLineLemmas.{last_is_short}
-use Rattle.live_reading.proofs.LiveTakingLemmas.{from_last, last_stop}
+use Rattle.live_reading.{proofs.LiveTakingLemmas.{from_last, last_stop}, specs.LineBuffers.{held}}
+use Rattle.live_reading.specs.{LiveLines.{is_long}, inner.Taking.{TakesFrom, TakesSaid, next_says}}
 use Rattle.live_reading.proofs.line_taking.take_last.Goals as goal
+use Rattle.record_reading.specs.declared.buffers.TheConstants.{ROOM_TO_READ}
 
 pub take_read-requires-clause-short : goal.take_read-requires-clause-short
 take_read-requires-clause-short g c =

@@ -1,9 +1,8 @@
-use Rattle.std.proofs.Common.{subst}
-use Rattle.std.proofs.lemmas.Result.{IfOk-weaker}
-use Rattle.live_reading.specs.LineBuffers.{held}
-use Rattle.live_reading.specs.inner.Taking.{TakesText, stop_at}
-use Rattle.live_reading.specs.declared.line_taking.LineStop.TheVariants.{Fault, Full}
+use Rattle.std.proofs.{Common.{subst}, lemmas.Result.{IfOk-weaker}}
 use Rattle.live_reading.proofs.LiveTakingLemmas.{from_held, from_none, from_read, from_then}
+use Rattle.live_reading.specs.LineBuffers.{held}
+use Rattle.live_reading.specs.declared.line_taking.LineStop.TheVariants.{Fault, Full}
+use Rattle.live_reading.specs.inner.Taking.{TakesText, stop_at}
 use Rattle.live_reading.proofs.line_taking.take_lines.Goals as goal
 
 pub loop-init : goal.loop-init

@@ -1,6 +1,6 @@
 use Rattle.std.proofs.Common.{◌≡◌}
-use Rattle.live_reading.specs.inner.Taking.{TakesFrom}
 use Rattle.live_reading.specs.declared.line_taking.LineStop.TheVariants.{Full}
+use Rattle.live_reading.specs.inner.Taking.{TakesFrom}
 use Rattle.live_reading.proofs.line_taking.take_lines.Given as goal
 
 abbrev pub invariant-loop : goal.invariant-loop

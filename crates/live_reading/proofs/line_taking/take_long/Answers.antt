@@ -1,7 +1,6 @@
 use Rattle.std.proofs.Common.{arith, ◌≡◌, ◌+◌, ◌∙◌, ap}
 use Rattle.csv.specs.Reading.{default_config, records}
-use Rattle.live_reading.specs.LiveLines.{first_worker}
-use Rattle.live_reading.proofs.LiveTakingLemmas.{from_long}
+use Rattle.live_reading.{proofs.LiveTakingLemmas.{from_long}, specs.LiveLines.{first_worker}}
 use Rattle.live_reading.proofs.line_taking.take_long.Goals as goal
 
 pub returns-clause-takes : goal.returns-clause-takes

@@ -1,6 +1,5 @@
 use Rattle.std.proofs.Common.{◌+◌, None, refl, subst, sym}
-use Rattle.live_reading.specs.inner.Taking.{TakesSaid}
-use Rattle.live_reading.proofs.LiveLineLemmas.{whole_is_short}
+use Rattle.live_reading.{proofs.LiveLineLemmas.{whole_is_short}, specs.inner.Taking.{TakesSaid}}
 use Rattle.live_reading.proofs.line_taking.take_other.Goals as goal
 
 pub returns-in_ok-add-in-Some-clause-takes : goal.returns-in_ok-add-in-Some-clause-takes

@@ -1,8 +1,7 @@
 use Rattle.std.proofs.Common.{arith, ◌≡◌, ◌∙◌, ◌+◌, None, Some, ap, refl, subst, sym}
-use Rattle.live_reading.specs.declared.live_lines.Said.TheVariants as says
-use Rattle.live_reading.specs.inner.Lines.{IsOneOf}
+use Rattle.live_reading.{proofs.LiveTakingLemmas.{takes_read}, specs.inner.Lines.{IsOneOf}}
 use Rattle.live_reading.specs.inner.Taking.{HasCounted}
-use Rattle.live_reading.proofs.LiveTakingLemmas.{takes_read}
+use Rattle.live_reading.specs.declared.live_lines.Said.TheVariants as says
 use Rattle.live_reading.proofs.line_taking.take_read.Goals as goal
 
 pub returns-in-None-clause-takes : goal.returns-in-None-clause-takes

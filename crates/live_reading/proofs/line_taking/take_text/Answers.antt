@@ -1,9 +1,9 @@
 use Rattle.std.proofs.Common.{arith, ◌≡◌, ◌≤◌, ◌+◌, ◌-◌, IfNone, None, Option, Some, drop, length, refl, subst, sym, take}
 use Rattle.std.proofs.lemmas.List.{length-take-le, take_rest}
-use Rattle.live_reading.specs.inner.Taking.{HasRoom, TakesText, stop_at}
+use Rattle.live_reading.proofs.LiveTakingLemmas.{bids_more, text_more, text_none, within_more}
 use Rattle.live_reading.specs.declared.line_taking.LineStop.TheVariants.{Full}
 use Rattle.live_reading.specs.declared.live_lines.LineFault.{LineFault}
-use Rattle.live_reading.proofs.LiveTakingLemmas.{bids_more, text_more, text_none, within_more}
+use Rattle.live_reading.specs.inner.Taking.{HasRoom, TakesText, stop_at}
 use Rattle.live_reading.proofs.line_taking.take_text.Goals as goal
 
 -- nothing is left to show at a fault

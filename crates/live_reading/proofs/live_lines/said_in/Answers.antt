@@ -1,9 +1,8 @@
 use Rattle.std.proofs.Common.{◌≡◌, ◌∙◌, [], Some, ap, false, subst, sym, true}
 use Rattle.csv.specs.Records.{fields_of}
-use Rattle.live_reading.specs.declared.live_lines.Said.{Said}
-use Rattle.live_reading.specs.LiveLines.{records_say}
-use Rattle.live_reading.specs.inner.Lines.{IsOneOf}
 use Rattle.live_reading.proofs.LiveLineLemmas.{has_none, many_read, one_of, one_read}
+use Rattle.live_reading.specs.{LiveLines.{records_say}, declared.live_lines.Said.{Said}}
+use Rattle.live_reading.specs.inner.Lines.{IsOneOf}
 use Rattle.live_reading.proofs.live_lines.said_in.Goals as goal
 
 pub returns-then-not-branch-clause-value : goal.returns-then-not-branch-clause-value

@@ -1,5 +1,4 @@
-use Rattle.std.proofs.Common.{◌≡◌, ◌&&◌, IfSome, false, subst}
-use Rattle.std.proofs.lemmas.Bool.{and_left, and_right}
+use Rattle.std.proofs.{Common.{◌≡◌, ◌&&◌, IfSome, false, subst}, lemmas.Bool.{and_left, and_right}}
 use Rattle.record_reading.specs.Lines.{IsLine}
 use Rattle.live_reading.proofs.LiveLineLemmas.{plain_says}
 use Rattle.live_reading.proofs.live_lines.whole_record.Goals.{else-one-via-then-one+else-begun, else-one-via-else-one}

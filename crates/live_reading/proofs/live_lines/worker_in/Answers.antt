@@ -1,7 +1,6 @@
 use Rattle.std.proofs.Common.{◌≡◌, ◌∙◌, [], ap, false, sym, true}
 use Rattle.csv.specs.Records.{fields_of}
-use Rattle.live_reading.specs.LiveLines.{first_worker}
-use Rattle.live_reading.proofs.LiveLineLemmas.{has_more, has_none}
+use Rattle.live_reading.{proofs.LiveLineLemmas.{has_more, has_none}, specs.LiveLines.{first_worker}}
 use Rattle.live_reading.proofs.live_lines.worker_in.Goals as goal
 
 pub returns-then-not-branch-clause-value : goal.returns-then-not-branch-clause-value

@@ -1,10 +1,9 @@
 use Rattle.std.proofs.Common.{◌≡◌, ◌∙◌, ap, sym}
-use Rattle.live_reading.specs.inner.Taking.{end_at, left_after}
-use Rattle.live_reading.specs.declared.line_taking.LineStop.{LineStop}
-use Rattle.live_reading.specs.declared.live_parts.LiveEnd.{LiveEnd}
-use Rattle.live_reading.specs.declared.live_parts.LivePart.{LivePart}
-use Rattle.live_reading.specs.declared.part_records.Taken.{Taken}
 use Rattle.live_reading.proofs.live_parts.part_before.Goals.{in-Full, in-Fault, in-End}
+use Rattle.live_reading.specs.declared.line_taking.LineStop.{LineStop}
+use Rattle.live_reading.specs.declared.live_parts.{LiveEnd.{LiveEnd}, LivePart.{LivePart}}
+use Rattle.live_reading.specs.declared.part_records.Taken.{Taken}
+use Rattle.live_reading.specs.inner.Taking.{end_at, left_after}
 use Rattle.live_reading.proofs.live_parts.part_before.Goals as goal
 
 abbrev part : {R : Type 0} → Taken → LiveEnd R → LivePart R

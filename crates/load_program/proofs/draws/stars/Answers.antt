@@ -1,6 +1,4 @@
-use Rattle.std.proofs.Common.{negsuc, pos, ◌≤ℤ◌, subst}
-use Rattle.std.proofs.lemmas.Int.{to_z-of_z}
-use Rattle.std.specs.Int.{w64}
+use Rattle.std.{proofs.{Common.{negsuc, pos, ◌≤ℤ◌, subst}, lemmas.Int.{to_z-of_z}}, specs.Int.{w64}}
 use Rattle.load_program.proofs.draws.stars.Goals as goal
 
 pub unwrap-requires : goal.unwrap-requires

@@ -1,8 +1,6 @@
-use Rattle.std.proofs.Common.{rules, arith, subst, []}
-use Rattle.std.specs.Io.KnownBytes.{Appends}
+use Rattle.std.{proofs.Common.{rules, arith, subst, []}, specs.Io.KnownBytes.{Appends}}
 use Rattle.auction_text.specs.RowLines.{rows_text}
-use Rattle.load_program.proofs.LoadLemmas.{no_rows, more_rows}
-use Rattle.load_program.specs.Loads.{WritesRows}
+use Rattle.load_program.{proofs.LoadLemmas.{no_rows, more_rows}, specs.Loads.{WritesRows}}
 use Rattle.load_program.proofs.load.write_items.Goals as goal
 
 pub loop-first-init : goal.loop-first-init

@@ -1,8 +1,6 @@
-use Rattle.std.proofs.Common.{rules, arith, subst}
-use Rattle.std.specs.Io.KnownBytes.{Appends}
+use Rattle.std.{proofs.Common.{rules, arith, subst}, specs.Io.KnownBytes.{Appends}}
 use Rattle.std.specs.List.{flat_map}
-use Rattle.load_program.proofs.LoadLemmas.{no_lines, more_lines}
-use Rattle.load_program.specs.Lines.{line_text}
+use Rattle.load_program.{proofs.LoadLemmas.{no_lines, more_lines}, specs.Lines.{line_text}}
 use Rattle.load_program.specs.Loads.{WritesLines}
 use Rattle.load_program.proofs.load.write_requests.Goals as goal
 

@@ -1,10 +1,6 @@
 use Rattle.std.proofs.Common.{◌≡◌, ◌∙◌, ◌∷◌, [], List, false, ap₂, map, subst}
-use Rattle.std.specs.List.{AllByRecursion}
-use Rattle.std.specs.Prelude.{fold}
-use Rattle.std.proofs.lemmas.Result.{IfOk-weaker}
-use Rattle.clap.specs.Built.{AddsArg, AddsInTurn}
-use Rattle.clap.specs.Simple.{with_rule}
-use Rattle.clap.specs.Words.{app_of, rule_of}
+use Rattle.std.{proofs.lemmas.Result.{IfOk-weaker}, specs.{List.{AllByRecursion}, Prelude.{fold}}}
+use Rattle.clap.specs.{Built.{AddsArg, AddsInTurn}, Simple.{with_rule}, Words.{app_of, rule_of}}
 use Rattle.clap.specs.declared.builder.arg.Arg.{Arg}
 use Rattle.program_options.proofs.AddedRules.{rules_added}
 use Rattle.load_program.specs.Words.{option_rules, program}

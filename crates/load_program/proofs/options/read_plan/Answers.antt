@@ -1,12 +1,9 @@
 use Rattle.std.proofs.Common.{◌≡◌, List, ℕ, Option, map, string_bytes, sym, ap, subst}
-use Rattle.std.specs.Prelude.{IfErr, IfOk}
-use Rattle.std.proofs.lemmas.Result.{IfErr-weaker, IfOk-weaker}
-use Rattle.clap.specs.Matches.{found_of, one_text}
-use Rattle.clap.specs.Simple.{app_of}
+use Rattle.std.{proofs.lemmas.Result.{IfErr-weaker, IfOk-weaker}, specs.Prelude.{IfErr, IfOk}}
+use Rattle.clap.specs.{Matches.{found_of, one_text}, Simple.{app_of}}
 use Rattle.program_options.specs.Words.{AreTaken, text_in}
-use Rattle.load_program.specs.Words.{IsCauseOf, SayPlan, program}
+use Rattle.load_program.{proofs.WordLemmas.{is_free}, specs.Words.{IsCauseOf, SayPlan, program}}
 use Rattle.load_program.specs.declared.faults.PlanFault.TheVariants.{Usage}
-use Rattle.load_program.proofs.WordLemmas.{is_free}
 use Rattle.load_program.proofs.options.read_plan.Goals as goal
 
 pub returns-in-Ok-parse_words : goal.returns-in-Ok-parse_words

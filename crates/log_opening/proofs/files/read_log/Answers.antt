@@ -1,6 +1,5 @@
 use Rattle.std.proofs.Common.{◌≡◌, ◌∙◌, ℕ, List, Option, None, Some, IfErr, IfOk, IfSome, length, refl, subst}
-use Rattle.log_opening.specs.inner.Files.{bytes_from}
-use Rattle.log_opening.specs.Opening.{IsRefused, Opens, TellsFirst}
+use Rattle.log_opening.specs.{Opening.{IsRefused, Opens, TellsFirst}, inner.Files.{bytes_from}}
 use Rattle.log_opening.proofs.files.read_log.Goals as goal
 
 -- from its start a file is read whole

@@ -1,6 +1,5 @@
 use Rattle.std.proofs.lemmas.List.Elements.{recursion_from_All}
-use Rattle.log_opening.specs.ReadBack.{IsWritten}
-use Rattle.log_opening.proofs.BookReadLemmas.{book_read}
+use Rattle.log_opening.{proofs.BookReadLemmas.{book_read}, specs.ReadBack.{IsWritten}}
 use Rattle.log_opening.proofs.laws.rows_are_read_back.Goals as goal
 
 pub returns : goal.returns

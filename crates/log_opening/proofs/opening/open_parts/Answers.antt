@@ -1,10 +1,8 @@
 use Rattle.std.proofs.Common.{arith, ◌≡◌, ◌++◌, [], ℕ, List, length, drop, take, sym, ap, subst}
-use Rattle.log_opening.specs.Opening.{TellsFirst}
-use Rattle.log_opening.specs.Parts.{HasNoEnd}
-use Rattle.log_opening.specs.inner.Reading.{IsReadTo}
-use Rattle.log_opening.specs.declared.opening.OpenFault.TheVariants as fault
-use Rattle.log_opening.specs.declared.parts.ReadRows.{ReadRows}
 use Rattle.log_opening.proofs.ReadingLemmas.{any_error, begins, end_opens, end_refused, end_same, no_memory, none_read, refilled, refused_after, same_again, told_first}
+use Rattle.log_opening.specs.{Opening.{TellsFirst}, Parts.{HasNoEnd}}
+use Rattle.log_opening.specs.{declared.parts.ReadRows.{ReadRows}, inner.Reading.{IsReadTo}}
+use Rattle.log_opening.specs.declared.opening.OpenFault.TheVariants as fault
 use Rattle.log_opening.proofs.opening.open_parts.Goals as goal
 
 pub returns-in_default-clause-refused : goal.returns-in_default-clause-refused

@@ -1,5 +1,4 @@
-use Rattle.std.proofs.Common.{rules, ◌≤◌, ◌-◌, arith, length}
-use Rattle.std.specs.Prelude.{IfSome}
+use Rattle.std.{proofs.Common.{rules, ◌≤◌, ◌-◌, arith, length}, specs.Prelude.{IfSome}}
 use Rattle.part_log.proofs.KeptLemmas.{all_there, given_there, holds_all, holds_less, no_bytes_there}
 use Rattle.part_log.proofs.file_log.holds_just.Goals.{else-count-gt0-via-then-count-gt0+in_ok-read_at+else-branch-eq0, else-count-gt0-via-else-count-gt0}
 use Rattle.part_log.proofs.file_log.holds_just.Goals as goal

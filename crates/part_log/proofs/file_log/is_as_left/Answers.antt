@@ -1,5 +1,4 @@
-use Rattle.std.proofs.Common.{◌≡◌, true, length}
-use Rattle.std.proofs.lemmas.Result.{IfOk-weaker}
+use Rattle.std.proofs.{Common.{◌≡◌, true, length}, lemmas.Result.{IfOk-weaker}}
 use Rattle.std.specs.Prelude.{IfSome}
 use Rattle.part_log.proofs.KeptLemmas.{of_length}
 use Rattle.part_log.proofs.file_log.is_as_left.Goals as goal

@@ -1,10 +1,9 @@
-use Rattle.std.proofs.Common.{rules, ◌≡◌, refl, sym, subst, inl}
+use Rattle.std.{proofs.Common.{rules, ◌≡◌, refl, sym, subst, inl}, specs.Io.KnownBytes.{Appends}}
 use Rattle.std.specs.Prelude.{IfErr}
-use Rattle.std.specs.Io.KnownBytes.{Appends}
 use Rattle.byte_texts.specs.declared.writing.WriteFault.TheVariants.{Write}
-use Rattle.part_log.specs.Telling.{IsUnlogged}
 use Rattle.part_log.proofs.TellingLemmas.{ended_by, found_by, none_added, prefix_written, some_rows}
 use Rattle.part_log.proofs.log.tell_part.Goals.{then-not-is_empty+in_default, else-not-is_empty}
+use Rattle.part_log.specs.Telling.{IsUnlogged}
 use Rattle.part_log.proofs.log.tell_part.Goals as goal
 
 pub returns-clause-first : goal.returns-clause-first

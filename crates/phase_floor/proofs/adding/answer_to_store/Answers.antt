@@ -1,7 +1,6 @@
 use Rattle.std.proofs.Common.{sym, ap, ◌∙◌}
+use Rattle.auction_rows.specs.{Replies.{answer}, Requests.{is_view}}
 use Rattle.auction_rows.specs.declared.replies.Reply.TheVariants.{BidStored}
-use Rattle.auction_rows.specs.Replies.{answer}
-use Rattle.auction_rows.specs.Requests.{is_view}
 use Rattle.phase_floor.proofs.adding.answer_to_store.Goals as goal
 
 pub returns-in-StoreBid : goal.returns-in-StoreBid

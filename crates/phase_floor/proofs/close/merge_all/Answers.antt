@@ -1,9 +1,8 @@
-use Rattle.std.proofs.Common.{map, length, ap, arith}
-use Rattle.std.specs.List.{flat_map}
+use Rattle.std.{proofs.Common.{map, length, ap, arith}, specs.List.{flat_map}}
 use Rattle.std.specs.Vec.Iter.{into_iter_items}
 use Rattle.shard_boxes.specs.States.{state_of}
-use Rattle.phase_floor.specs.inner.Parts.{from_the_last}
 use Rattle.phase_floor.proofs.Turns.{first_known, first_can, merged_next}
+use Rattle.phase_floor.specs.inner.Parts.{from_the_last}
 use Rattle.phase_floor.proofs.close.merge_all.Goals as goal
 
 pub merge_own-requires-clause-known : goal.merge_own-requires-clause-known

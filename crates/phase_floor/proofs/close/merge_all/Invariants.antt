@@ -1,9 +1,7 @@
-use Rattle.std.proofs.Common.{◌≡◌, length, map}
-use Rattle.std.specs.List.{flat_map}
+use Rattle.std.{proofs.Common.{◌≡◌, length, map}, specs.List.{flat_map}}
 use Rattle.std.specs.Vec.Iter.{into_iter_items, into_iter_len}
 use Rattle.shard_boxes.specs.States.{state_of}
-use Rattle.phase_floor.specs.inner.Parts.{from_the_last}
-use Rattle.phase_floor.proofs.Turns.{AreToMerge}
+use Rattle.phase_floor.{proofs.Turns.{AreToMerge}, specs.inner.Parts.{from_the_last}}
 use Rattle.phase_floor.proofs.close.merge_all.Given as goal
 
 abbrev pub invariant-loop-own : goal.invariant-loop-own

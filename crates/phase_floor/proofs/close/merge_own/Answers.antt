@@ -2,8 +2,8 @@ use Rattle.std.proofs.Common.{[], ◌∷◌, map, refl}
 use Rattle.auction_rows.specs.declared.requests.Object.{Object}
 use Rattle.item_shards.specs.declared.shard.slices.Slice.{Slice}
 use Rattle.shard_boxes.specs.States.{state_of}
-use Rattle.phase_floor.specs.inner.Parts.{from_the_last}
 use Rattle.phase_floor.proofs.Turns.{first_known, first_can, merged_next, last_first, shorter}
+use Rattle.phase_floor.specs.inner.Parts.{from_the_last}
 use Rattle.phase_floor.proofs.close.merge_own.Goals as goal
 
 pub loop-object-init : goal.loop-object-init

@@ -1,7 +1,6 @@
 use Rattle.std.proofs.Common.{length, map}
 use Rattle.shard_boxes.specs.States.{state_of}
-use Rattle.phase_floor.specs.inner.Parts.{from_the_last}
-use Rattle.phase_floor.proofs.Turns.{AreToMerge}
+use Rattle.phase_floor.{proofs.Turns.{AreToMerge}, specs.inner.Parts.{from_the_last}}
 use Rattle.phase_floor.proofs.close.merge_own.Given as goal
 
 abbrev pub invariant-loop-object : goal.invariant-loop-object

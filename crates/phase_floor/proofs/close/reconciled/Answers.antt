@@ -1,10 +1,8 @@
-use Rattle.std.proofs.Common.{List, map, fold, sym, ap, ◌∙◌, subst}
-use Rattle.std.specs.List.{flat_map}
+use Rattle.std.{proofs.Common.{List, map, fold, sym, ap, ◌∙◌, subst}, specs.List.{flat_map}}
 use Rattle.phase_laws.specs.Replay.{SawInTurn}
 use Rattle.item_shards.specs.declared.shard.Shard.{Shard}
 use Rattle.shard_boxes.specs.States.{state_of}
-use Rattle.auction_shards.specs.Merging.{CanMerge, after_merge}
-use Rattle.auction_shards.specs.Shards.{at_start}
+use Rattle.auction_shards.specs.{Merging.{CanMerge, after_merge}, Shards.{at_start}}
 use Rattle.phase_floor.specs.inner.Parts.{AreKnown, from_the_last}
 use Rattle.phase_floor.proofs.close.reconciled.Goals as goal
 

@@ -2,11 +2,9 @@ use Rattle.std.proofs.Common.{◌+◌, ◌∙◌, ℕ, [], get_or, length, ap, a
 use Rattle.std.proofs.lemmas.List.{get_or_read}
 use Rattle.shard_boxes.proofs.Each.{each_push}
 use Rattle.worker_journals.specs.Journals.{empty_journal}
-use Rattle.worker_slices.specs.Slicing.{slices_of}
-use Rattle.worker_slices.specs.Stashes.{StashState}
-use Rattle.phase_floor.specs.declared.start.Kit.{Kit}
+use Rattle.worker_slices.specs.{Slicing.{slices_of}, Stashes.{StashState}}
+use Rattle.phase_floor.specs.{Floors.{no_stash, stash_at}, declared.start.Kit.{Kit}}
 use Rattle.phase_floor.specs.inner.Kits.{IsKit}
-use Rattle.phase_floor.specs.Floors.{no_stash, stash_at}
 use Rattle.phase_floor.proofs.start.new_kits.Goals as goal
 
 pub loop-w-preserved : goal.loop-w-preserved

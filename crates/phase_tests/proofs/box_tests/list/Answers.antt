@@ -1,6 +1,5 @@
 use Rattle.std.proofs.Common.{ap, ◌∙◌}
-use Rattle.item_shards.specs.Contents.{Contents, after_act}
-use Rattle.item_shards.specs.Looking.{event_at}
+use Rattle.item_shards.specs.{Contents.{Contents, after_act}, Looking.{event_at}}
 use Rattle.item_shards.specs.declared.shard.acts.Act.TheVariants.{Look}
 use Rattle.item_shards.specs.declared.shard.acts.Look.TheVariants.{Category}
 use Rattle.phase_tests.proofs.box_tests.list.Goals as goal

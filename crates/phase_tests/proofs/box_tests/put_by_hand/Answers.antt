@@ -1,16 +1,11 @@
 use Rattle.std.proofs.Common.{◌<◌, List, [], ◌∷◌, Some, slice_get, refl, sym, ap, subst, ◌∙◌, arith}
 use Rattle.std.specs.Prelude.{IfSome}
+use Rattle.auction_rows.specs.{Requests.{shard_of}, declared.requests.Object.TheVariants.{Category}}
 use Rattle.auction_rows.specs.declared.values.Opening.{Opening}
-use Rattle.auction_rows.specs.declared.requests.Object.TheVariants.{Category}
-use Rattle.auction_rows.specs.Requests.{shard_of}
-use Rattle.item_shards.specs.declared.shard.Shard.{Shard}
-use Rattle.item_shards.specs.ShardContents.{LiesIn, clock, opening}
-use Rattle.shard_boxes.specs.Helds.{taken_at}
-use Rattle.shard_boxes.specs.Keys.{KeyState, putting, seen_at}
-use Rattle.shard_boxes.specs.Lines.{after_line, seen_line}
-use Rattle.shard_boxes.specs.States.{ShardState, state_of}
-use Rattle.phase_transactions.specs.Workers.{IsIdle}
-use Rattle.phase_transactions.proofs.KeyLemmas.{idle_put}
+use Rattle.item_shards.specs.{ShardContents.{LiesIn, clock, opening}, declared.shard.Shard.{Shard}}
+use Rattle.shard_boxes.specs.{Helds.{taken_at}, Keys.{KeyState, putting, seen_at}}
+use Rattle.shard_boxes.specs.{Lines.{after_line, seen_line}, States.{ShardState, state_of}}
+use Rattle.phase_transactions.{proofs.KeyLemmas.{idle_put}, specs.Workers.{IsIdle}}
 use Rattle.phase_tests.proofs.permits.ClosedLemmas.{first_has}
 use Rattle.phase_tests.proofs.box_tests.put_by_hand.Goals as goal
 

@@ -1,12 +1,9 @@
 use Rattle.std.proofs.Common.{◌≡◌, ℕ, ◌+◌, ◌-◌, ◌≤◌, List, [], ◌∷◌, ◌++◌, length, sym, ap, subst, ◌∙◌, arith}
-use Rattle.std.proofs.lemmas.Result.{IfOk-at_ok}
-use Rattle.std.specs.List.{AllByRecursion}
+use Rattle.std.{proofs.lemmas.Result.{IfOk-at_ok}, specs.List.{AllByRecursion}}
 use Rattle.auction_rows.specs.declared.requests.Request.{Request}
-use Rattle.shard_boxes.specs.Keys.{BoxId, KeyState}
-use Rattle.shard_boxes.specs.States.{ShardState}
+use Rattle.shard_boxes.specs.{Keys.{BoxId, KeyState}, States.{ShardState}}
 use Rattle.worker_slices.specs.Stashes.{StashState}
-use Rattle.phase_transactions.specs.Workers.{WorkerState}
-use Rattle.phase_transactions.specs.Performing.{HaveOpening}
+use Rattle.phase_transactions.specs.{Performing.{HaveOpening}, Workers.{WorkerState}}
 use Rattle.phase_workers.specs.Tasks.{task, tasks, CanBeDone}
 use Rattle.phase_workers.specs.Working.{stashed, ArePermitsOf, IsPermitOf}
 use Rattle.phase_tests.proofs.worker_tests.fault_at_the_end.Goals as goal

@@ -1,12 +1,10 @@
 use Rattle.std.proofs.Common.{rules, ◌≡◌, Option, None, Some, sym, ap, subst, ◌∙◌}
-use Rattle.auction_rows.specs.declared.{requests.Facts.Facts, replies.Reply.Reply}
-use Rattle.auction_rows.specs.declared.requests.Object.TheVariants.{Item, User, Category}
 use Rattle.auction_rows.specs.Replies.{answer_unless}
-use Rattle.item_shards.specs.ShardContents.{contents}
-use Rattle.item_shards.specs.Values.{Value}
+use Rattle.auction_rows.specs.declared.requests.Object.TheVariants.{Item, User, Category}
+use Rattle.auction_rows.specs.declared.{requests.Facts.Facts, replies.Reply.Reply}
+use Rattle.item_shards.specs.{ShardContents.{contents}, Values.{Value}}
 use Rattle.item_shards.specs.Views.{item_view, bids_view, category_view}
-use Rattle.phase_transactions.specs.inner.Begun.{viewed}
-use Rattle.phase_transactions.specs.Txns.{SuitsBids, SuitsItem}
+use Rattle.phase_transactions.specs.{Txns.{SuitsBids, SuitsItem}, inner.Begun.{viewed}}
 use Rattle.phase_transactions.proofs.answers.view.Goals as goal
 
 -- what is shown of an item suits the request

@@ -1,7 +1,7 @@
 use Rattle.std.proofs.Common.{[], ◌∷◌, sym, ap, ◌∙◌}
 use Rattle.shard_boxes.specs.States.{state_of}
-use Rattle.phase_transactions.specs.inner.Begun.{states_in}
 use Rattle.phase_transactions.proofs.RoomLemmas.{same_state, has_room}
+use Rattle.phase_transactions.specs.inner.Begun.{states_in}
 use Rattle.phase_transactions.proofs.taken.make_room.Goals as goal
 
 pub returns-in-One-clause-same : goal.returns-in-One-clause-same

@@ -1,7 +1,7 @@
 use Rattle.std.proofs.Common.{◌≡◌, ◌≢◌, refl, sym, ap, ◌∙◌, arith}
 use Rattle.std.proofs.lemmas.Bool.{eq-eqb, ne_eqb, or_from}
-use Rattle.shard_boxes.specs.Keys.{KeyState, SeatState, holds_at}
 use Rattle.shard_boxes.proofs.SeatLemmas.{taking-other}
+use Rattle.shard_boxes.specs.Keys.{KeyState, SeatState, holds_at}
 use Rattle.phase_transactions.proofs.TakeLemmas.{taken_none, taken_more, taken_turned}
 use Rattle.phase_transactions.proofs.taken.take_all.Goals as goal
 

@@ -1,11 +1,10 @@
 use Rattle.std.proofs.Common.{◌≡◌, ℕ, suc, ◌+◌, ◌<◌, ◌≤◌, ◌++◌, map, length, drop, get_or, add-one, zero-add, lt_of_lt_of_le, sym, ap, subst, ◌∙◌, arith, vec_len}
-use Rattle.std.specs.List.{AllByRecursion}
-use Rattle.std.specs.Vec.Iter.{into_iter_items, into_iter_len}
+use Rattle.std.specs.{List.{AllByRecursion}, Vec.Iter.{into_iter_items, into_iter_len}}
+use Rattle.phase_workers.proofs.TaskLemmas.{next_script, next_task, next_within, one_made, own_more}
 use Rattle.phase_workers.specs.Tasks.{Task, task, tasks, CanBeDone}
 use Rattle.phase_workers.specs.Working.{IsPermitOf, ArePermitsOf}
-use Rattle.job_threads.proofs.ThreadLemmas.{none_left, all_done}
-use Rattle.phase_workers.proofs.TaskLemmas.{next_script, next_task, next_within, one_made, own_more}
 use Rattle.phase_workers.proofs.round.own_tasks.Goals as goal
+use Rattle.job_threads.proofs.ThreadLemmas.{none_left, all_done}
 
 pub overflow_cast-worker : goal.overflow_cast-worker
 overflow_cast-worker g c =

@@ -1,8 +1,6 @@
 use Rattle.std.proofs.Common.{◌≡◌, ◌+◌, ◌≤◌, ◌++◌, map, drop, length, vec_len, vec_capacity}
-use Rattle.std.specs.List.{AllByRecursion}
-use Rattle.std.specs.Vec.Iter.{into_iter_items, into_iter_len}
-use Rattle.phase_workers.specs.Tasks.{task, tasks, CanBeDone}
-use Rattle.phase_workers.specs.Working.{IsPermitOf, ArePermitsOf}
+use Rattle.std.specs.{List.{AllByRecursion}, Vec.Iter.{into_iter_items, into_iter_len}}
+use Rattle.phase_workers.specs.{Tasks.{task, tasks, CanBeDone}, Working.{IsPermitOf, ArePermitsOf}}
 use Rattle.phase_workers.proofs.round.own_tasks.Given as goal
 
 -- the tasks so far and those to be made are the workers', in order

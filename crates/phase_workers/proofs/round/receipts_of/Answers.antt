@@ -1,9 +1,8 @@
-use Rattle.std.proofs.Common.{◌++◌, map, sym, ◌∙◌}
-use Rattle.std.specs.Vec.Iter.{into_iter_items}
-use Rattle.phase_workers.specs.inner.Answers.{without_fault}
-use Rattle.job_threads.proofs.ThreadLemmas.{none_left, all_done, room_at_first, room_for_one, room_after}
+use Rattle.std.{proofs.Common.{◌++◌, map, sym, ◌∙◌}, specs.Vec.Iter.{into_iter_items}}
 use Rattle.phase_workers.proofs.TaskLemmas.{receipt_more, fault_first}
+use Rattle.phase_workers.specs.inner.Answers.{without_fault}
 use Rattle.phase_workers.proofs.round.receipts_of.Goals as goal
+use Rattle.job_threads.proofs.ThreadLemmas.{none_left, all_done, room_at_first, room_for_one, room_after}
 
 pub loop-answer-preserved : goal.loop-answer-preserved
 loop-answer-preserved g c =

@@ -1,9 +1,9 @@
 use Rattle.std.proofs.Common.{◌≤◌, length, vec_capacity, sym, subst, ◌∙◌}
 use Rattle.job_threads.proofs.ThreadLemmas.{err_as}
-use Rattle.phase_workers.specs.declared.round.ServingFault.TheVariants.{Worker}
+use Rattle.phase_workers.proofs.TaskLemmas.{as_many, all_done, fault_met, unstarted_by, tasks_of_few}
 use Rattle.phase_workers.specs.Tasks.{task, tasks, IsFirstFault, IsFaultBy}
 use Rattle.phase_workers.specs.Threads.{fault_of_jobs}
-use Rattle.phase_workers.proofs.TaskLemmas.{as_many, all_done, fault_met, unstarted_by, tasks_of_few}
+use Rattle.phase_workers.specs.declared.round.ServingFault.TheVariants.{Worker}
 use Rattle.phase_workers.proofs.round.serve_all.Goals as goal
 
 pub receipts_of-requires-clause-room : goal.receipts_of-requires-clause-room

@@ -1,13 +1,12 @@
 use Rattle.std.proofs.Common.{◌≡◌, ℕ, suc, ◌+◌, ◌<◌, ◌≤◌, ◌++◌, List, [], ◌∷◌, refl, drop, length, get_or, add-one, zero-add, lt_of_lt_of_le, sym, ap, subst, ◌∙◌, arith, vec_len}
-use Rattle.std.specs.List.{AllByRecursion, AllZip}
+use Rattle.std.specs.{List.{AllByRecursion, AllZip}, Prelude.{OnOk, IfErr, Result}}
 use Rattle.std.specs.Vec.Iter.{into_iter_items, into_iter_len}
-use Rattle.std.specs.Prelude.{OnOk, IfErr, Result}
 use Rattle.phase_transactions.specs.declared.done.PermitFault.{PermitFault}
+use Rattle.phase_workers.proofs.TaskLemmas.{first_fault_after, next_script, next_task, next_within, one_made}
 use Rattle.phase_workers.specs.Tasks.{Task, task, tasks, CanBeDone, HasDoneTask, HasMetFault}
 use Rattle.phase_workers.specs.Working.{ArePermitsOf, IsPermitOf}
-use Rattle.job_threads.proofs.ThreadLemmas.{none_left, all_done, worked_more}
-use Rattle.phase_workers.proofs.TaskLemmas.{first_fault_after, next_script, next_task, next_within, one_made}
 use Rattle.phase_workers.proofs.round.serve_in_turn.Goals as goal
+use Rattle.job_threads.proofs.ThreadLemmas.{none_left, all_done, worked_more}
 
 pub overflow_cast-own : goal.overflow_cast-own
 overflow_cast-own g c =

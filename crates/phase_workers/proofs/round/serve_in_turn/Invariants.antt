@@ -1,8 +1,6 @@
 use Rattle.std.proofs.Common.{◌≡◌, ◌+◌, ◌≤◌, ◌++◌, List, drop, length, vec_len, vec_capacity}
-use Rattle.std.specs.List.{AllByRecursion, AllZip}
-use Rattle.std.specs.Vec.Iter.{into_iter_items, into_iter_len}
-use Rattle.phase_workers.specs.Tasks.{Task, tasks, CanBeDone, HasDoneTask}
-use Rattle.phase_workers.specs.Working.{ArePermitsOf}
+use Rattle.std.specs.{List.{AllByRecursion, AllZip}, Vec.Iter.{into_iter_items, into_iter_len}}
+use Rattle.phase_workers.specs.{Tasks.{Task, tasks, CanBeDone, HasDoneTask}, Working.{ArePermitsOf}}
 use Rattle.phase_workers.proofs.round.serve_in_turn.Given as goal
 
 -- the tasks that are done, and those that are not yet, are the workers', in order

@@ -1,7 +1,7 @@
 use Rattle.request_scripts.specs.Scripts.{request_of}
 use Rattle.phase_workers.proofs.WorkLemmas.{dealt_found, failed_found}
-use Rattle.phase_workers.proofs.worker.perform_next.Goals as goal
 use Rattle.phase_workers.proofs.worker.perform_next.Goals.{in-Some, in-None}
+use Rattle.phase_workers.proofs.worker.perform_next.Goals as goal
 
 pub returns-clause-dealt : goal.returns-clause-dealt
 returns-clause-dealt g c request at =

@@ -1,16 +1,13 @@
 use Rattle.std.proofs.Common.{◌≡◌, false, ◌+◌, ◌<◌, ◌≤◌, ◌++◌, ◌∷◌, [], ℕ, not, List, take, take_all, drop, add-zero, append-nil, le_of_eq, sym, ap, subst, ◌∙◌, arith}
-use Rattle.std.proofs.lemmas.List.{length-take}
-use Rattle.std.proofs.lemmas.Option.{get_or_from_slice_get}
-use Rattle.auction_rows.specs.declared.requests.{Object.Object, Request.Request}
+use Rattle.std.proofs.lemmas.{List.{length-take}, Option.{get_or_from_slice_get}}
 use Rattle.auction_rows.specs.Phases.{is_put_off}
-use Rattle.phase_transactions.specs.Workers.{WorkerState}
-use Rattle.phase_transactions.specs.Performing.{HaveOpening}
-use Rattle.run_laws.specs.Turns.{numbered}
-use Rattle.run_laws.proofs.QuotaLemmas.{next_call}
-use Rattle.phase_workers.specs.Working.{calls_from, committed, stashed, hot_for, put_off, not_put_off, HasStopped}
-use Rattle.job_threads.proofs.ThreadLemmas.{err_as}
+use Rattle.auction_rows.specs.declared.requests.{Object.Object, Request.Request}
+use Rattle.phase_transactions.specs.{Performing.{HaveOpening}, Workers.{WorkerState}}
+use Rattle.run_laws.{proofs.QuotaLemmas.{next_call}, specs.Turns.{numbered}}
 use Rattle.phase_workers.proofs.WorkLemmas.{same, same_after, kept_more, request_there, within_script, some_left, try_left, stopped_next}
+use Rattle.phase_workers.specs.Working.{calls_from, committed, stashed, hot_for, put_off, not_put_off, HasStopped}
 use Rattle.phase_workers.proofs.worker.perform_quota.Goals as goal
+use Rattle.job_threads.proofs.ThreadLemmas.{err_as}
 
 pub loop-place-preserved : goal.loop-place-preserved
 loop-place-preserved g c =

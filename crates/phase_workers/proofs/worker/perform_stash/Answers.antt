@@ -1,13 +1,12 @@
 use Rattle.std.proofs.Common.{◌≡◌, ℕ, ◌+◌, ◌<◌, ◌≤◌, Bool, true, false, cond, List, [], ◌++◌, ◌∙◌, refl, sym, ap, subst, take, drop, add-zero, le_of_eq, arith}
 use Rattle.std.proofs.lemmas.List.{append-nil, take_all, drop_all}
 use Rattle.auction_rows.specs.declared.requests.Request.{Request}
-use Rattle.phase_transactions.specs.Workers.{WorkerState}
-use Rattle.phase_transactions.specs.Performing.{HaveOpening}
+use Rattle.phase_transactions.specs.{Performing.{HaveOpening}, Workers.{WorkerState}}
+use Rattle.phase_workers.proofs.WorkLemmas.{same, same_after, takes_some, stash_goes, stash_more, stash_less, stopped_first, try_left, tries_by}
 use Rattle.phase_workers.specs.Working.{committed, stashed, taken, still_waiting, hot_for, put_off, HasStopped}
 use Rattle.phase_workers.specs.inner.Steps.{HasPerformedWaiting}
-use Rattle.job_threads.proofs.ThreadLemmas.{err_as}
-use Rattle.phase_workers.proofs.WorkLemmas.{same, same_after, takes_some, stash_goes, stash_more, stash_less, stopped_first, try_left, tries_by}
 use Rattle.phase_workers.proofs.worker.perform_stash.Goals as goal
+use Rattle.job_threads.proofs.ThreadLemmas.{err_as}
 
 pub loop-call-preserved : goal.loop-call-preserved
 loop-call-preserved g c =

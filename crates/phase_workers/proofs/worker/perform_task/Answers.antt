@@ -3,11 +3,11 @@ use Rattle.std.proofs.lemmas.Result.{IfErr-weaker}
 use Rattle.auction_rows.specs.declared.limits.TheConstants.{MOST_TRIES}
 use Rattle.auction_rows.specs.declared.requests.Request.{Request}
 use Rattle.phase_transactions.specs.Workers.{WorkerState}
+use Rattle.phase_workers.proofs.WorkLemmas.{on_ok3, task_done, stopped_early, stopped_late}
 use Rattle.phase_workers.specs.Tasks.{task, HasMetFault}
 use Rattle.phase_workers.specs.Working.{calls_from, stashed, taken, HasStopped}
-use Rattle.job_threads.proofs.ThreadLemmas.{err_as}
-use Rattle.phase_workers.proofs.WorkLemmas.{on_ok3, task_done, stopped_early, stopped_late}
 use Rattle.phase_workers.proofs.worker.perform_task.Goals as goal
+use Rattle.job_threads.proofs.ThreadLemmas.{err_as}
 
 room_for_taken : (takes : Bool) (calls : List (ℕ × Request)) (tries left : ℕ) → tries + length calls + left ≤ MOST_TRIES → tries + length (cond takes calls []) ≤ MOST_TRIES
 room_for_taken true calls tries left is = omega arith

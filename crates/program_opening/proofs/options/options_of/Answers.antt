@@ -1,14 +1,11 @@
 use Rattle.std.proofs.Common.{◌≡◌, ◌≤◌, ◌∙◌, Bool, arith, codes, subst, sym}
 use Rattle.clap.specs.Matches.{first_value, found_of, one_text}
-use Rattle.program_options.proofs.NumberOptions.{number_by}
-use Rattle.program_options.specs.Options.{is_given, number_of}
-use Rattle.program_options.specs.Words.{HaveNumbers}
-use Rattle.program_options.specs.declared.options.TheConstants.{MOST_ASKED}
+use Rattle.program_options.{proofs.NumberOptions.{number_by}, specs.Options.{is_given, number_of}}
+use Rattle.program_options.specs.{Words.{HaveNumbers}, declared.options.TheConstants.{MOST_ASKED}}
 use Rattle.program_options.specs.declared.words.UsageFault.TheVariants.{Memory}
+use Rattle.program_opening.proofs.{ErrorLemmas.{error_is}, ProgramWords.{fast_or_said}}
 use Rattle.program_opening.specs.Words.{SaysEnd, is_fast, program}
-use Rattle.program_opening.proofs.ErrorLemmas.{error_is}
 use Rattle.program_opening.proofs.NumberWords as has
-use Rattle.program_opening.proofs.ProgramWords.{fast_or_said}
 use Rattle.program_opening.proofs.options.options_of.Goals as goal
 
 pub returns-clause-given : goal.returns-clause-given

@@ -1,13 +1,11 @@
 use Rattle.std.proofs.Common.{◌≡◌, Bool, List, ℕ, codes, map, string_bytes, sym, subst}
 use Rattle.std.proofs.lemmas.Result.{IfErr-weaker, IfOk-weaker}
-use Rattle.clap.specs.Matches.{first_value, found_of, one_text}
-use Rattle.clap.specs.Simple.{app_of}
+use Rattle.clap.specs.{Matches.{first_value, found_of, one_text}, Simple.{app_of}}
 use Rattle.program_options.specs.Options.{is_given, number_of}
 use Rattle.program_options.specs.Words.{AreTaken, HaveNumbers, given_in, text_in, value_in}
 use Rattle.program_options.specs.declared.words.UsageFault.TheVariants.{Memory}
+use Rattle.program_opening.proofs.{ErrorLemmas.{error_is}, ProgramWords.{is_free}}
 use Rattle.program_opening.specs.Words.{SayOptions, SaysEnd, program}
-use Rattle.program_opening.proofs.ErrorLemmas.{error_is}
-use Rattle.program_opening.proofs.ProgramWords.{is_free}
 use Rattle.program_opening.proofs.options.read_options.Goals as goal
 
 pub returns : goal.returns

@@ -1,9 +1,6 @@
-use Rattle.std.proofs.Common.{◌≡◌, ◌∙◌, ℕ, List, [], ◌∷◌, Some, ap}
-use Rattle.std.specs.Borrow.{Bor}
-use Rattle.clap.specs.Simple.{new_rule}
-use Rattle.clap.specs.Walk.{Rule, rule_of}
-use Rattle.clap.specs.declared.builder.arg.Arg.{Arg}
-use Rattle.clap.specs.declared.builder.action.ArgAction.TheVariants.{Set}
+use Rattle.std.{proofs.Common.{◌≡◌, ◌∙◌, ℕ, List, [], ◌∷◌, Some, ap}, specs.Borrow.{Bor}}
+use Rattle.clap.specs.{Simple.{new_rule}, Walk.{Rule, rule_of}}
+use Rattle.clap.specs.declared.builder.{action.ArgAction.TheVariants.{Set}, arg.Arg.{Arg}}
 use Rattle.clap.specs.declared.builder.texts.Texts.TheVariants.{One}
 use Rattle.clap.specs.declared.builder.value_parser.ValueParser.{ValueParser}
 use Rattle.program_options.proofs.options.number_option.Goals as goal

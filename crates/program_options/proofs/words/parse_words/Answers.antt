@@ -1,6 +1,5 @@
 use Rattle.std.proofs.Common.{map, refl, string_bytes}
-use Rattle.clap.specs.Matches.{has_subcommand}
-use Rattle.clap.specs.Simple.{app_of}
+use Rattle.clap.specs.{Matches.{has_subcommand}, Simple.{app_of}}
 use Rattle.program_options.proofs.WordLemmas.{given_found, no_fault, numbers_parsed, only_memory, texts_found, values_found}
 use Rattle.program_options.proofs.words.parse_words.Goals as goal
 

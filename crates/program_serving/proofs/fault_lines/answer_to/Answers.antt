@@ -1,7 +1,6 @@
 use Rattle.std.proofs.Common.{◌∙◌, ◌++◌, ◌||◌, [], ap, if◌then◌else◌, sym}
 use Rattle.auction_text.specs.Moved.{gone_by}
-use Rattle.program_serving.specs.FaultLines.{answer_line}
-use Rattle.program_serving.specs.Serving.{named_answer}
+use Rattle.program_serving.specs.{FaultLines.{answer_line}, Serving.{named_answer}}
 use Rattle.program_serving.specs.inner.Sessions.{turned_text}
 use Rattle.program_serving.proofs.fault_lines.answer_to.Goals as goal
 

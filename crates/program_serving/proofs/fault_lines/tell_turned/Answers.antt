@@ -1,10 +1,8 @@
 use Rattle.std.proofs.Common.{◌∙◌, [], refl}
 use Rattle.auction_text.specs.Moved.{gone_by}
-use Rattle.program_opening.specs.Faults.{of_telling}
-use Rattle.program_serving.specs.ServeFaults.{AreToldAt}
-use Rattle.program_serving.specs.inner.Sessions.{answer_to}
-use Rattle.program_opening.proofs.ErrorLemmas.{error_is}
+use Rattle.program_opening.{proofs.ErrorLemmas.{error_is}, specs.Faults.{of_telling}}
 use Rattle.program_serving.proofs.ToldLemmas.{if_known, same_appended, told_so_far}
+use Rattle.program_serving.specs.{ServeFaults.{AreToldAt}, inner.Sessions.{answer_to}}
 use Rattle.program_serving.proofs.fault_lines.tell_turned.Goals as goal
 
 pub returns-clause-told : goal.returns-clause-told

@@ -1,5 +1,4 @@
-use Rattle.std.proofs.Common.{◌∙◌, arith, refl, sym}
-use Rattle.std.proofs.lemmas.Bool.{false≢true}
+use Rattle.std.proofs.{Common.{◌∙◌, arith, refl, sym}, lemmas.Bool.{false≢true}}
 use Rattle.program_serving.proofs.limits.most_of_a_part.Goals as goal
 
 pub returns-then-not-has_room-clause-asked : goal.returns-then-not-has_room-clause-asked

@@ -2,8 +2,7 @@ use Rattle.std.proofs.Common.{◌≡◌, ◌∙◌, ℕ, List, subst, sym}
 use Rattle.auction_rows.specs.declared.requests.Request.{Request}
 use Rattle.auction_run.specs.GoingOn.{AreShortOn, HasScripts}
 use Rattle.phase_floor.specs.States.{JoinedState}
-use Rattle.program_serving.specs.inner.Parts.{IsPastOn}
-use Rattle.program_serving.proofs.PastLimits.{blank_short}
+use Rattle.program_serving.{proofs.PastLimits.{blank_short}, specs.inner.Parts.{IsPastOn}}
 use Rattle.program_serving.proofs.limits.take_past.Goals as goal
 
 -- what holds of the scripts that are looked at holds of the part's, if they are the same

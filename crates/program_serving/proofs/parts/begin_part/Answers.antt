@@ -1,12 +1,10 @@
 use Rattle.std.proofs.Common.{◌∙◌, ◌+◌, [], None, ap, arith, inl, inr, length, refl, slice_index, slice_index_or}
 use Rattle.auction_rows.specs.Book.{Book}
-use Rattle.auction_text.specs.Moved.{gone_by}
-use Rattle.auction_text.specs.Scripts.{asked_of}
-use Rattle.program_opening.specs.declared.faults.Fault.{Fault}
-use Rattle.program_opening.proofs.ErrorLemmas.{error_is}
-use Rattle.program_serving.specs.inner.Parts.{BeginsAt, IsNotBegun, gone_with}
+use Rattle.auction_text.specs.{Moved.{gone_by}, Scripts.{asked_of}}
+use Rattle.program_opening.{proofs.ErrorLemmas.{error_is}, specs.declared.faults.Fault.{Fault}}
 use Rattle.program_serving.proofs.ServedParts.{begun, next_has, not_taken, past_with_done, requests_past, start}
 use Rattle.program_serving.proofs.ToldLemmas.{same_gone}
+use Rattle.program_serving.specs.inner.Parts.{BeginsAt, IsNotBegun, gone_with}
 use Rattle.program_serving.proofs.parts.begin_part.Goals as goal
 
 pub returns-clause-begins : goal.returns-clause-begins

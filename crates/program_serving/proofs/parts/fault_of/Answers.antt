@@ -1,6 +1,5 @@
 use Rattle.std.proofs.Common.{◌∙◌, ap, sym}
-use Rattle.auction_run.specs.RunFault.{RunFault}
-use Rattle.auction_run.specs.declared.checks.Stopped.TheVariants.{Refused}
+use Rattle.auction_run.specs.{RunFault.{RunFault}, declared.checks.Stopped.TheVariants.{Refused}}
 use Rattle.program_opening.specs.declared.faults.Fault.TheVariants.{Limit}
 use Rattle.program_serving.specs.inner.Parts.{told_fault}
 use Rattle.program_serving.proofs.parts.fault_of.Goals as goal

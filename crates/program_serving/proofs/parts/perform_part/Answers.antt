@@ -2,16 +2,13 @@ use Rattle.std.proofs.Common.{◌≡◌, ◌∙◌, ◌+◌, ℕ, List, ap, arit
 use Rattle.std.proofs.lemmas.List.{length-map}
 use Rattle.auction_rows.specs.Book.{Book}
 use Rattle.auction_run.specs.Phases.{hot_sets}
-use Rattle.auction_text.specs.Moved.{Gone, gone_by}
-use Rattle.auction_text.specs.Scripts.{Asked}
-use Rattle.program_opening.specs.declared.faults.Fault.{Fault}
-use Rattle.program_serving.specs.ServeFaults.{HasPastPhases, IsPartFault}
-use Rattle.program_serving.specs.Serving.{AreTold}
-use Rattle.program_serving.specs.inner.Parts.{FailsPart, IsBegun, ServesPart, gone_with}
-use Rattle.program_serving.specs.declared.parts.Served.{Served}
-use Rattle.program_opening.proofs.ErrorLemmas.{error_is}
+use Rattle.auction_text.specs.{Moved.{Gone, gone_by}, Scripts.{Asked}}
+use Rattle.program_opening.{proofs.ErrorLemmas.{error_is}, specs.declared.faults.Fault.{Fault}}
 use Rattle.program_serving.proofs.ServedParts.{past_with_done, run_refused}
 use Rattle.program_serving.proofs.ToldLemmas.{nothing_told, same_gone}
+use Rattle.program_serving.specs.{ServeFaults.{HasPastPhases, IsPartFault}, Serving.{AreTold}}
+use Rattle.program_serving.specs.declared.parts.Served.{Served}
+use Rattle.program_serving.specs.inner.Parts.{FailsPart, IsBegun, ServesPart, gone_with}
 use Rattle.program_serving.proofs.parts.perform_part.Goals as goal
 
 pub returns-clause-serves : goal.returns-clause-serves

@@ -1,7 +1,7 @@
 use Rattle.std.proofs.Common.{subst, sym}
 use Rattle.program_opening.specs.declared.faults.Fault.{Fault}
-use Rattle.program_serving.specs.ServeFaults.{AreNotRunOn}
 use Rattle.program_serving.proofs.StoppedRuns.{run_answers, run_fits, run_leaves, run_refused}
+use Rattle.program_serving.specs.ServeFaults.{AreNotRunOn}
 use Rattle.program_serving.proofs.parts.run_part.Goals as goal
 
 pub returns-in-Ok-clause-answers : goal.returns-in-Ok-clause-answers

@@ -1,13 +1,10 @@
 use Rattle.std.proofs.Common.{◌∙◌, ℕ, List, ap, inl, subst, sym}
 use Rattle.std.proofs.lemmas.Result.{IfErr-weaker, IfOk-weaker}
 use Rattle.auction_rows.specs.Book.{Book}
-use Rattle.auction_text.specs.Moved.{BeforeView, gone_by}
-use Rattle.auction_text.specs.Scripts.{asked_of}
-use Rattle.program_opening.specs.declared.faults.Fault.{Fault}
-use Rattle.program_serving.specs.Serving.{AreTold}
+use Rattle.auction_text.specs.{Moved.{BeforeView, gone_by}, Scripts.{asked_of}}
+use Rattle.program_opening.{proofs.ErrorLemmas.{error_is}, specs.declared.faults.Fault.{Fault}}
+use Rattle.program_serving.{proofs.ToldLemmas.{nothing_told}, specs.Serving.{AreTold}}
 use Rattle.program_serving.specs.inner.Parts.{AreDoneOf, BeginsAt, FailsPart, ServesPart, done_of, gone_with}
-use Rattle.program_opening.proofs.ErrorLemmas.{error_is}
-use Rattle.program_serving.proofs.ToldLemmas.{nothing_told}
 use Rattle.program_serving.proofs.parts.serve_part.Goals as goal
 
 pub returns-clause-serves : goal.returns-clause-serves

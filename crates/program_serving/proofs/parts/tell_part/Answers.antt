@@ -1,12 +1,8 @@
-use Rattle.std.proofs.Common.{◌∙◌}
-use Rattle.std.proofs.lemmas.Option.{IfSome_then}
-use Rattle.auction_text.specs.Moved.{gone_by}
-use Rattle.auction_text.specs.RowLines.{rows_text}
-use Rattle.program_opening.specs.Faults.{of_telling}
-use Rattle.program_serving.specs.ServeFaults.{AreToldAt}
-use Rattle.program_serving.specs.Serving.{part_text}
-use Rattle.program_opening.proofs.ErrorLemmas.{error_is}
+use Rattle.std.proofs.{Common.{◌∙◌}, lemmas.Option.{IfSome_then}}
+use Rattle.auction_text.specs.{Moved.{gone_by}, RowLines.{rows_text}}
+use Rattle.program_opening.{proofs.ErrorLemmas.{error_is}, specs.Faults.{of_telling}}
 use Rattle.program_serving.proofs.ToldLemmas.{appends_known, not_told, same_appended, told_so_far}
+use Rattle.program_serving.specs.{ServeFaults.{AreToldAt}, Serving.{part_text}}
 use Rattle.program_serving.proofs.parts.tell_part.Goals as goal
 
 pub returns-clause-told : goal.returns-clause-told

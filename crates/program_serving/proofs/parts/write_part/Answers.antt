@@ -1,6 +1,5 @@
 use Rattle.std.proofs.Common.{ap, ◌∙◌, subst}
-use Rattle.auction_text.specs.Moved.{gone_by}
-use Rattle.auction_text.specs.RowLines.{rows_text}
+use Rattle.auction_text.specs.{Moved.{gone_by}, RowLines.{rows_text}}
 use Rattle.byte_texts.specs.Writing.{WritesText}
 use Rattle.program_serving.proofs.ToldLemmas.{rows_asked}
 use Rattle.program_serving.proofs.parts.write_part.Goals as goal

@@ -2,9 +2,8 @@ use Rattle.std.proofs.Common.{◌∙◌, None, Some, [], refl, subst, sym}
 use Rattle.auction_text.specs.Moved.{gone_by}
 use Rattle.auction_text.specs.Said.TheVariants as says
 use Rattle.program_opening.proofs.ErrorLemmas.{error_is}
+use Rattle.program_serving.proofs.{FaultLemmas.{answer_stops}, ToldLemmas.{nothing_told, told_none}}
 use Rattle.program_serving.specs.inner.Sessions.{GoesOnTo}
-use Rattle.program_serving.proofs.FaultLemmas.{answer_stops}
-use Rattle.program_serving.proofs.ToldLemmas.{nothing_told, told_none}
 use Rattle.program_serving.proofs.session.pass_fault.Goals as goal
 
 pub returns-in-More-clause-passes : goal.returns-in-More-clause-passes

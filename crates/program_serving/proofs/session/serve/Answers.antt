@@ -1,20 +1,14 @@
-use Rattle.std.proofs.Common.{IfSome, refl}
-use Rattle.std.proofs.lemmas.Option.{IfSome_then}
+use Rattle.std.proofs.{Common.{IfSome, refl}, lemmas.Option.{IfSome_then}}
 use Rattle.std.proofs.lemmas.Result.{IfErr-weaker, on_ok_weaker}
 use Rattle.auction_rows.specs.Book.{Book}
-use Rattle.auction_text.specs.LiveLines.{live_says}
-use Rattle.auction_text.specs.Moved.{gone_by}
-use Rattle.program_opening.specs.declared.faults.Fault.{Fault}
+use Rattle.auction_text.specs.{LiveLines.{live_says}, Moved.{gone_by}}
+use Rattle.program_opening.{proofs.ErrorLemmas.{error_is}, specs.declared.faults.Fault.{Fault}}
 use Rattle.program_opening.specs.declared.faults.Fault.TheVariants.{Read}
-use Rattle.program_serving.specs.PartRuns.{IsStart}
-use Rattle.program_serving.specs.ServeFaults.{IsServeFault}
-use Rattle.program_serving.specs.Serving.{nothing_gone}
-use Rattle.program_serving.specs.inner.Sessions.{YetToSay}
-use Rattle.program_serving.specs.declared.parts.Served.{Served}
-use Rattle.program_opening.proofs.ErrorLemmas.{error_is}
 use Rattle.program_serving.proofs.ServedBook.{either_logged, no_success, served_book}
-use Rattle.program_serving.proofs.Sessions.{session_begins, unread}
-use Rattle.program_serving.proofs.ToldLemmas.{same_gone}
+use Rattle.program_serving.proofs.{Sessions.{session_begins, unread}, ToldLemmas.{same_gone}}
+use Rattle.program_serving.specs.{PartRuns.{IsStart}, ServeFaults.{IsServeFault}}
+use Rattle.program_serving.specs.{Serving.{nothing_gone}, declared.parts.Served.{Served}}
+use Rattle.program_serving.specs.inner.Sessions.{YetToSay}
 use Rattle.program_serving.proofs.session.serve.Goals as goal
 
 pub returns-clause-all : goal.returns-clause-all

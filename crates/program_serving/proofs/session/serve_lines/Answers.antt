@@ -1,16 +1,14 @@
 use Rattle.std.proofs.Common.{◌≡◌, Option, None, Some, IfSome, MatchOption, List, refl, subst}
 use Rattle.auction_rows.specs.Book.{Book}
-use Rattle.auction_text.specs.ReadFault.TheVariants as read
 use Rattle.auction_text.specs.Said.{Said}
+use Rattle.auction_text.specs.ReadFault.TheVariants as read
 use Rattle.phase_floor.specs.Adding.{HasBook}
 use Rattle.part_log.specs.declared.log.Teller.{Teller}
-use Rattle.program_opening.specs.declared.faults.Fault.{Fault}
+use Rattle.program_opening.{proofs.ErrorLemmas.{error_is}, specs.declared.faults.Fault.{Fault}}
 use Rattle.program_opening.specs.declared.faults.Fault.TheVariants.{Read}
+use Rattle.program_serving.proofs.{Sessions.{session_stops}, ToldLemmas.{nothing_told}}
 use Rattle.program_serving.specs.ServeFaults.{IsServeFault}
 use Rattle.program_serving.specs.inner.Sessions.{GoesOnTo, IsServedSoFar}
-use Rattle.program_opening.proofs.ErrorLemmas.{error_is}
-use Rattle.program_serving.proofs.Sessions.{session_stops}
-use Rattle.program_serving.proofs.ToldLemmas.{nothing_told}
 use Rattle.program_serving.proofs.session.serve_lines.Goals as goal
 
 at_none : {T : Type 0} (known : Option T) (P : Type 0) (Q : T → Type 0) → ((x : T) → known ≡ Some x → ⊥) → MatchOption known P Q → P

@@ -1,18 +1,15 @@
 use Rattle.std.proofs.Common.{◌≡◌, List, [], Some, subst}
 use Rattle.auction_rows.specs.Book.{Book}
-use Rattle.auction_text.specs.Scripts.{asked_of}
-use Rattle.auction_text.specs.Said.{Said}
+use Rattle.auction_text.specs.{Said.{Said}, Scripts.{asked_of}}
 use Rattle.part_log.specs.declared.log.Teller.{Teller}
-use Rattle.program_opening.specs.declared.faults.Fault.{Fault}
+use Rattle.program_opening.{proofs.ErrorLemmas.{error_is}, specs.declared.faults.Fault.{Fault}}
 use Rattle.program_opening.specs.declared.faults.Fault.TheVariants.{Read}
-use Rattle.program_serving.specs.ServeFaults.{IsServeFault}
-use Rattle.program_serving.specs.Serving.{AreTold, book_left}
-use Rattle.program_serving.specs.inner.Sessions.{GoesOnTo, IsServedSoFar, IsSession, MayHaveToSay}
-use Rattle.program_opening.proofs.ErrorLemmas.{error_is}
 use Rattle.program_serving.proofs.PartSteps.{part_fails, part_goes_on, part_served}
 use Rattle.program_serving.proofs.RowsBefore.{no_late_row}
 use Rattle.program_serving.proofs.Sessions.{answer_stops_all, is_none, part_read, session_answered, session_ends, session_passed, session_stops}
-use Rattle.program_serving.proofs.ToldLemmas.{nothing_told}
+use Rattle.program_serving.{proofs.ToldLemmas.{nothing_told}, specs.ServeFaults.{IsServeFault}}
+use Rattle.program_serving.specs.Serving.{AreTold, book_left}
+use Rattle.program_serving.specs.inner.Sessions.{GoesOnTo, IsServedSoFar, IsSession, MayHaveToSay}
 use Rattle.program_serving.proofs.session.serve_next.Goals as goal
 
 pub returns-in_default-clause-goes_on : goal.returns-in_default-clause-goes_on

@@ -2,8 +2,7 @@ use Rattle.std.proofs.Common.{[], MatchOption, Some, subst, sym}
 use Rattle.std.proofs.lemmas.Result.{IfErr-weaker, on_ok_weaker}
 use Rattle.auction_text.specs.Moved.{gone_by}
 use Rattle.program_opening.specs.declared.faults.Fault.{Fault}
-use Rattle.program_serving.specs.ServeFaults.{AreToldAt}
-use Rattle.program_serving.specs.Serving.{AreTold}
+use Rattle.program_serving.specs.{ServeFaults.{AreToldAt}, Serving.{AreTold}}
 use Rattle.program_serving.specs.inner.Sessions.{past_answer}
 use Rattle.program_serving.proofs.session.tell_past.Goals as goal
 

@@ -1,6 +1,4 @@
-use Rattle.std.proofs.Common.{◌≡◌, true, take}
-use Rattle.std.specs.Char.{is_ascii_digit}
-use Rattle.std.specs.List.{list_all}
+use Rattle.std.{proofs.Common.{◌≡◌, true, take}, specs.{Char.{is_ascii_digit}, List.{list_all}}}
 use Rattle.std.specs.Str.Parse.{digits_value}
 use Rattle.record_reading.proofs.fields.long_number.Given as goal
 

@@ -1,6 +1,5 @@
 use Rattle.std.proofs.Common.{◌≡◌, ◌+◌, ◌-◌, ◌∙◌, ℕ, List, Option, Some, ap, ap₂, drop, length, sym, take}
-use Rattle.std.specs.List.{position}
-use Rattle.std.proofs.lemmas.List.{take_rest}
+use Rattle.std.{proofs.lemmas.List.{take_rest}, specs.List.{position}}
 use Rattle.record_reading.specs.Fields.{id_of_parts, is_point, item_id, item_id_at, number}
 use Rattle.record_reading.proofs.fields.read_item_id.Goals as goal
 

@@ -1,7 +1,5 @@
-use Rattle.std.proofs.Common.{◌≡◌, ◌≤◌, ◌<◌, ◌-◌, true, length}
-use Rattle.std.specs.List.{list_all}
-use Rattle.record_reading.proofs.DigitLemmas.{span}
-use Rattle.record_reading.proofs.PlainFieldLemmas.{inside}
+use Rattle.std.{proofs.Common.{◌≡◌, ◌≤◌, ◌<◌, ◌-◌, true, length}, specs.List.{list_all}}
+use Rattle.record_reading.proofs.{DigitLemmas.{span}, PlainFieldLemmas.{inside}}
 use Rattle.record_reading.proofs.plain_fields.field_end.Given as goal
 
 abbrev pub invariant-loop-byte : goal.invariant-loop-byte

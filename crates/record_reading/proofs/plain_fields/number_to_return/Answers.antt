@@ -1,6 +1,5 @@
 use Rattle.std.proofs.Common.{◌≡◌, arith, get_or}
-use Rattle.record_reading.proofs.DigitLemmas.{more_behind}
-use Rattle.record_reading.proofs.PlainFieldLemmas.{number_to_return}
+use Rattle.record_reading.proofs.{DigitLemmas.{more_behind}, PlainFieldLemmas.{number_to_return}}
 use Rattle.record_reading.proofs.plain_fields.number_to_return.Goals as goal
 
 pub returns : goal.returns

@@ -1,6 +1,5 @@
 use Rattle.std.proofs.Common.{◌≡◌, arith, get_or}
-use Rattle.record_reading.proofs.DigitLemmas.{more_after}
-use Rattle.record_reading.proofs.QuotedFieldLemmas.{unquoted_more}
+use Rattle.record_reading.proofs.{DigitLemmas.{more_after}, QuotedFieldLemmas.{unquoted_more}}
 use Rattle.record_reading.proofs.plain_fields.quote_or_feed.Goals as goal
 
 pub loop-byte-preserved : goal.loop-byte-preserved

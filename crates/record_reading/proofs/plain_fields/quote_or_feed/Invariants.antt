@@ -1,6 +1,5 @@
 use Rattle.std.proofs.Common.{◌≡◌, ◌≤◌, ◌<◌, ◌-◌, true, length}
-use Rattle.record_reading.specs.inner.QuotedFields.{has_no_quote}
-use Rattle.record_reading.proofs.DigitLemmas.{span}
+use Rattle.record_reading.{proofs.DigitLemmas.{span}, specs.inner.QuotedFields.{has_no_quote}}
 use Rattle.record_reading.proofs.plain_fields.quote_or_feed.Given as goal
 
 abbrev pub invariant-loop-byte : goal.invariant-loop-byte

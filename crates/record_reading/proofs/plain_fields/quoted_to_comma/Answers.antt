@@ -1,6 +1,5 @@
 use Rattle.std.proofs.Common.{◌≡◌, ◌<◌, ◌+◌, arith, get_or, length}
-use Rattle.record_reading.proofs.DigitLemmas.{more_after}
-use Rattle.record_reading.proofs.QuotedFieldLemmas.{quoted_to}
+use Rattle.record_reading.proofs.{DigitLemmas.{more_after}, QuotedFieldLemmas.{quoted_to}}
 use Rattle.record_reading.proofs.plain_fields.quoted_to_comma.Goals as goal
 
 pub quote_or_feed-at-requires-clause-within : goal.quote_or_feed-at-requires-clause-within

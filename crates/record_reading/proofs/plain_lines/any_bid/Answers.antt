@@ -1,6 +1,5 @@
 use Rattle.std.proofs.Common.{arith}
-use Rattle.record_reading.proofs.DigitLemmas.{more_behind}
-use Rattle.record_reading.proofs.PlainLineLemmas.{bid_in_place}
+use Rattle.record_reading.proofs.{DigitLemmas.{more_behind}, PlainLineLemmas.{bid_in_place}}
 use Rattle.record_reading.proofs.plain_lines.any_bid.Goals as goal
 
 pub item_to_comma-requires-clause-within : goal.item_to_comma-requires-clause-within

@@ -1,5 +1,4 @@
-use Rattle.record_reading.proofs.PlainFieldLemmas.{number_to_feed}
-use Rattle.record_reading.proofs.PlainLineLemmas.{bid_in_place}
+use Rattle.record_reading.proofs.{PlainFieldLemmas.{number_to_feed}, PlainLineLemmas.{bid_in_place}}
 use Rattle.record_reading.proofs.WholeLineLemmas.{bid_alone, bid_line}
 use Rattle.record_reading.proofs.plain_lines.bid.Goals as goal
 

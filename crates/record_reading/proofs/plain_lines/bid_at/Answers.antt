@@ -1,8 +1,8 @@
 use Rattle.std.proofs.Common.{arith, codes, rules, refl, false, ◌++◌, ◌∷◌, ◌<◌, ◌≤◌, ◌+◌, [], length, take}
-use Rattle.record_reading.specs.declared.fields.RequestKind.TheVariants as kind
-use Rattle.record_reading.specs.inner.PlainLines.{HasWordAt, IsRequestAt}
 use Rattle.record_reading.proofs.PlainLineLemmas.{line_in_place}
 use Rattle.record_reading.proofs.WholeLineLemmas.{number_before, whole_line, word_before}
+use Rattle.record_reading.specs.inner.PlainLines.{HasWordAt, IsRequestAt}
+use Rattle.record_reading.specs.declared.fields.RequestKind.TheVariants as kind
 use Rattle.record_reading.proofs.plain_lines.bid_at.Goals as goal
 
 pub returns-clause-says : goal.returns-clause-says

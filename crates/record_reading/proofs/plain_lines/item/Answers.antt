@@ -1,6 +1,5 @@
 use Rattle.std.proofs.Common.{arith, ◌∙◌, sym}
-use Rattle.record_reading.proofs.DigitLemmas.{more_behind}
-use Rattle.record_reading.proofs.PlainLineLemmas.{item_in_place}
+use Rattle.record_reading.proofs.{DigitLemmas.{more_behind}, PlainLineLemmas.{item_in_place}}
 use Rattle.record_reading.proofs.plain_lines.item.Goals as goal
 
 pub u32_to-requires-2-clause-within : goal.u32_to-requires-2-clause-within

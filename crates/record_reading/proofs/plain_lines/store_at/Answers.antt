@@ -1,6 +1,6 @@
 use Rattle.std.proofs.Common.{codes, refl}
-use Rattle.record_reading.specs.declared.fields.RequestKind.TheVariants as kind
 use Rattle.record_reading.proofs.PlainLineLemmas.{row_at, some_weaker}
+use Rattle.record_reading.specs.declared.fields.RequestKind.TheVariants as kind
 use Rattle.record_reading.proofs.plain_lines.store_at.Goals as goal
 
 pub returns-then-begins-clause-asks : goal.returns-then-begins-clause-asks

@@ -1,6 +1,6 @@
 use Rattle.std.proofs.Common.{◌+◌, codes, refl}
-use Rattle.record_reading.specs.declared.fields.RequestKind.TheVariants as kind
 use Rattle.record_reading.proofs.PlainLineLemmas.{view_bids_in_place, view_category_in_place, view_item_in_place, view_user_in_place}
+use Rattle.record_reading.specs.declared.fields.RequestKind.TheVariants as kind
 use Rattle.record_reading.proofs.plain_lines.view_at.Goals as goal
 
 pub returns-then-begins : goal.returns-then-begins

@@ -1,7 +1,6 @@
 use Rattle.std.proofs.Common.{arith, ◌≡◌, ◌<◌, ◌∙◌, ℕ, Some, true, ap, nat_lt, refl, sym}
 use Rattle.std.proofs.lemmas.Bool.Decides.{nat_tests}
-use Rattle.record_reading.specs.Fields.{number}
-use Rattle.record_reading.specs.Records.{below}
+use Rattle.record_reading.specs.{Fields.{number}, Records.{below}}
 use Rattle.record_reading.proofs.record.worker_of.Goals as goal
 
 below_is : (workers worker : ℕ) → worker < workers → below workers (Some worker) ≡ Some worker

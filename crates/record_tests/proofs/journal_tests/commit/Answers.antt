@@ -1,6 +1,5 @@
 use Rattle.std.proofs.Common.{ap, ◌∙◌}
-use Rattle.phase_laws.specs.Numbers.{last_by}
-use Rattle.phase_laws.proofs.NumberLemmas.{last-push}
+use Rattle.phase_laws.{proofs.NumberLemmas.{last-push}, specs.Numbers.{last_by}}
 use Rattle.worker_journals.specs.Journals.{JournalView, entry_number}
 use Rattle.record_tests.proofs.journal_tests.commit.Goals as goal
 

@@ -1,11 +1,8 @@
 use Rattle.std.proofs.Common.{◌+ℤ◌, Bool, pos, FitsSigned, sym, ap, subst, ◌∙◌, arith}
-use Rattle.std.specs.Int.{w64}
-use Rattle.std.proofs.lemmas.Result.{IfOk-at_ok}
-use Rattle.auction_rows.specs.declared.requests.ItemId.{ItemId}
+use Rattle.std.{proofs.lemmas.Result.{IfOk-at_ok}, specs.Int.{w64}}
+use Rattle.auction_rows.specs.{Requests.{shard_of}, declared.requests.ItemId.{ItemId}}
 use Rattle.auction_rows.specs.declared.requests.Object.TheVariants.{Item, User}
-use Rattle.auction_rows.specs.Requests.{shard_of}
-use Rattle.item_shards.specs.Contents.{Contents}
-use Rattle.item_shards.specs.Values.{Value}
+use Rattle.item_shards.specs.{Contents.{Contents}, Values.{Value}}
 use Rattle.record_tests.proofs.merge_tests.a_shard_shows_the_slices_merged_into_it.Goals as goal
 
 pub merge_user-requires-clause-rating : goal.merge_user-requires-clause-rating

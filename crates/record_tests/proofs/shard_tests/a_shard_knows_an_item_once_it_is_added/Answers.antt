@@ -1,8 +1,6 @@
-use Rattle.std.proofs.Common.{Bool, sym, ap, ◌∙◌}
-use Rattle.std.proofs.lemmas.Result.{IfOk-at_ok}
-use Rattle.auction_rows.specs.declared.requests.ItemId.{ItemId}
+use Rattle.std.proofs.{Common.{Bool, sym, ap, ◌∙◌}, lemmas.Result.{IfOk-at_ok}}
+use Rattle.auction_rows.specs.{Requests.{shard_of}, declared.requests.ItemId.{ItemId}}
 use Rattle.auction_rows.specs.declared.requests.Object.TheVariants.{Item}
-use Rattle.auction_rows.specs.Requests.{shard_of}
 use Rattle.record_tests.proofs.shard_tests.a_shard_knows_an_item_once_it_is_added.Goals as goal
 
 pub act-requires : goal.act-requires

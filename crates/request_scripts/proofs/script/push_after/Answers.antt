@@ -1,8 +1,8 @@
 use Rattle.std.proofs.Common.{◌∙◌, ◌++◌, List, ap, append-nil, arith, map, subst, sym, take_all}
-use Rattle.request_scripts.specs.declared.short_request.ShortRequest.{ShortRequest}
-use Rattle.request_scripts.specs.ShortRequests.{HasRequest}
-use Rattle.request_scripts.specs.inner.Shifting.{shifted}
 use Rattle.request_scripts.proofs.AppendLemmas.{has_next, shifted_more}
+use Rattle.request_scripts.specs.ShortRequests.{HasRequest}
+use Rattle.request_scripts.specs.declared.short_request.ShortRequest.{ShortRequest}
+use Rattle.request_scripts.specs.inner.Shifting.{shifted}
 use Rattle.request_scripts.proofs.script.push_after.Goals as goal
 
 pub after-requires : goal.after-requires

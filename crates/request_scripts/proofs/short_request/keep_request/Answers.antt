@@ -1,6 +1,6 @@
 use Rattle.std.proofs.Common.{length, sym, ap, subst, ◌++◌, ◌∙◌, vec_len, vec_capacity}
-use Rattle.request_scripts.specs.ShortRequests.{facts_in, HasListRoom}
 use Rattle.request_scripts.proofs.RequestLemmas.{says_facts}
+use Rattle.request_scripts.specs.ShortRequests.{facts_in, HasListRoom}
 use Rattle.request_scripts.proofs.short_request.keep_request.Goals as goal
 
 pub keep_one-requires : goal.keep_one-requires

@@ -1,5 +1,4 @@
-use Rattle.run_laws.proofs.StepLemmas.{run_begins}
-use Rattle.run_laws.proofs.ClosedLemmas.{none_chosen, none_numbered}
+use Rattle.run_laws.proofs.{ClosedLemmas.{none_chosen, none_numbered}, StepLemmas.{run_begins}}
 use Rattle.run_laws.proofs.runs.run_begins.Goals as goal
 
 pub returns : goal.returns

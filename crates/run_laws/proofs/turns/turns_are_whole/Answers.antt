@@ -1,7 +1,6 @@
 use Rattle.std.proofs.Common.{sym, ◌∙◌, ◌==◌}
-use Rattle.run_laws.specs.Turns.{turns}
-use Rattle.run_laws.proofs.CountLemmas.{how_many-is}
 use Rattle.run_laws.proofs.CallLemmas.{once_in_turns, requests_in_turns}
+use Rattle.run_laws.{proofs.CountLemmas.{how_many-is}, specs.Turns.{turns}}
 use Rattle.run_laws.proofs.turns.turns_are_whole.Goals as goal
 
 pub returns : goal.returns

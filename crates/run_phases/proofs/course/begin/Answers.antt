@@ -1,11 +1,8 @@
-use Rattle.std.proofs.Common.{◌∙◌, ap, length, refl, subst, sym}
-use Rattle.std.specs.List.{AllByRecursion}
+use Rattle.std.{proofs.Common.{◌∙◌, ap, length, refl, subst, sym}, specs.List.{AllByRecursion}}
 use Rattle.run_laws.specs.Serving.{script_of}
-use Rattle.worker_journals.specs.Histories.{HistoryView}
+use Rattle.worker_journals.{proofs.HistoryLemmas.{merged_nothing}, specs.Histories.{HistoryView}}
 use Rattle.worker_journals.specs.Merged.{merged}
-use Rattle.worker_journals.proofs.HistoryLemmas.{merged_nothing}
-use Rattle.run_phases.specs.inner.Plans.{IsCallOf}
-use Rattle.run_phases.proofs.RunLemmas.{begun}
+use Rattle.run_phases.{proofs.RunLemmas.{begun}, specs.inner.Plans.{IsCallOf}}
 use Rattle.run_phases.proofs.course.begin.Goals as goal
 
 pub returns : goal.returns

@@ -1,5 +1,4 @@
-use Rattle.std.proofs.Common.{◌∙◌, sym}
-use Rattle.std.proofs.lemmas.Bool.{false≢true}
+use Rattle.std.proofs.{Common.{◌∙◌, sym}, lemmas.Bool.{false≢true}}
 use Rattle.run_phases.proofs.ScriptLemmas.{nothing_left, something_left, one_worker_more, nobody}
 use Rattle.run_phases.proofs.course.is_left_of.Goals as goal
 

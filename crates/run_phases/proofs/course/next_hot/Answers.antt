@@ -1,5 +1,4 @@
-use Rattle.std.proofs.Common.{sym, ◌∙◌}
-use Rattle.std.proofs.lemmas.Bool.{false≢true}
+use Rattle.std.proofs.{Common.{sym, ◌∙◌}, lemmas.Bool.{false≢true}}
 use Rattle.run_phases.proofs.PhaseLemmas.{even_joined}
 use Rattle.run_phases.proofs.course.next_hot.Goals as goal
 

@@ -1,10 +1,7 @@
-use Rattle.std.proofs.Common.{ap, sym, List, ◌++◌, ◌∷◌, [], ◌∙◌}
-use Rattle.std.proofs.lemmas.List.{map-append}
+use Rattle.std.proofs.{Common.{ap, sym, List, ◌++◌, ◌∷◌, [], ◌∙◌}, lemmas.List.{map-append}}
 use Rattle.auction_rows.specs.declared.rows.Entry.{Entry}
-use Rattle.run_phases.specs.Phases.{hot_sets}
-use Rattle.run_phases.proofs.AskedLemmas.{left_asked}
-use Rattle.run_phases.proofs.RunLemmas.{stepped, may_perform}
-use Rattle.run_phases.proofs.StableLemmas.{may_still}
+use Rattle.run_phases.proofs.{AskedLemmas.{left_asked}, RunLemmas.{stepped, may_perform}}
+use Rattle.run_phases.{proofs.StableLemmas.{may_still}, specs.Phases.{hot_sets}}
 use Rattle.run_phases.proofs.course.next_phase.Goals as goal
 
 pub returns-clause-running : goal.returns-clause-running

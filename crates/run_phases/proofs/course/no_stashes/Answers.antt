@@ -1,7 +1,5 @@
-use Rattle.std.proofs.Common.{◌+◌, length, ap, ◌∙◌}
-use Rattle.std.proofs.lemmas.List.{length-append}
-use Rattle.run_phases.specs.inner.Plans.{waiting_in}
-use Rattle.run_phases.proofs.ScriptLemmas.{one_stash_more}
+use Rattle.std.proofs.{Common.{◌+◌, length, ap, ◌∙◌}, lemmas.List.{length-append}}
+use Rattle.run_phases.{proofs.ScriptLemmas.{one_stash_more}, specs.inner.Plans.{waiting_in}}
 use Rattle.run_phases.proofs.course.no_stashes.Goals as goal
 
 pub loop-worker-preserved : goal.loop-worker-preserved

@@ -1,20 +1,15 @@
 use Rattle.std.proofs.Common.{rules, arith, ◌≡◌, ◌≤◌, ◌+◌, ℕ, List, suc, length, refl, inl, subst, sym, ap, ◌∙◌}
-use Rattle.auction_rows.specs.declared.rows.Row.{Row}
-use Rattle.auction_rows.specs.Book.{Book}
+use Rattle.auction_rows.specs.{Book.{Book}, declared.rows.Row.{Row}}
 use Rattle.auction_window.specs.Published.{book_of}
 use Rattle.job_threads.proofs.ThreadLemmas.{err_as}
-use Rattle.run_laws.specs.Run.{HasLeft, first_index}
-use Rattle.run_laws.specs.Serving.{script_of}
-use Rattle.run_phases.specs.declared.faults.RunFault.TheVariants.{Memory}
-use Rattle.run_phases.specs.Beginning.{HasShards, HasQuotas, BeginsWith}
-use Rattle.run_phases.specs.Boards.{HasShownAfter}
-use Rattle.run_phases.specs.Outcomes.{HasShownFirstAfter}
-use Rattle.run_phases.specs.Phases.{IsMet}
-use Rattle.run_phases.specs.inner.Plans.{waiting_in, AreAsked}
-use Rattle.run_phases.specs.inner.Running.{IsRunning}
+use Rattle.run_laws.specs.{Run.{HasLeft, first_index}, Serving.{script_of}}
 use Rattle.run_phases.proofs.BoardLemmas.{begins_shown, can_show, first_shown, has_shown, next_runs, none_shown, not_shown}
 use Rattle.run_phases.proofs.CourseLemmas.{few_phases_now, phase_now, stashes_now, still_goes_on}
 use Rattle.run_phases.proofs.RunLemmas.{some_given, few_of, left_over, ended, phases_counted}
+use Rattle.run_phases.specs.{Beginning.{HasShards, HasQuotas, BeginsWith}, Boards.{HasShownAfter}}
+use Rattle.run_phases.specs.{Outcomes.{HasShownFirstAfter}, Phases.{IsMet}}
+use Rattle.run_phases.specs.declared.faults.RunFault.TheVariants.{Memory}
+use Rattle.run_phases.specs.inner.{Plans.{waiting_in, AreAsked}, Running.{IsRunning}}
 use Rattle.run_phases.proofs.course.run_from.Goals as goal
 
 pub returns-then-not-is_left-clause-outcome : goal.returns-then-not-is_left-clause-outcome

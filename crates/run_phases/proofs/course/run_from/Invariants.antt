@@ -1,10 +1,7 @@
 use Rattle.std.proofs.Common.{◌≡◌, List}
-use Rattle.auction_rows.specs.declared.rows.Row.{Row}
-use Rattle.auction_rows.specs.Book.{Book}
+use Rattle.auction_rows.specs.{Book.{Book}, declared.rows.Row.{Row}}
 use Rattle.auction_window.specs.Published.{book_of}
-use Rattle.run_phases.specs.Boards.{HasShownAfter}
-use Rattle.run_phases.specs.Beginning.{BeginsWith}
-use Rattle.run_phases.specs.inner.Plans.{AreAsked}
+use Rattle.run_phases.specs.{Beginning.{BeginsWith}, Boards.{HasShownAfter}, inner.Plans.{AreAsked}}
 use Rattle.run_phases.specs.inner.Running.{IsRunning}
 use Rattle.run_phases.proofs.course.run_from.Given as goal
 

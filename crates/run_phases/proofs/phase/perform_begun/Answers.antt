@@ -1,9 +1,8 @@
 use Rattle.std.proofs.Common.{◌∙◌, subst}
 use Rattle.job_threads.proofs.ThreadLemmas.{err_as}
 use Rattle.phase_floor.specs.Closings.{AreOfScripts}
+use Rattle.run_phases.proofs.{AskedLemmas.{of_some}, PhaseLemmas.{can_with, fault_met}}
 use Rattle.run_phases.specs.Phases.{IsMet, told}
-use Rattle.run_phases.proofs.AskedLemmas.{of_some}
-use Rattle.run_phases.proofs.PhaseLemmas.{can_with, fault_met}
 use Rattle.run_phases.proofs.phase.perform_begun.Goals as goal
 
 pub serve_all-requires-clause-workers : goal.serve_all-requires-clause-workers

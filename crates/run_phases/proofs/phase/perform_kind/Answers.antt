@@ -1,7 +1,6 @@
 use Rattle.std.proofs.Common.{refl, sym, subst}
 use Rattle.job_threads.proofs.ThreadLemmas.{err_as}
-use Rattle.run_phases.specs.Phases.{IsMet}
-use Rattle.run_phases.proofs.PhaseLemmas.{ended_phase, can_perform}
+use Rattle.run_phases.{proofs.PhaseLemmas.{ended_phase, can_perform}, specs.Phases.{IsMet}}
 use Rattle.run_phases.proofs.phase.perform_kind.Goals as goal
 
 pub begin-requires : goal.begin-requires

@@ -1,5 +1,4 @@
-use Rattle.std.proofs.Common.{◌-◌, ◌∙◌, List, length, min, ap, arith}
-use Rattle.std.specs.Prelude.{slice_index}
+use Rattle.std.{proofs.Common.{◌-◌, ◌∙◌, List, length, min, ap, arith}, specs.Prelude.{slice_index}}
 use Rattle.auction_rows.specs.declared.requests.Request.{Request}
 use Rattle.run_phases.proofs.QuotaLemmas.{quotas_more, quota_at}
 use Rattle.run_phases.proofs.phase.worker_quotas.Goals as goal

@@ -1,14 +1,11 @@
 use Rattle.std.proofs.Common.{◌≡◌, ℕ, ◌+◌, ◌<◌, [], ◌∷◌, ◌++◌, length, le_refl, zero-add, zero-lt-suc, refl, sym, ap, ◌∙◌, subst, arith}
 use Rattle.std.specs.Vec.Iter.{into_iter_items}
-use Rattle.shard_boxes.specs.declared.shard_box.Knowledge.{Knowledge}
-use Rattle.shard_boxes.specs.States.{state_at}
-use Rattle.shard_boxes.specs.Passes.{Speaks, GrantState}
-use Rattle.shard_boxes.specs.Keys.{lines_at}
-use Rattle.shard_boxes.specs.inner.Grants.{IsFree, own_at}
 use Rattle.shard_boxes.proofs.Each.{drop_next, at_head, is_next, one_on, all_gone}
-use Rattle.shard_boxes.proofs.Sweeps.{swept_more}
-use Rattle.shard_boxes.proofs.KeySteps.{same_places}
-use Rattle.shard_boxes.proofs.GrantLemmas.{place_is, as_many, joined_free}
+use Rattle.shard_boxes.proofs.{GrantLemmas.{place_is, as_many, joined_free}, KeySteps.{same_places}}
+use Rattle.shard_boxes.{proofs.Sweeps.{swept_more}, specs.Keys.{lines_at}}
+use Rattle.shard_boxes.specs.{Passes.{Speaks, GrantState}, States.{state_at}}
+use Rattle.shard_boxes.specs.declared.shard_box.Knowledge.{Knowledge}
+use Rattle.shard_boxes.specs.inner.Grants.{IsFree, own_at}
 use Rattle.shard_boxes.proofs.grants.collect.Goals as goal
 
 pub loop-other-init : goal.loop-other-init

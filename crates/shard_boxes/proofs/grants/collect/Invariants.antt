@@ -1,11 +1,7 @@
 use Rattle.std.proofs.Common.{◌≡◌, ◌+◌, drop, length, [], ◌∷◌}
 use Rattle.std.specs.Vec.Iter.{into_iter_items, into_iter_len}
-use Rattle.shard_boxes.specs.States.{state_at}
-use Rattle.shard_boxes.specs.Passes.{GrantState}
-use Rattle.shard_boxes.specs.Keys.{lines_at}
-use Rattle.shard_boxes.specs.Seats.{boxes_of}
-use Rattle.shard_boxes.specs.inner.Grants.{IsFree, own_at}
-use Rattle.shard_boxes.proofs.Sweeps.{Swept}
+use Rattle.shard_boxes.{proofs.Sweeps.{Swept}, specs.{Keys.{lines_at}, Passes.{GrantState}}}
+use Rattle.shard_boxes.specs.{Seats.{boxes_of}, States.{state_at}, inner.Grants.{IsFree, own_at}}
 use Rattle.shard_boxes.proofs.grants.collect.Given as goal
 
 -- the grants of the boxes below s are collected

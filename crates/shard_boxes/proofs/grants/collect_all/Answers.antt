@@ -1,8 +1,6 @@
 use Rattle.std.proofs.Common.{◌≡◌, ◌+◌, ◌<◌, List, [], ◌∷◌, length, append-nil, sym, ap, ◌∙◌, subst}
-use Rattle.shard_boxes.specs.Keys.{BoxId, lines_at}
-use Rattle.shard_boxes.specs.inner.Grants.{AreFree}
-use Rattle.shard_boxes.proofs.GrantLemmas.{spent_at, whole_is, one_more, as_many}
-use Rattle.shard_boxes.proofs.Each.{shorter}
+use Rattle.shard_boxes.proofs.{Each.{shorter}, GrantLemmas.{spent_at, whole_is, one_more, as_many}}
+use Rattle.shard_boxes.specs.{Keys.{BoxId, lines_at}, inner.Grants.{AreFree}}
 use Rattle.shard_boxes.proofs.grants.collect_all.Goals as goal
 
 pub collect-grants-requires-clause-of : goal.collect-grants-requires-clause-of

@@ -1,6 +1,5 @@
 use Rattle.std.proofs.Common.{◌≡◌, ℕ, ◌<◌, List, ◌++◌, length, map, vec_len}
-use Rattle.shard_boxes.specs.Passes.{GrantState}
-use Rattle.shard_boxes.specs.Keys.{KeyState, lines_at}
+use Rattle.shard_boxes.specs.{Keys.{KeyState, lines_at}, Passes.{GrantState}}
 use Rattle.shard_boxes.specs.inner.Grants.{AreFree, own_at}
 use Rattle.shard_boxes.proofs.grants.collect_all.Given as goal
 

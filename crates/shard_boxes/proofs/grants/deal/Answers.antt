@@ -1,13 +1,10 @@
 use Rattle.std.proofs.Common.{◌≡◌, ◌+◌, ◌-◌, ◌<◌, ◌≤◌, suc, length, get_or, vec_capacity, le_refl, le_antisymm, lt_of_lt_of_le, refl, sym, ap, ◌∙◌, subst, arith}
-use Rattle.shard_boxes.specs.declared.shard_box.Knowledge.{Knowledge}
-use Rattle.shard_boxes.specs.States.{state_at}
-use Rattle.shard_boxes.specs.Passes.{GrantState, Speaks}
-use Rattle.shard_boxes.specs.inner.Steps.{ready}
-use Rattle.shard_boxes.specs.inner.Grants.{IsNewView}
 use Rattle.shard_boxes.proofs.Each.{each_push}
-use Rattle.shard_boxes.proofs.Sweeps.{swept_more}
-use Rattle.shard_boxes.proofs.KeySteps.{same_places}
 use Rattle.shard_boxes.proofs.GrantLemmas.{rest_ready, first_ready, ready_for, places_more, place_is, new_key, as_many, take_whole}
+use Rattle.shard_boxes.proofs.{KeySteps.{same_places}, Sweeps.{swept_more}}
+use Rattle.shard_boxes.specs.{Passes.{GrantState, Speaks}, States.{state_at}}
+use Rattle.shard_boxes.specs.{declared.shard_box.Knowledge.{Knowledge}, inner.Grants.{IsNewView}}
+use Rattle.shard_boxes.specs.inner.Steps.{ready}
 use Rattle.shard_boxes.proofs.grants.deal.Goals as goal
 
 pub deal-requires : goal.deal-requires

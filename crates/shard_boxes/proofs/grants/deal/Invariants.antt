@@ -1,9 +1,6 @@
 use Rattle.std.proofs.Common.{◌≡◌, ℕ, ◌+◌, ◌-◌, ◌<◌, ◌≤◌, get_or, take, length, vec_len, vec_capacity}
-use Rattle.shard_boxes.specs.States.{state_at}
-use Rattle.shard_boxes.specs.Passes.{GrantState}
-use Rattle.shard_boxes.specs.Seats.{boxes_of}
-use Rattle.shard_boxes.specs.inner.Grants.{IsNewView}
-use Rattle.shard_boxes.proofs.Sweeps.{Swept}
+use Rattle.shard_boxes.{proofs.Sweeps.{Swept}, specs.{Passes.{GrantState}, Seats.{boxes_of}}}
+use Rattle.shard_boxes.specs.{States.{state_at}, inner.Grants.{IsNewView}}
 use Rattle.shard_boxes.proofs.grants.deal.Given as goal
 
 -- the worker has its grants of the boxes below s

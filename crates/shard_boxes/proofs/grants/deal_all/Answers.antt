@@ -1,7 +1,7 @@
 use Rattle.std.proofs.Common.{◌≡◌, ◌+◌, ◌<◌, ◌≤◌, length, lt_of_lt_of_le, refl, sym, ap, ◌∙◌, subst, arith, vec_len, vec_capacity}
 use Rattle.std.specs.Vec.Iter.{into_iter_items}
-use Rattle.shard_boxes.specs.Keys.{IsNewKey, no_key}
 use Rattle.shard_boxes.proofs.Each.{each_push, drop_next, at_head, is_next, one_on, none_left}
+use Rattle.shard_boxes.specs.Keys.{IsNewKey, no_key}
 use Rattle.shard_boxes.proofs.grants.deal_all.Goals as goal
 
 pub overflow_add-worker : goal.overflow_add-worker

@@ -1,7 +1,6 @@
 use Rattle.std.proofs.Common.{◌≡◌, ℕ, ◌+◌, ◌-◌, ◌<◌, ◌≤◌, drop, vec_len, vec_capacity}
 use Rattle.std.specs.Vec.Iter.{into_iter_items, into_iter_len}
-use Rattle.shard_boxes.specs.Keys.{IsNewKey, key_at}
-use Rattle.shard_boxes.specs.inner.Grants.{AreNewGrants}
+use Rattle.shard_boxes.specs.{Keys.{IsNewKey, key_at}, inner.Grants.{AreNewGrants}}
 use Rattle.shard_boxes.proofs.grants.deal_all.Given as goal
 
 abbrev pub invariant-loop-room : goal.invariant-loop-room

@@ -1,12 +1,10 @@
 use Rattle.std.proofs.Common.{◌+◌, ◌<◌, length, le_refl, zero-add, refl, sym, ap, ◌∙◌, subst, arith}
 use Rattle.std.specs.Vec.Iter.{into_iter_items}
-use Rattle.shard_boxes.specs.States.{IsWithin, state_at}
-use Rattle.shard_boxes.specs.Passes.{GrantState, IsSpare}
-use Rattle.shard_boxes.specs.inner.Grants.{IsNewView}
 use Rattle.shard_boxes.proofs.Each.{drop_next, at_head, is_next, one_on, all_gone}
-use Rattle.shard_boxes.proofs.Sweeps.{swept_more}
-use Rattle.shard_boxes.proofs.KeySteps.{same_places}
 use Rattle.shard_boxes.proofs.GrantLemmas.{opened_ready, place_is, as_many, as_many_states, state_is}
+use Rattle.shard_boxes.proofs.{KeySteps.{same_places}, Sweeps.{swept_more}}
+use Rattle.shard_boxes.specs.{Passes.{GrantState, IsSpare}, States.{IsWithin, state_at}}
+use Rattle.shard_boxes.specs.inner.Grants.{IsNewView}
 use Rattle.shard_boxes.proofs.grants.open_all.Goals as goal
 
 pub loop-shard-init : goal.loop-shard-init

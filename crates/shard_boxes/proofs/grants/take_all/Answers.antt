@@ -1,12 +1,10 @@
 use Rattle.std.proofs.Common.{◌≡◌, ◌+◌, ◌<◌, ◌≤◌, length, map, slice_index_or, vec_capacity, le_refl, le_antisymm, lt_of_lt_of_le, refl, sym, ap, ◌∙◌, subst, arith}
 use Rattle.std.proofs.lemmas.List.{length-map}
-use Rattle.shard_boxes.specs.States.{state_of, state_at, no_shard}
-use Rattle.shard_boxes.specs.Passes.{GrantState, IsSpare}
-use Rattle.shard_boxes.specs.inner.Grants.{IsFree, IsTaken, own_at}
 use Rattle.shard_boxes.proofs.Each.{each_push, map_push}
-use Rattle.shard_boxes.proofs.Sweeps.{swept_more}
-use Rattle.shard_boxes.proofs.KeySteps.{same_places}
 use Rattle.shard_boxes.proofs.GrantLemmas.{place_is, as_many, at_itself, for_all, taken_spare, taken_is}
+use Rattle.shard_boxes.proofs.{KeySteps.{same_places}, Sweeps.{swept_more}}
+use Rattle.shard_boxes.specs.{Passes.{GrantState, IsSpare}, States.{state_of, state_at, no_shard}}
+use Rattle.shard_boxes.specs.inner.Grants.{IsFree, IsTaken, own_at}
 use Rattle.shard_boxes.proofs.grants.take_all.Goals as goal
 
 pub loop-s-init : goal.loop-s-init

@@ -1,9 +1,7 @@
 use Rattle.std.proofs.Common.{◌≡◌, ℕ, ◌<◌, ◌≤◌, length, map, slice_index_or, vec_len, vec_capacity}
-use Rattle.shard_boxes.specs.States.{state_of, state_at}
-use Rattle.shard_boxes.specs.Passes.{GrantState, IsSpare}
-use Rattle.shard_boxes.specs.Seats.{boxes_of}
+use Rattle.shard_boxes.{proofs.Sweeps.{Swept}, specs.Passes.{GrantState, IsSpare}}
+use Rattle.shard_boxes.specs.{Seats.{boxes_of}, States.{state_of, state_at}}
 use Rattle.shard_boxes.specs.inner.Grants.{IsTaken, own_at}
-use Rattle.shard_boxes.proofs.Sweeps.{Swept}
 use Rattle.shard_boxes.proofs.grants.take_all.Given as goal
 
 -- the shards of the boxes below s are taken

@@ -1,7 +1,6 @@
 use Rattle.std.proofs.Common.{◌+◌, length, le_antisymm, sym, ap, ◌∙◌}
+use Rattle.shard_boxes.proofs.{Each.{none_below}, GrantLemmas.{spare_more}}
 use Rattle.shard_boxes.specs.Seats.{boxes_of}
-use Rattle.shard_boxes.proofs.Each.{none_below}
-use Rattle.shard_boxes.proofs.GrantLemmas.{spare_more}
 use Rattle.shard_boxes.proofs.spare.make_boxes.Goals as goal
 
 pub loop-init : goal.loop-init

@@ -1,11 +1,8 @@
 use Rattle.std.proofs.Common.{◌≡◌, ◌+◌, suc, length, drop, sym, ap, ◌∙◌, subst, arith}
-use Rattle.std.proofs.Math.Nat.{min-le_left, min-le_right}
-use Rattle.std.proofs.Math.Numerals.{add-one}
-use Rattle.std.proofs.lemmas.List.{length-set}
-use Rattle.std.specs.List.{zip, AllByRecursion}
+use Rattle.std.proofs.Math.{Nat.{min-le_left, min-le_right}, Numerals.{add-one}}
+use Rattle.std.{proofs.lemmas.List.{length-set}, specs.List.{zip, AllByRecursion}}
+use Rattle.split_engine.{proofs.Splits.{zip_next, zip_end, fit_most}, specs.Serial.{after_acts}}
 use Rattle.split_engine.specs.declared.few.TheConstants.{MOST_KEYS}
-use Rattle.split_engine.specs.Serial.{after_acts}
-use Rattle.split_engine.proofs.Splits.{zip_next, zip_end, fit_most}
 use Rattle.split_engine.proofs.joined.act_all.Goals as goal
 
 pub act_on-requires-clause-fits : goal.act_on-requires-clause-fits

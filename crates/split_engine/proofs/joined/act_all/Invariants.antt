@@ -1,5 +1,4 @@
-use Rattle.std.proofs.Common.{◌≡◌, ◌+◌, ℕ, length, drop}
-use Rattle.std.specs.List.{zip, AllByRecursion}
+use Rattle.std.{proofs.Common.{◌≡◌, ◌+◌, ℕ, length, drop}, specs.List.{zip, AllByRecursion}}
 use Rattle.split_engine.specs.Serial.{after_acts}
 use Rattle.split_engine.proofs.joined.act_all.Given as goal
 

@@ -1,5 +1,4 @@
-use Rattle.std.proofs.Common.{suc, set, ap, sym, ◌∙◌, subst}
-use Rattle.std.specs.List.{AllByRecursion}
+use Rattle.std.{proofs.Common.{suc, set, ap, sym, ◌∙◌, subst}, specs.List.{AllByRecursion}}
 use Rattle.split_engine.proofs.Splits.{act_fits, read_any}
 use Rattle.split_engine.proofs.joined.act_on.Goals as goal
 

@@ -1,12 +1,9 @@
 use Rattle.std.proofs.Common.{◌≡◌, ◌+◌, ℕ, List, length, get_or, ap, sym, ◌∙◌, subst, arith}
 use Rattle.std.proofs.lemmas.List.{length-map}
+use Rattle.split_engine.proofs.{Counts.{turn_room}, Ends.{finished_set, finished_whole}}
+use Rattle.split_engine.proofs.{States.{listed, have_at, have_length, state_turned}, Works.{all_at}}
 use Rattle.split_engine.specs.Serving.{lists, IsScript}
-use Rattle.split_engine.specs.inner.Phases.{HasServed}
-use Rattle.split_engine.proofs.Works.{all_at}
-use Rattle.split_engine.proofs.States.{listed, have_at, have_length, state_turned}
-use Rattle.split_engine.specs.declared.state.TheConstants.{MOST_COMMITS}
-use Rattle.split_engine.proofs.Counts.{turn_room}
-use Rattle.split_engine.proofs.Ends.{finished_set, finished_whole}
+use Rattle.split_engine.specs.{declared.state.TheConstants.{MOST_COMMITS}, inner.Phases.{HasServed}}
 use Rattle.split_engine.proofs.joined.joined_phase.Goals as goal
 
 pub index_mut-requires : goal.index_mut-requires

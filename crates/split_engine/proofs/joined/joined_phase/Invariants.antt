@@ -1,7 +1,5 @@
-use Rattle.std.proofs.Common.{◌<◌, ◌≤◌, ℕ, List, length, take}
-use Rattle.std.specs.List.{AllByRecursion}
-use Rattle.split_engine.specs.Rules.{most_before, most_acts}
-use Rattle.split_engine.specs.Serving.{lists, IsScript}
+use Rattle.std.{proofs.Common.{◌<◌, ◌≤◌, ℕ, List, length, take}, specs.List.{AllByRecursion}}
+use Rattle.split_engine.specs.{Rules.{most_before, most_acts}, Serving.{lists, IsScript}}
 use Rattle.split_engine.specs.inner.Phases.{IsRunState, AllFinished}
 use Rattle.split_engine.proofs.joined.joined_phase.Given as goal
 

@@ -1,14 +1,11 @@
 use Rattle.std.proofs.Common.{◌≡◌, ◌++◌, ◌∷◌, [], ◌+◌, ◌*◌, length, take, ap, sym, ◌∙◌, refl, subst, arith, append_assoc}
-use Rattle.std.proofs.Math.Numerals.{add-one}
-use Rattle.std.proofs.Math.Seq.{take-suc}
-use Rattle.std.proofs.lemmas.List.{append-nil}
+use Rattle.std.proofs.{Math.{Numerals.{add-one}, Seq.{take-suc}}, lemmas.List.{append-nil}}
 use Rattle.std.specs.List.{AllByRecursion}
-use Rattle.split_engine.specs.declared.few.TheConstants.{MOST_KEYS}
-use Rattle.split_engine.specs.Serial.{acts_at, reply, IsWithin}
-use Rattle.split_engine.specs.inner.Commits.{commit}
-use Rattle.split_engine.specs.inner.Phases.{HasPerformed}
 use Rattle.split_engine.proofs.Splits.{length-acts}
 use Rattle.split_engine.proofs.Works.{all_at, performed_both, performed_none, performed_one}
+use Rattle.split_engine.specs.Serial.{acts_at, reply, IsWithin}
+use Rattle.split_engine.specs.{declared.few.TheConstants.{MOST_KEYS}, inner.Commits.{commit}}
+use Rattle.split_engine.specs.inner.Phases.{HasPerformed}
 use Rattle.split_engine.proofs.joined.perform_all.Goals as goal
 
 pub perform_call-requires-clause-within : goal.perform_call-requires-clause-within

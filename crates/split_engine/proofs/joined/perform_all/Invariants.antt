@@ -1,7 +1,6 @@
 use Rattle.std.proofs.Common.{◌≡◌, ◌++◌, ℕ, ◌+◌, ◌*◌, List, length, take}
 use Rattle.std.specs.List.{AllByRecursion}
-use Rattle.split_engine.specs.declared.few.TheConstants.{MOST_KEYS}
-use Rattle.split_engine.specs.declared.entry.Entry.{Entry}
+use Rattle.split_engine.specs.declared.{entry.Entry.{Entry}, few.TheConstants.{MOST_KEYS}}
 use Rattle.split_engine.specs.inner.Phases.{HasPerformed}
 use Rattle.split_engine.proofs.joined.perform_all.Given as goal
 

@@ -1,7 +1,6 @@
 use Rattle.std.proofs.Common.{ℕ, ◌++◌, [], ◌∷◌, ap, sym, ◌∙◌, arith, append_assoc}
 use Rattle.std.proofs.lemmas.List.{append-nil}
-use Rattle.split_engine.specs.Serving.{calls_before}
-use Rattle.split_engine.proofs.Works.{calls_more}
+use Rattle.split_engine.{proofs.Works.{calls_more}, specs.Serving.{calls_before}}
 use Rattle.split_engine.proofs.joined.stash_quota.Goals as goal
 
 pub loop-index-init : goal.loop-index-init

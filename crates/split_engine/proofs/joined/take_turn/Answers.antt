@@ -1,12 +1,8 @@
 use Rattle.std.proofs.Common.{◌≡◌, ◌+◌, ◌*◌, ℕ, length, ap, sym, ◌∙◌, subst, arith}
-use Rattle.std.proofs.lemmas.List.{length-append, length-map}
-use Rattle.std.specs.List.{AllByRecursion}
-use Rattle.split_engine.specs.declared.few.TheConstants.{MOST_KEYS}
-use Rattle.split_engine.specs.Serial.{IsWithin}
-use Rattle.split_engine.specs.Serving.{call_of}
-use Rattle.split_engine.specs.inner.Phases.{HasServed}
-use Rattle.split_engine.proofs.Counts.{stashed_long}
-use Rattle.split_engine.proofs.States.{stashed_within, served_stashed}
+use Rattle.std.{proofs.lemmas.List.{length-append, length-map}, specs.List.{AllByRecursion}}
+use Rattle.split_engine.proofs.{Counts.{stashed_long}, States.{stashed_within, served_stashed}}
+use Rattle.split_engine.specs.{Serial.{IsWithin}, Serving.{call_of}}
+use Rattle.split_engine.specs.{declared.few.TheConstants.{MOST_KEYS}, inner.Phases.{HasServed}}
 use Rattle.split_engine.proofs.joined.take_turn.Goals as goal
 
 pub perform_all-requires-clause-within : goal.perform_all-requires-clause-within

@@ -1,7 +1,6 @@
-use Rattle.std.proofs.Common.{ap, sym, ◌∙◌, subst}
-use Rattle.std.proofs.lemmas.List.Sums.{fold-append}
-use Rattle.split_engine.specs.Serial.{after_entry, ReplaysFrom, table_after}
+use Rattle.std.proofs.{Common.{ap, sym, ◌∙◌, subst}, lemmas.List.Sums.{fold-append}}
 use Rattle.split_engine.proofs.Works.{replays_both}
+use Rattle.split_engine.specs.Serial.{after_entry, ReplaysFrom, table_after}
 use Rattle.split_engine.proofs.laws.runs_replay_as_one.Goals as goal
 
 pub returns : goal.returns

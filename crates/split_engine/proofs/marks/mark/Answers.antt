@@ -1,7 +1,7 @@
 use Rattle.std.proofs.Common.{true, slice_get, ap, ◌∙◌}
-use Rattle.split_engine.specs.Serving.{lists, request_at}
 use Rattle.split_engine.proofs.Lines.{set_here, row_here, row_others}
 use Rattle.split_engine.proofs.MarkRows.{lists_set, row_is, row_low}
+use Rattle.split_engine.specs.Serving.{lists, request_at}
 use Rattle.split_engine.proofs.marks.mark.Goals as goal
 
 pub returns-clause-here : goal.returns-clause-here

@@ -1,7 +1,6 @@
 use Rattle.std.proofs.Common.{◌≡◌, ◌++◌, ◌∷◌, [], false, length, replicate, ap, sym, ◌∙◌, arith}
 use Rattle.std.proofs.lemmas.List.{map-append}
-use Rattle.split_engine.specs.Serving.{lists}
-use Rattle.split_engine.proofs.MarkRows.{no_marks_more}
+use Rattle.split_engine.{proofs.MarkRows.{no_marks_more}, specs.Serving.{lists}}
 use Rattle.split_engine.proofs.marks.new_marks.Goals as goal
 
 pub loop-worker-preserved : goal.loop-worker-preserved

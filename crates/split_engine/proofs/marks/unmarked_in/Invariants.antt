@@ -1,5 +1,4 @@
-use Rattle.std.proofs.Common.{◌≡◌, ◌<◌, ℕ, false, Some}
-use Rattle.std.specs.Prelude.{slice_get}
+use Rattle.std.{proofs.Common.{◌≡◌, ◌<◌, ℕ, false, Some}, specs.Prelude.{slice_get}}
 use Rattle.split_engine.proofs.marks.unmarked_in.Given as goal
 
 abbrev pub invariant-loop-index : goal.invariant-loop-index

@@ -1,10 +1,9 @@
-use Rattle.std.proofs.Common.{length, sym, subst}
-use Rattle.std.specs.List.{AllByRecursion}
-use Rattle.split_engine.specs.declared.state.TheConstants.{MOST_COMMITS}
-use Rattle.split_engine.specs.Serving.{lists, IsScript}
-use Rattle.split_engine.specs.inner.Assignments.{assignments}
+use Rattle.std.{proofs.Common.{length, sym, subst}, specs.List.{AllByRecursion}}
 use Rattle.split_engine.proofs.Counts.{split_room, all_next_in}
 use Rattle.split_engine.proofs.States.{same_table, if_ok_so, state_worked}
+use Rattle.split_engine.specs.Serving.{lists, IsScript}
+use Rattle.split_engine.specs.declared.state.TheConstants.{MOST_COMMITS}
+use Rattle.split_engine.specs.inner.Assignments.{assignments}
 use Rattle.split_engine.proofs.phases.close.Goals as goal
 
 pub take_in_all-requires-clause-fits : goal.take_in_all-requires-clause-fits

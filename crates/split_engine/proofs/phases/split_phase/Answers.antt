@@ -1,10 +1,8 @@
 use Rattle.std.proofs.Common.{length, ap, ◌∙◌, IfOk}
 use Rattle.job_threads.proofs.ThreadLemmas.{err_as}
-use Rattle.split_engine.specs.Faults.{IsRunFault, fault_of_jobs}
-use Rattle.split_engine.specs.Serving.{lists}
+use Rattle.split_engine.proofs.{Counts.{unstarted}, States.{zip_map}}
+use Rattle.split_engine.specs.{Faults.{IsRunFault, fault_of_jobs}, Serving.{lists}}
 use Rattle.split_engine.specs.inner.Assignments.{assignment, assignments, HasDone}
-use Rattle.split_engine.proofs.Counts.{unstarted}
-use Rattle.split_engine.proofs.States.{zip_map}
 use Rattle.split_engine.proofs.phases.split_phase.Goals as goal
 
 pub close-requires-clause-done : goal.close-requires-clause-done

@@ -1,9 +1,7 @@
 use Rattle.std.proofs.Common.{◌≡◌, ◌+◌, ◌*◌, length, ap, sym, ◌∙◌, subst, arith}
-use Rattle.std.proofs.lemmas.List.{length-append}
-use Rattle.std.specs.List.{AllByRecursion}
-use Rattle.split_engine.specs.declared.few.TheConstants.{MOST_KEYS}
-use Rattle.split_engine.specs.Splitting.{merged_all}
+use Rattle.std.{proofs.lemmas.List.{length-append}, specs.List.{AllByRecursion}}
 use Rattle.split_engine.proofs.Splits.{slices_fit, length-slices, merged_fit}
+use Rattle.split_engine.specs.{Splitting.{merged_all}, declared.few.TheConstants.{MOST_KEYS}}
 use Rattle.split_engine.proofs.phases.take_in.Goals as goal
 
 pub merge_into-guesses-requires-clause-len : goal.merge_into-guesses-requires-clause-len

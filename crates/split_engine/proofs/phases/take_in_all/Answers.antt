@@ -1,11 +1,9 @@
 use Rattle.std.proofs.Common.{◌≡◌, ◌++◌, ◌∷◌, [], ◌+◌, length, ap, refl, sym, ◌∙◌, subst, arith, append_assoc, append-nil}
-use Rattle.std.specs.List.{AllByRecursion, AllZip}
-use Rattle.std.specs.Vec.Iter.{into_iter_items}
+use Rattle.std.specs.{List.{AllByRecursion, AllZip}, Vec.Iter.{into_iter_items}}
 use Rattle.phase_laws.proofs.ListLemmas.{all-right}
-use Rattle.split_engine.specs.inner.Assignments.{HasClosed, left_of, all_left}
-use Rattle.split_engine.proofs.Splits.{length-merged}
-use Rattle.split_engine.proofs.Counts.{done_few, left-append}
+use Rattle.split_engine.proofs.{Counts.{done_few, left-append}, Splits.{length-merged}}
 use Rattle.split_engine.proofs.States.{closed_none, closed_more, zip_first, zip_none, if_ok, nothing_left}
+use Rattle.split_engine.specs.inner.Assignments.{HasClosed, left_of, all_left}
 use Rattle.split_engine.proofs.phases.take_in_all.Goals as goal
 
 pub loop-answer-init : goal.loop-answer-init

@@ -1,6 +1,5 @@
 use Rattle.std.proofs.Common.{◌≡◌, ◌++◌, ◌≤◌, List, length, IfOk}
-use Rattle.std.specs.List.{AllByRecursion, AllZip}
-use Rattle.std.specs.Vec.Iter.{into_iter_items}
+use Rattle.std.specs.{List.{AllByRecursion, AllZip}, Vec.Iter.{into_iter_items}}
 use Rattle.split_engine.specs.inner.Assignments.{Assignment, HasDone, HasClosed}
 use Rattle.split_engine.proofs.phases.take_in_all.Given as goal
 

@@ -1,13 +1,10 @@
-use Rattle.std.proofs.Common.{length, ap, sym, ◌∙◌, subst, arith}
-use Rattle.std.proofs.lemmas.List.{length-map}
-use Rattle.std.specs.List.{AllByRecursion}
-use Rattle.std.specs.Vec.Iter.{into_iter_items}
-use Rattle.split_engine.specs.Serving.{lists, IsScript}
-use Rattle.split_engine.specs.inner.Phases.{HaveServed}
-use Rattle.split_engine.specs.inner.Assignments.{assignment, assignments, CanDo}
+use Rattle.std.proofs.{Common.{length, ap, sym, ◌∙◌, subst, arith}, lemmas.List.{length-map}}
+use Rattle.std.specs.{List.{AllByRecursion}, Vec.Iter.{into_iter_items}}
 use Rattle.split_engine.proofs.Counts.{length_more}
-use Rattle.split_engine.proofs.Works.{all_more, all_at}
 use Rattle.split_engine.proofs.States.{listed, have_length, tasks_none, tasks_more, assigned_next, served_next}
+use Rattle.split_engine.{proofs.Works.{all_more, all_at}, specs.Serving.{lists, IsScript}}
+use Rattle.split_engine.specs.inner.Assignments.{assignment, assignments, CanDo}
+use Rattle.split_engine.specs.inner.Phases.{HaveServed}
 use Rattle.split_engine.proofs.phases.tasks.Goals as goal
 
 pub loop-worker-init : goal.loop-worker-init

@@ -1,9 +1,7 @@
 use Rattle.std.proofs.Common.{◌≡◌, ◌++◌, ◌+◌, List, length, map, drop}
-use Rattle.std.specs.List.{AllByRecursion}
-use Rattle.std.specs.Vec.Iter.{into_iter_items}
-use Rattle.split_engine.specs.Serving.{lists}
+use Rattle.std.specs.{List.{AllByRecursion}, Vec.Iter.{into_iter_items}}
+use Rattle.split_engine.specs.{Serving.{lists}, inner.Assignments.{assignment, assignments, CanDo}}
 use Rattle.split_engine.specs.inner.Phases.{HaveServed}
-use Rattle.split_engine.specs.inner.Assignments.{assignment, assignments, CanDo}
 use Rattle.split_engine.proofs.phases.tasks.Given as goal
 
 abbrev pub invariant-loop-worker : goal.invariant-loop-worker

@@ -1,14 +1,11 @@
 use Rattle.std.proofs.Common.{◌≡◌, ◌++◌, [], ◌∷◌, Some, ◌+◌, ◌*◌, take, ap, refl, sym, ◌∙◌, subst, arith}
-use Rattle.std.proofs.Math.Numerals.{add-one}
-use Rattle.std.proofs.Math.Seq.{take-suc}
-use Rattle.std.proofs.lemmas.List.{take_all}
+use Rattle.std.proofs.{Math.{Numerals.{add-one}, Seq.{take-suc}}, lemmas.List.{take_all}}
 use Rattle.std.specs.List.{AllByRecursion}
-use Rattle.split_engine.specs.declared.few.TheConstants.{MOST_KEYS}
-use Rattle.split_engine.specs.Serving.{lists, request_at}
-use Rattle.split_engine.specs.Checking.{IsRightLine, after_line, lines_replay, after_lines}
-use Rattle.split_engine.specs.inner.Marking.{AreMarks}
 use Rattle.split_engine.proofs.Lines.{marks_at_first, all_had, lines_push, after_push}
 use Rattle.split_engine.proofs.Works.{get_is}
+use Rattle.split_engine.specs.Checking.{IsRightLine, after_line, lines_replay, after_lines}
+use Rattle.split_engine.specs.{Serving.{lists, request_at}, declared.few.TheConstants.{MOST_KEYS}}
+use Rattle.split_engine.specs.inner.Marking.{AreMarks}
 use Rattle.split_engine.proofs.referee.check_history.Goals as goal
 
 pub check_line-requires-clause-fits : goal.check_line-requires-clause-fits

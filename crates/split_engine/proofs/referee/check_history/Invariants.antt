@@ -1,9 +1,6 @@
-use Rattle.std.proofs.Common.{◌≡◌, ◌+◌, ◌*◌, [], ℕ, length, take}
-use Rattle.std.specs.List.{AllByRecursion}
-use Rattle.split_engine.specs.declared.few.TheConstants.{MOST_KEYS}
-use Rattle.split_engine.specs.Serving.{lists}
-use Rattle.split_engine.specs.Checking.{lines_replay, after_lines}
-use Rattle.split_engine.specs.inner.Marking.{AreMarks}
+use Rattle.std.{proofs.Common.{◌≡◌, ◌+◌, ◌*◌, [], ℕ, length, take}, specs.List.{AllByRecursion}}
+use Rattle.split_engine.specs.{Checking.{lines_replay, after_lines}, Serving.{lists}}
+use Rattle.split_engine.specs.{declared.few.TheConstants.{MOST_KEYS}, inner.Marking.{AreMarks}}
 use Rattle.split_engine.proofs.referee.check_history.Given as goal
 
 abbrev pub invariant-loop-place : goal.invariant-loop-place

@@ -1,13 +1,9 @@
 use Rattle.std.proofs.Common.{◌+◌, ◌<◌, true, false, length, Some, sym, ap, ◌∙◌, arith}
-use Rattle.std.proofs.lemmas.Bool.{true≢false}
-use Rattle.std.proofs.lemmas.Option.{same_Some}
-use Rattle.split_engine.specs.declared.few.TheConstants.{MOST_KEYS}
-use Rattle.split_engine.specs.Rules.{index_end}
-use Rattle.split_engine.specs.Serial.{IsWithin, acts_at}
-use Rattle.split_engine.specs.Serving.{lists}
-use Rattle.split_engine.specs.Checking.{has_line}
+use Rattle.std.proofs.lemmas.{Bool.{true≢false}, Option.{same_Some}}
 use Rattle.split_engine.proofs.Lines.{in_scripts, mark_there, marks_more}
-use Rattle.split_engine.proofs.Splits.{length-acts, fit_most}
+use Rattle.split_engine.{proofs.Splits.{length-acts, fit_most}, specs.Checking.{has_line}}
+use Rattle.split_engine.specs.{Rules.{index_end}, Serial.{IsWithin, acts_at}, Serving.{lists}}
+use Rattle.split_engine.specs.declared.few.TheConstants.{MOST_KEYS}
 use Rattle.split_engine.proofs.referee.check_line.Goals as goal
 
 pub mark-requires : goal.mark-requires

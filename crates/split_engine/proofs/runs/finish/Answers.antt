@@ -1,6 +1,5 @@
+use Rattle.split_engine.proofs.{Counts.{all_committed}, Ends.{state_at_last}}
 use Rattle.split_engine.specs.Serving.{lists}
-use Rattle.split_engine.proofs.Counts.{all_committed}
-use Rattle.split_engine.proofs.Ends.{state_at_last}
 use Rattle.split_engine.proofs.runs.finish.Goals as goal
 
 pub returns-clause-outcome : goal.returns-clause-outcome

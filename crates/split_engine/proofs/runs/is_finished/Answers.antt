@@ -1,7 +1,6 @@
 use Rattle.std.proofs.Common.{arith}
+use Rattle.split_engine.proofs.{Ends.{finished_more}, States.{listed, nothing_left}}
 use Rattle.split_engine.specs.Serving.{lists}
-use Rattle.split_engine.proofs.States.{listed, nothing_left}
-use Rattle.split_engine.proofs.Ends.{finished_more}
 use Rattle.split_engine.proofs.runs.is_finished.Goals as goal
 
 pub loop-worker-preserved : goal.loop-worker-preserved

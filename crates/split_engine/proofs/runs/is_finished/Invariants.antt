@@ -1,6 +1,5 @@
 use Rattle.std.proofs.Common.{take}
-use Rattle.split_engine.specs.Serving.{lists}
-use Rattle.split_engine.specs.inner.Phases.{AllFinished}
+use Rattle.split_engine.specs.{Serving.{lists}, inner.Phases.{AllFinished}}
 use Rattle.split_engine.proofs.runs.is_finished.Given as goal
 
 abbrev pub invariant-loop-worker : goal.invariant-loop-worker

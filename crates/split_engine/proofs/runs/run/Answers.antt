@@ -1,10 +1,6 @@
-use Rattle.std.proofs.Common.{length, ap, sym, ◌∙◌, subst, arith}
-use Rattle.std.proofs.lemmas.List.{length-map}
-use Rattle.split_engine.specs.Serving.{lists}
-use Rattle.split_engine.specs.inner.Phases.{AllFinished}
-use Rattle.split_engine.proofs.Counts.{are_scripts}
-use Rattle.split_engine.proofs.States.{have_length}
-use Rattle.split_engine.proofs.Ends.{state_at_first}
+use Rattle.std.proofs.{Common.{length, ap, sym, ◌∙◌, subst, arith}, lemmas.List.{length-map}}
+use Rattle.split_engine.proofs.{Counts.{are_scripts}, Ends.{state_at_first}, States.{have_length}}
+use Rattle.split_engine.specs.{Serving.{lists}, inner.Phases.{AllFinished}}
 use Rattle.split_engine.proofs.runs.run.Goals as goal
 
 pub loop-round-init : goal.loop-round-init

@@ -1,8 +1,5 @@
-use Rattle.std.proofs.Common.{◌≡◌, ◌<◌, ℕ, length}
-use Rattle.std.specs.List.{AllByRecursion}
-use Rattle.split_engine.specs.Rules.{most_before}
-use Rattle.split_engine.specs.Serving.{lists}
-use Rattle.split_engine.specs.inner.Phases.{IsRunState}
+use Rattle.std.{proofs.Common.{◌≡◌, ◌<◌, ℕ, length}, specs.List.{AllByRecursion}}
+use Rattle.split_engine.specs.{Rules.{most_before}, Serving.{lists}, inner.Phases.{IsRunState}}
 use Rattle.split_engine.proofs.runs.run.Given as goal
 
 abbrev pub invariant-loop-round : goal.invariant-loop-round

@@ -1,9 +1,6 @@
-use Rattle.std.proofs.Common.{◌≡◌, ◌+◌, take, ap, arith}
-use Rattle.std.proofs.lemmas.List.{length-map}
+use Rattle.std.proofs.{Common.{◌≡◌, ◌+◌, take, ap, arith}, lemmas.List.{length-map}}
+use Rattle.split_engine.proofs.{Counts.{total_more, total_take}, Ends.{take_whole}, States.{listed}}
 use Rattle.split_engine.specs.Serving.{lists, total}
-use Rattle.split_engine.proofs.Counts.{total_more, total_take}
-use Rattle.split_engine.proofs.Ends.{take_whole}
-use Rattle.split_engine.proofs.States.{listed}
 use Rattle.split_engine.proofs.scripts.are_few.Goals as goal
 
 pub loop-worker-preserved : goal.loop-worker-preserved

@@ -1,6 +1,5 @@
 use Rattle.std.proofs.Common.{◌≡◌, ◌+◌, length, take}
-use Rattle.split_engine.specs.declared.state.TheConstants.{MOST_COMMITS}
-use Rattle.split_engine.specs.Serving.{lists, total}
+use Rattle.split_engine.specs.{Serving.{lists, total}, declared.state.TheConstants.{MOST_COMMITS}}
 use Rattle.split_engine.proofs.scripts.are_few.Given as goal
 
 abbrev pub invariant-loop-worker : goal.invariant-loop-worker

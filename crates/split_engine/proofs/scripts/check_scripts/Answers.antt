@@ -1,12 +1,7 @@
-use Rattle.std.proofs.Common.{Some, ap, sym, ◌∙◌, subst, arith}
-use Rattle.std.proofs.lemmas.List.{length-map}
-use Rattle.std.specs.Prelude.{[], slice_get, unwrap_or}
-use Rattle.std.specs.List.{AllByRecursion}
-use Rattle.split_engine.specs.Serial.{IsWithin}
-use Rattle.split_engine.specs.Serving.{lists}
-use Rattle.split_engine.proofs.Ends.{take_whole}
-use Rattle.split_engine.proofs.States.{listed}
-use Rattle.split_engine.proofs.Works.{all_take, get_is}
+use Rattle.std.proofs.{Common.{Some, ap, sym, ◌∙◌, subst, arith}, lemmas.List.{length-map}}
+use Rattle.std.specs.{List.{AllByRecursion}, Prelude.{[], slice_get, unwrap_or}}
+use Rattle.split_engine.proofs.{Ends.{take_whole}, States.{listed}, Works.{all_take, get_is}}
+use Rattle.split_engine.specs.{Serial.{IsWithin}, Serving.{lists}}
 use Rattle.split_engine.proofs.scripts.check_scripts.Goals as goal
 
 pub loop-worker-preserved : goal.loop-worker-preserved

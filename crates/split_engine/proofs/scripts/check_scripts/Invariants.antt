@@ -1,7 +1,5 @@
-use Rattle.std.proofs.Common.{take}
-use Rattle.std.specs.List.{AllByRecursion}
-use Rattle.split_engine.specs.Serial.{IsWithin}
-use Rattle.split_engine.specs.Serving.{lists}
+use Rattle.std.{proofs.Common.{take}, specs.List.{AllByRecursion}}
+use Rattle.split_engine.specs.{Serial.{IsWithin}, Serving.{lists}}
 use Rattle.split_engine.proofs.scripts.check_scripts.Given as goal
 
 abbrev pub invariant-loop-worker : goal.invariant-loop-worker

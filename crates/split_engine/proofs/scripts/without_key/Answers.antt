@@ -1,8 +1,5 @@
-use Rattle.std.proofs.Common.{◌<◌, subst, arith}
-use Rattle.std.specs.List.{AllByRecursion}
-use Rattle.split_engine.specs.Serial.{IsWithin}
-use Rattle.split_engine.proofs.Ends.{take_whole}
-use Rattle.split_engine.proofs.Works.{all_take}
+use Rattle.std.{proofs.Common.{◌<◌, subst, arith}, specs.List.{AllByRecursion}}
+use Rattle.split_engine.{proofs.{Ends.{take_whole}, Works.{all_take}}, specs.Serial.{IsWithin}}
 use Rattle.split_engine.proofs.scripts.without_key.Goals as goal
 
 pub loop-index-preserved : goal.loop-index-preserved

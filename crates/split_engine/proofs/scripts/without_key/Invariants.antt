@@ -1,5 +1,4 @@
-use Rattle.std.proofs.Common.{take}
-use Rattle.std.specs.List.{AllByRecursion}
+use Rattle.std.{proofs.Common.{take}, specs.List.{AllByRecursion}}
 use Rattle.split_engine.specs.Serial.{IsWithin}
 use Rattle.split_engine.proofs.scripts.without_key.Given as goal
 

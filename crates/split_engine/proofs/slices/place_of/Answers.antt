@@ -1,10 +1,9 @@
 use Rattle.std.proofs.Common.{◌≡◌, ◌<◌, ◌++◌, ◌∷◌, [], length, get_or, set, false, sym, ap, ◌∙◌, arith}
 use Rattle.std.proofs.lemmas.Bool.{ltb-true, ltb-false}
-use Rattle.split_engine.specs.inner.Kept.{is_at, spread}
-use Rattle.split_engine.proofs.KeptSlices.{not_at, spread_more}
-use Rattle.split_engine.proofs.Splits.{read_any}
-use Rattle.split_engine.proofs.slices.place_of.Goals as goal
+use Rattle.split_engine.proofs.{KeptSlices.{not_at, spread_more}, Splits.{read_any}}
 use Rattle.split_engine.proofs.slices.place_of.Goals.{in-Some+else-there-key, in_default}
+use Rattle.split_engine.specs.inner.Kept.{is_at, spread}
+use Rattle.split_engine.proofs.slices.place_of.Goals as goal
 
 -- the guess was right
 pub returns-then-there-key-clause-at : goal.returns-then-there-key-clause-at

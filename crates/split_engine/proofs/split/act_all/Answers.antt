@@ -1,9 +1,7 @@
 use Rattle.std.proofs.Common.{◌≡◌, ◌+◌, suc, drop, sym, ap, ◌∙◌, subst, arith}
-use Rattle.std.proofs.Math.Nat.{min-le_left, min-le_right}
-use Rattle.std.proofs.Math.Numerals.{add-one}
+use Rattle.std.proofs.Math.{Nat.{min-le_left, min-le_right}, Numerals.{add-one}}
 use Rattle.std.specs.List.{zip, AllByRecursion}
-use Rattle.split_engine.specs.Splitting.{after_slice_acts}
-use Rattle.split_engine.proofs.Splits.{zip_next, zip_end}
+use Rattle.split_engine.{proofs.Splits.{zip_next, zip_end}, specs.Splitting.{after_slice_acts}}
 use Rattle.split_engine.proofs.split.act_all.Goals as goal
 
 pub act-requires-clause-fits : goal.act-requires-clause-fits

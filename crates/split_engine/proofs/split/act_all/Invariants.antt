@@ -1,5 +1,4 @@
-use Rattle.std.proofs.Common.{◌≡◌, ◌+◌, ℕ, length, drop}
-use Rattle.std.specs.List.{zip, AllByRecursion}
+use Rattle.std.{proofs.Common.{◌≡◌, ◌+◌, ℕ, length, drop}, specs.List.{zip, AllByRecursion}}
 use Rattle.split_engine.specs.Splitting.{after_slice_acts}
 use Rattle.split_engine.proofs.split.act_all.Given as goal
 

@@ -1,5 +1,4 @@
-use Rattle.std.proofs.Common.{◌≡◌, drop}
-use Rattle.std.specs.List.{list_all}
+use Rattle.std.{proofs.Common.{◌≡◌, drop}, specs.List.{list_all}}
 use Rattle.split_engine.specs.inner.Phases.{is_hot}
 use Rattle.split_engine.proofs.split.are_hot.Given as goal
 

@@ -1,5 +1,4 @@
-use Rattle.std.proofs.Common.{◌&&◌, sym, ap, ◌∙◌}
-use Rattle.std.specs.List.{list_all}
+use Rattle.std.{proofs.Common.{◌&&◌, sym, ap, ◌∙◌}, specs.List.{list_all}}
 use Rattle.split_engine.specs.inner.Phases.{is_hot}
 use Rattle.split_engine.proofs.split.is_taken.Goals as goal
 

@@ -1,5 +1,4 @@
-use Rattle.std.proofs.Common.{◌≡◌, true, sym, ap, subst}
-use Rattle.std.specs.List.{AllByRecursion}
+use Rattle.std.{proofs.Common.{◌≡◌, true, sym, ap, subst}, specs.List.{AllByRecursion}}
 use Rattle.split_engine.specs.Rules.{looks_in}
 use Rattle.split_engine.proofs.split.perform.Goals as goal
 

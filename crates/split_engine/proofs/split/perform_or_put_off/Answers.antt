@@ -1,6 +1,5 @@
 use Rattle.std.proofs.Common.{ℕ, ◌++◌, [], ◌∷◌, ◌∙◌, sym, subst}
-use Rattle.split_engine.specs.inner.Phases.{HasPerformedOnSlices}
-use Rattle.split_engine.proofs.Works.{stashed_more}
+use Rattle.split_engine.{proofs.Works.{stashed_more}, specs.inner.Phases.{HasPerformedOnSlices}}
 use Rattle.split_engine.proofs.split.perform_or_put_off.Goals as goal
 
 pub returns-clause-done : goal.returns-clause-done

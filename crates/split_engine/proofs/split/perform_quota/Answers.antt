@@ -1,11 +1,8 @@
 use Rattle.std.proofs.Common.{ℕ, ◌≡◌, ◌++◌, [], ◌∷◌, ◌*◌, length, map, ap, sym, ◌∙◌, subst, arith, append_assoc}
-use Rattle.std.proofs.lemmas.List.{append-nil}
-use Rattle.std.specs.List.{AllByRecursion}
+use Rattle.std.{proofs.lemmas.List.{append-nil}, specs.List.{AllByRecursion}}
+use Rattle.split_engine.proofs.{Splits.{slices_fit, length-slices}, Works.{calls_more}}
+use Rattle.split_engine.specs.{Serving.{call_of, calls_before}, Splitting.{IsSplitEntry, slices_of}}
 use Rattle.split_engine.specs.declared.few.TheConstants.{MOST_KEYS}
-use Rattle.split_engine.specs.Serving.{call_of, calls_before}
-use Rattle.split_engine.specs.Splitting.{IsSplitEntry, slices_of}
-use Rattle.split_engine.proofs.Splits.{slices_fit, length-slices}
-use Rattle.split_engine.proofs.Works.{calls_more}
 use Rattle.split_engine.proofs.split.perform_quota.Goals as goal
 
 pub perform_or_put_off-requires-clause-len : goal.perform_or_put_off-requires-clause-len

@@ -1,6 +1,5 @@
 use Rattle.std.proofs.Common.{◌≡◌, ◌++◌, ◌≤◌, ◌+◌, ℕ, List, length}
-use Rattle.split_engine.specs.Serving.{calls_before}
-use Rattle.split_engine.specs.inner.Phases.{HasPerformedOnSlices}
+use Rattle.split_engine.specs.{Serving.{calls_before}, inner.Phases.{HasPerformedOnSlices}}
 use Rattle.split_engine.proofs.split.perform_quota.Given as goal
 
 abbrev pub invariant-loop-index : goal.invariant-loop-index

@@ -1,5 +1,4 @@
-use Rattle.std.proofs.Common.{◌∙◌, Some, ap, is_lt, sym}
-use Rattle.std.specs.Option.{option_cmp}
+use Rattle.std.{proofs.Common.{◌∙◌, Some, ap, is_lt, sym}, specs.Option.{option_cmp}}
 use Rattle.split_records.proofs.ordered.is_below.Goals as goal
 
 pub returns-in-Some : goal.returns-in-Some

@@ -1,6 +1,5 @@
 use Rattle.std.proofs.Common.{sym, subst}
-use Rattle.phase_laws.specs.Ranking.{IsDescending}
-use Rattle.phase_laws.proofs.TopLemmas.{IsDescending-top}
+use Rattle.phase_laws.{proofs.TopLemmas.{IsDescending-top}, specs.Ranking.{IsDescending}}
 use Rattle.top_records.proofs.TopRec.entries.Goals as goal
 
 pub returns-clause-greatest_first : goal.returns-clause-greatest_first

@@ -1,9 +1,8 @@
 use Rattle.std.proofs.Common.{arith, ◌≡◌, ◌≤◌, length, refl, sym, ap, subst, ◌∙◌, ◌∷◌, take}
 use Rattle.std.specs.Prelude.{IfSome}
-use Rattle.phase_laws.specs.Ranking.{top, IsDescending}
 use Rattle.phase_laws.proofs.TopLemmas.{IsDescending-top, top-placed, top-top, top_present, take_of_top}
-use Rattle.top_records.proofs.Places.{stays_full}
-use Rattle.top_records.specs.TopLaws.{IsOwnTop}
+use Rattle.phase_laws.specs.Ranking.{top, IsDescending}
+use Rattle.top_records.{proofs.Places.{stays_full}, specs.TopLaws.{IsOwnTop}}
 use Rattle.top_records.proofs.TopRec.insert_at_its_place.Goals as goal
 
 pub returns-in-Some-clause-value : goal.returns-in-Some-clause-value

@@ -1,6 +1,6 @@
 use Rattle.std.proofs.Common.{◌<◌, length, arith, subst}
-use Rattle.worker_journals.specs.Journals.{IsJournalOf}
 use Rattle.worker_journals.proofs.HistoryLemmas.{holds_yet, one_closed, others_open}
+use Rattle.worker_journals.specs.Journals.{IsJournalOf}
 use Rattle.worker_journals.proofs.history.close_all.Goals as goal
 
 pub close_one-requires : goal.close_one-requires

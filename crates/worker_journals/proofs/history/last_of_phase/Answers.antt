@@ -1,8 +1,6 @@
-use Rattle.std.proofs.Common.{◌≤◌, arith, subst}
+use Rattle.std.proofs.{Common.{◌≤◌, arith, subst}, lemmas.List.{take_all}}
 use Rattle.std.specs.List.{AllByRecursion}
-use Rattle.std.proofs.lemmas.List.{take_all}
-use Rattle.worker_journals.specs.Journals.{JournalView}
-use Rattle.worker_journals.proofs.LastLemmas.{one_more}
+use Rattle.worker_journals.{proofs.LastLemmas.{one_more}, specs.Journals.{JournalView}}
 use Rattle.worker_journals.proofs.history.last_of_phase.Goals as goal
 
 pub loop-journal-preserved : goal.loop-journal-preserved

@@ -1,5 +1,4 @@
-use Rattle.std.proofs.Common.{ℕ, ◌≤◌, take}
-use Rattle.std.specs.List.{AllByRecursion}
+use Rattle.std.{proofs.Common.{ℕ, ◌≤◌, take}, specs.List.{AllByRecursion}}
 use Rattle.worker_journals.proofs.history.last_of_phase.Given as goal
 
 abbrev pub invariant-loop-journal : goal.invariant-loop-journal

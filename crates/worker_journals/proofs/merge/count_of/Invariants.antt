@@ -1,7 +1,5 @@
-use Rattle.std.proofs.Common.{◌≡◌, take}
-use Rattle.std.specs.List.{AllByRecursion}
-use Rattle.worker_journals.specs.Journals.{IsLawfulJournal}
-use Rattle.worker_journals.specs.Merged.{entry_count}
+use Rattle.std.{proofs.Common.{◌≡◌, take}, specs.List.{AllByRecursion}}
+use Rattle.worker_journals.specs.{Journals.{IsLawfulJournal}, Merged.{entry_count}}
 use Rattle.worker_journals.proofs.merge.count_of.Given as goal
 
 abbrev pub invariant-loop-journal : goal.invariant-loop-journal

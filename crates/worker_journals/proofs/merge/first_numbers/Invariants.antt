@@ -1,8 +1,6 @@
-use Rattle.std.proofs.Common.{◌≡◌, ◌≤◌, map, take, length}
-use Rattle.std.specs.List.{AllByRecursion}
+use Rattle.std.{proofs.Common.{◌≡◌, ◌≤◌, map, take, length}, specs.List.{AllByRecursion}}
 use Rattle.std.specs.Prelude.{vec_capacity}
-use Rattle.worker_journals.specs.Journals.{IsLawfulJournal}
-use Rattle.worker_journals.specs.inner.Places.{first_number}
+use Rattle.worker_journals.specs.{Journals.{IsLawfulJournal}, inner.Places.{first_number}}
 use Rattle.worker_journals.proofs.merge.first_numbers.Given as goal
 
 abbrev pub invariant-loop-journal : goal.invariant-loop-journal

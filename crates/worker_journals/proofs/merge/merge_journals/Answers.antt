@@ -1,14 +1,12 @@
 use Rattle.std.proofs.Common.{◌≡◌, ◌∙◌, ◌++◌, ◌∷◌, [], ◌<◌, ◌+◌, ℕ, List, None, length, map, get_or, set, sym, ap, subst, arith, append_assoc}
-use Rattle.std.specs.List.{AllByRecursion}
+use Rattle.std.{proofs.lemmas.List.{append-nil}, specs.List.{AllByRecursion}}
 use Rattle.std.specs.List.Sorted.{IsPermutation}
-use Rattle.std.proofs.lemmas.List.{append-nil}
 use Rattle.phase_laws.specs.Order.{IsAscending, part}
 use Rattle.auction_rows.specs.declared.rows.Entry.{Entry}
-use Rattle.worker_journals.specs.Journals.{IsLawfulJournal, entry_number, entry_worker}
-use Rattle.worker_journals.specs.Merged.{merged}
-use Rattle.worker_journals.specs.inner.Places.{left_of, first_number, IsLeastOf}
 use Rattle.worker_journals.proofs.MergedLemmas.{all_entries, merged_ascends, merged_parts, merged_permutes}
 use Rattle.worker_journals.proofs.StepLemmas.{starts_before, starts_merging, none_left, place_within, entry_listed, still_merging}
+use Rattle.worker_journals.specs.Journals.{IsLawfulJournal, entry_number, entry_worker}
+use Rattle.worker_journals.specs.{Merged.{merged}, inner.Places.{left_of, first_number, IsLeastOf}}
 use Rattle.worker_journals.proofs.merge.merge_journals.Goals as goal
 
 -- the first of those that were left is the last of those in the list

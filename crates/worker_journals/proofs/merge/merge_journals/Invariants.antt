@@ -1,6 +1,5 @@
 use Rattle.std.proofs.Common.{◌≡◌, ◌++◌, length}
-use Rattle.worker_journals.specs.Merged.{merged}
-use Rattle.worker_journals.specs.inner.Places.{left_of, AreMerging}
+use Rattle.worker_journals.specs.{Merged.{merged}, inner.Places.{left_of, AreMerging}}
 use Rattle.worker_journals.proofs.merge.merge_journals.Given as goal
 
 abbrev pub invariant-loop-worker : goal.invariant-loop-worker

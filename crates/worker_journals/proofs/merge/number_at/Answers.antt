@@ -1,6 +1,5 @@
-use Rattle.std.proofs.Common.{◌∙◌, ap, sym}
+use Rattle.std.proofs.{Common.{◌∙◌, ap, sym}, lemmas.Option.{slice_get-map}}
 use Rattle.std.specs.Prelude.{Some, option_map}
-use Rattle.std.proofs.lemmas.Option.{slice_get-map}
 use Rattle.worker_journals.specs.Journals.{entry_number}
 use Rattle.worker_journals.proofs.merge.number_at.Goals as goal
 

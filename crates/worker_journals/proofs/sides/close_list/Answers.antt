@@ -1,5 +1,4 @@
-use Rattle.std.proofs.Common.{◌≡◌, ◌∙◌, ap, sym, vec_len}
-use Rattle.std.proofs.lemmas.Bool.{eqb-true}
+use Rattle.std.proofs.{Common.{◌≡◌, ◌∙◌, ap, sym, vec_len}, lemmas.Bool.{eqb-true}}
 use Rattle.std.proofs.lemmas.List.{nil_from_length}
 use Rattle.worker_journals.proofs.sides.close_list.Goals as goal
 

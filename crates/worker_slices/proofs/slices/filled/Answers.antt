@@ -1,15 +1,12 @@
-use Rattle.std.specs.Prelude.{option_map}
 use Rattle.std.proofs.Common.{◌≡◌, ◌++◌, ◌∷◌, length, [], refl, take, slice_get, Some, None, add-one, sym, ap, subst, ◌∙◌, rules}
-use Rattle.std.specs.List.{AllByRecursion}
-use Rattle.std.specs.Map.{lookup}
-use Rattle.std.proofs.lemmas.List.{take_all}
-use Rattle.std.proofs.lemmas.Option.{slice_get_read, slice_get-map}
+use Rattle.std.proofs.lemmas.{List.{take_all}, Option.{slice_get_read, slice_get-map}}
+use Rattle.std.specs.{List.{AllByRecursion}, Map.{lookup}, Prelude.{option_map}}
 use Rattle.indexmap.proofs.CallerLemmas.{insert_entry-new}
 use Rattle.auction_rows.specs.contracts.requests.ObjectPartialEq.TheImpl.{eq-value as object_eq}
-use Rattle.worker_slices.specs.Slicing.{hot_objects, stocks_of, slices_of, IsStocked}
-use Rattle.worker_slices.specs.Guessing.{AreGuessed}
 use Rattle.worker_slices.proofs.GuessLemmas.{one_more_guessed}
 use Rattle.worker_slices.proofs.Places.{absent_before, one_more, stocks_of_rows}
+use Rattle.worker_slices.specs.Guessing.{AreGuessed}
+use Rattle.worker_slices.specs.Slicing.{hot_objects, stocks_of, slices_of, IsStocked}
 use Rattle.worker_slices.proofs.slices.filled.Goals as goal
 
 pub loop-object-preserved : goal.loop-object-preserved

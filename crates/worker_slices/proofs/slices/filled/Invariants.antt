@@ -1,6 +1,5 @@
 use Rattle.std.proofs.Common.{◌≡◌, take, []}
-use Rattle.worker_slices.specs.Guessing.{AreGuessed}
-use Rattle.worker_slices.specs.Slicing.{hot_objects, slices_of}
+use Rattle.worker_slices.specs.{Guessing.{AreGuessed}, Slicing.{hot_objects, slices_of}}
 use Rattle.worker_slices.proofs.slices.filled.Given as goal
 
 -- the slices of the objects so far, which are noted

@@ -1,5 +1,4 @@
-use Rattle.std.proofs.Common.{◌<◌, ◌%◌, sym, subst}
-use Rattle.std.proofs.lemmas.Nat.{mod_below}
+use Rattle.std.proofs.{Common.{◌<◌, ◌%◌, sym, subst}, lemmas.Nat.{mod_below}}
 use Rattle.application_loads.proofs.draws.Draws.below.Goals as goal
 
 -- a remainder is below the divisor

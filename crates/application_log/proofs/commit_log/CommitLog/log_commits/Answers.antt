@@ -1,8 +1,8 @@
 use Rattle.std.proofs.Common.{◌≡◌, ◌++◌, sym, ap, ◌∙◌, subst, arith}
 use Rattle.std.specs.Io.KnownBytes.{Appends}
-use Rattle.application_log.specs.Logs.{log_text, requests_of}
 use Rattle.application_log.proofs.LogLemmas.{none_added}
 use Rattle.application_log.proofs.commit_log.CommitLog.log_commits.Goals.{then-added-gt0+in_default, else-added-gt0}
+use Rattle.application_log.specs.Logs.{log_text, requests_of}
 use Rattle.application_log.proofs.commit_log.CommitLog.log_commits.Goals as goal
 
 pub returns-clause-logged : goal.returns-clause-logged

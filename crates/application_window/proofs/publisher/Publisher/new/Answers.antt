@@ -1,5 +1,4 @@
-use Rattle.std.proofs.Common.{◌∙◌}
-use Rattle.std.proofs.lemmas.Result.{IfOk-from_err}
+use Rattle.std.proofs.{Common.{◌∙◌}, lemmas.Result.{IfOk-from_err}}
 use Rattle.application_window.proofs.publisher.Publisher.new.Goals as goal
 
 pub returns-in_err-writer-clause-publisher : goal.returns-in_err-writer-clause-publisher

@@ -1,5 +1,4 @@
-use Rattle.std.proofs.Common.{arith, length, ap}
-use Rattle.std.proofs.lemmas.Result.{IfOk-from_err}
+use Rattle.std.proofs.{Common.{arith, length, ap}, lemmas.Result.{IfOk-from_err}}
 use Rattle.application_window.proofs.publisher.Publisher.publish_part.Goals as goal
 
 pub add-requires : goal.add-requires

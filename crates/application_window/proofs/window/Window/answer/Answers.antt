@@ -1,5 +1,4 @@
-use Rattle.std.proofs.Common.{[], ◌∙◌, sym}
-use Rattle.std.proofs.lemmas.List.{append-nil}
+use Rattle.std.proofs.{Common.{[], ◌∙◌, sym}, lemmas.List.{append-nil}}
 use Rattle.application_window.proofs.window.Window.answer.Goals as goal
 
 pub returns-in_default-clause-onward : goal.returns-in_default-clause-onward

@@ -1,5 +1,4 @@
-use Rattle.std.proofs.Common.{[], refl, ◌∙◌, sym, arith}
-use Rattle.std.proofs.lemmas.List.{append-nil}
+use Rattle.std.proofs.{Common.{[], refl, ◌∙◌, sym, arith}, lemmas.List.{append-nil}}
 use Rattle.application_window.proofs.window.Window.look.Goals as goal
 
 pub returns-in_default-clause-onward : goal.returns-in_default-clause-onward

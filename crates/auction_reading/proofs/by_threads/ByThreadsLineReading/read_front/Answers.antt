@@ -1,6 +1,5 @@
 use Rattle.std.proofs.Common.{arith, ◌≡◌, ◌∙◌, ap, length, subst, sym}
-use Rattle.std.proofs.lemmas.List.{with_items_is}
-use Rattle.std.proofs.lemmas.Result.{IfOk-weaker}
+use Rattle.std.proofs.lemmas.{List.{with_items_is}, Result.{IfOk-weaker}}
 use Rattle.auction_reading.specs.inner.Parcels.{AreParcels}
 use Rattle.auction_reading.proofs.by_threads.ByThreadsLineReading.read_front.Goals as goal
 

@@ -1,7 +1,6 @@
 use Rattle.std.proofs.Common.{arith, ◌≡◌, ap}
-use Rattle.auction_reading.specs.declared.parcels.Parcel.{Parcel}
+use Rattle.auction_reading.{proofs.PieceLemmas.{parcel_of}, specs.declared.parcels.Parcel.{Parcel}}
 use Rattle.auction_reading.specs.inner.Said.{WasRead}
-use Rattle.auction_reading.proofs.PieceLemmas.{parcel_of}
 use Rattle.auction_reading.proofs.parcels.Parcel.read.Goals as goal
 
 pub read_piece-self-requires-clause-ends : goal.read_piece-self-requires-clause-ends

@@ -1,6 +1,5 @@
 use Rattle.std.proofs.Common.{arith, ◌<◌, ◌≡◌, ◌∷◌, [], ◌++◌, length, sym, ap, subst, ◌∙◌, length-append}
-use Rattle.auction_rows.specs.Ten.{filled, ten_places}
-use Rattle.auction_rows.proofs.TenPlaces.{filled-set, set-packed}
+use Rattle.auction_rows.{proofs.TenPlaces.{filled-set, set-packed}, specs.Ten.{filled, ten_places}}
 use Rattle.auction_rows.proofs.values.Ten.push.Goals as goal
 
 pub invariant_of-self : goal.invariant_of-self

@@ -1,5 +1,4 @@
-use Rattle.std.proofs.Common.{◌≡◌, ◌++◌}
-use Rattle.std.specs.Vec.Iter.{into_iter_items}
+use Rattle.std.{proofs.Common.{◌≡◌, ◌++◌}, specs.Vec.Iter.{into_iter_items}}
 use Rattle.run_laws.specs.Serving.{lists}
 use Rattle.auction_run.proofs.scripts.VecVecRequestScripts.into_compact.Given as goal
 

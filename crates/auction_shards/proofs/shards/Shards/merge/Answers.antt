@@ -1,9 +1,9 @@
 use Rattle.std.proofs.Common.{List, map, sym, ap, ◌∙◌, subst, arith}
 use Rattle.item_shards.specs.declared.shard.Shard.{Shard}
 use Rattle.shard_boxes.specs.States.{state_of}
+use Rattle.auction_shards.proofs.Merges.{placed, still_of_one}
 use Rattle.auction_shards.specs.Merging.{CanMerge, CanMergeInto, after_merge}
 use Rattle.auction_shards.specs.Shards.{AreOfOne, IsKnown, opening_in}
-use Rattle.auction_shards.proofs.Merges.{placed, still_of_one}
 use Rattle.auction_shards.proofs.shards.Shards.merge.Goals as goal
 
 pub merge_into-requires : goal.merge_into-requires

@@ -2,11 +2,11 @@ use Rattle.std.proofs.Common.{◌≡◌, List, [], length, map, get_or, sym, ap,
 use Rattle.auction_rows.specs.Requests.{shard_of}
 use Rattle.item_shards.specs.declared.shard.Shard.{Shard}
 use Rattle.shard_boxes.specs.States.{state_of}
+use Rattle.auction_shards.proofs.Views.{lies, opening_is, value_is, stands}
+use Rattle.auction_shards.proofs.shards.Shards.of.Goals.{After-index}
 use Rattle.auction_shards.specs.Shards.{ShardsStandFor, opening_in, value_on}
 use Rattle.auction_shards.specs.inner.Acting.{IsShardOf}
-use Rattle.auction_shards.proofs.Views.{lies, opening_is, value_is, stands}
 use Rattle.auction_shards.proofs.shards.Shards.of.Goals as goal
-use Rattle.auction_shards.proofs.shards.Shards.of.Goals.{After-index}
 
 found : (c : After-index) → IsShardOf c.self.inside.shards.items c.args.object c.index.result.now
 found c =

@@ -1,8 +1,7 @@
 use Rattle.std.proofs.Common.{List, map, sym, ap, ◌∙◌, subst}
 use Rattle.item_shards.specs.declared.shard.Shard.{Shard}
 use Rattle.shard_boxes.specs.States.{state_of}
-use Rattle.auction_shards.specs.Shards.{AreOfOne, at_start}
-use Rattle.auction_shards.proofs.Clocks.{one_at_start}
+use Rattle.auction_shards.{proofs.Clocks.{one_at_start}, specs.Shards.{AreOfOne, at_start}}
 use Rattle.auction_shards.proofs.shards.Shards.reset_clocks.Goals as goal
 
 pub invariant_of-self : goal.invariant_of-self

@@ -1,10 +1,9 @@
 use Rattle.std.proofs.Common.{map, sym, ap, ◌∙◌}
+use Rattle.auction_rows.specs.Replies.{reply}
 use Rattle.auction_rows.specs.declared.requests.Object.TheVariants.{Item, User, Category}
 use Rattle.auction_rows.specs.declared.requests.Request.TheVariants.{ViewItem, ViewBids, ViewCategory, ViewUser}
-use Rattle.auction_rows.specs.Replies.{reply}
 use Rattle.shard_boxes.specs.States.{state_of}
-use Rattle.auction_shards.specs.Shards.{opening_in}
-use Rattle.auction_shards.proofs.Views.{replies}
+use Rattle.auction_shards.{proofs.Views.{replies}, specs.Shards.{opening_in}}
 use Rattle.auction_shards.proofs.shards.Shards.view.Goals as goal
 
 pub returns-in-ViewItem-clause-book : goal.returns-in-ViewItem-clause-book

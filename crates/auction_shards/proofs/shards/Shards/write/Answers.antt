@@ -1,10 +1,8 @@
 use Rattle.std.proofs.Common.{List, map, sym, subst}
-use Rattle.item_shards.specs.declared.shard.Shard.{Shard}
-use Rattle.item_shards.specs.Writing.{writes_of}
+use Rattle.item_shards.specs.{Writing.{writes_of}, declared.shard.Shard.{Shard}}
 use Rattle.shard_boxes.specs.States.{state_of}
-use Rattle.auction_shards.specs.Shards.{AreOfOne}
+use Rattle.auction_shards.{proofs.Acts.{still_of_one}, specs.Shards.{AreOfOne}}
 use Rattle.auction_shards.specs.Writing.{CanWriteOn, HaveDone}
-use Rattle.auction_shards.proofs.Acts.{still_of_one}
 use Rattle.auction_shards.proofs.shards.Shards.write.Goals as goal
 
 pub write_row-requires-clause-can : goal.write_row-requires-clause-can

@@ -1,6 +1,6 @@
 use Rattle.std.proofs.Common.{◌+◌, ◌∙◌, [], ap, get_or, length}
-use Rattle.auction_text.specs.Moved.{BeforeView}
 use Rattle.auction_text.proofs.MovedLemmas.{counted_all, counted_more, counted_none}
+use Rattle.auction_text.specs.Moved.{BeforeView}
 use Rattle.auction_text.proofs.writing.Before.with_scripts.Goals as goal
 
 pub loop-worker-init : goal.loop-worker-init

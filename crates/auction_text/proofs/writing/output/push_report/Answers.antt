@@ -1,6 +1,5 @@
 use Rattle.std.proofs.Common.{◌≡◌, ◌∙◌, ◌++◌, ℕ, List, ap, append_assoc, length, map, sym}
-use Rattle.std.proofs.lemmas.List.{length-map}
-use Rattle.std.proofs.lemmas.Result.{on_ok_weaker}
+use Rattle.std.proofs.lemmas.{List.{length-map}, Result.{on_ok_weaker}}
 use Rattle.auction_rows.specs.declared.{requests.Object.Object, replies.Reply.Reply, rows.Entry.Entry}
 use Rattle.auction_text.specs.Report.{category_line, counts_text, hot_line, numbered_lines, report_text, user_line}
 use Rattle.auction_text.proofs.writing.output.push_report.Goals as goal

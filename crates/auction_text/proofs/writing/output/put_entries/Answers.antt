@@ -1,8 +1,8 @@
 use Rattle.std.proofs.Common.{rules, ◌≡◌, List, ap}
 use Rattle.auction_rows.specs.declared.rows.Entry.{Entry}
+use Rattle.auction_text.proofs.PutLemmas.{put_failed, told_all, told_more, told_none, told_part}
 use Rattle.auction_text.specs.Moved.{all_moved, gone_by, moved}
 use Rattle.auction_text.specs.Replies.{history_line, history_text}
-use Rattle.auction_text.proofs.PutLemmas.{put_failed, told_all, told_more, told_none, told_part}
 use Rattle.auction_text.proofs.writing.output.put_entries.Goals as goal
 
 pub loop-entry-init : goal.loop-entry-init

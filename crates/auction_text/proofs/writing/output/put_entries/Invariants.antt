@@ -1,6 +1,5 @@
-use Rattle.auction_text.specs.Moved.{all_moved, gone_by}
+use Rattle.auction_text.{proofs.PutLemmas.{IsTold}, specs.Moved.{all_moved, gone_by}}
 use Rattle.auction_text.specs.Replies.{history_text}
-use Rattle.auction_text.proofs.PutLemmas.{IsTold}
 use Rattle.auction_text.proofs.writing.output.put_entries.Given as goal
 
 -- the lines so far, and those of the entries that are left

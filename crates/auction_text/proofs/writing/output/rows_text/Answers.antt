@@ -1,8 +1,6 @@
-use Rattle.std.proofs.Common.{◌∙◌, ◌++◌, List, ℕ, ap, sym}
-use Rattle.std.proofs.lemmas.Grind.{flat_map-append}
+use Rattle.std.proofs.{Common.{◌∙◌, ◌++◌, List, ℕ, ap, sym}, lemmas.Grind.{flat_map-append}}
 use Rattle.auction_rows.specs.History.{rows_of}
-use Rattle.auction_text.specs.Replies.{lines}
-use Rattle.auction_text.specs.RowLines.{row_line}
+use Rattle.auction_text.specs.{Replies.{lines}, RowLines.{row_line}}
 use Rattle.auction_text.proofs.writing.output.rows_text.Goals as goal
 
 pub returns : goal.returns

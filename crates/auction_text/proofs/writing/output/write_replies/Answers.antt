@@ -1,9 +1,8 @@
 use Rattle.std.proofs.Common.{ap, subst}
-use Rattle.auction_text.specs.Moved.{gone_by}
+use Rattle.auction_text.{proofs.MovedLemmas.{none_moved}, specs.Moved.{gone_by}}
 use Rattle.auction_text.specs.Replies.{replies_text}
-use Rattle.byte_texts.specs.Writing.{WritesText}
-use Rattle.auction_text.proofs.MovedLemmas.{none_moved}
 use Rattle.auction_text.proofs.writing.output.write_replies.Goals as goal
+use Rattle.byte_texts.specs.Writing.{WritesText}
 
 pub returns : goal.returns
 returns g c =

@@ -1,7 +1,6 @@
 use Rattle.std.proofs.Common.{arith, [], length, refl, subst}
 use Rattle.byte_texts.specs.Writing.{WritesText}
-use Rattle.auction_text.proofs.PartLemmas.{all_below}
-use Rattle.auction_text.proofs.PutLemmas.{writes_last, writes_part}
+use Rattle.auction_text.proofs.{PartLemmas.{all_below}, PutLemmas.{writes_last, writes_part}}
 use Rattle.auction_text.proofs.WorkerReplies.{texts_are_replies}
 use Rattle.auction_text.proofs.writing.output.write_replies_by_threads.Goals as goal
 

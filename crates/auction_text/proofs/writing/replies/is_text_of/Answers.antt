@@ -1,5 +1,4 @@
-use Rattle.std.proofs.Common.{◌∙◌, sym}
-use Rattle.std.proofs.lemmas.Slice.Eq.{bytes_eq-Decides}
+use Rattle.std.proofs.{Common.{◌∙◌, sym}, lemmas.Slice.Eq.{bytes_eq-Decides}}
 use Rattle.auction_text.proofs.writing.replies.is_text_of.Goals as goal
 
 pub returns : goal.returns

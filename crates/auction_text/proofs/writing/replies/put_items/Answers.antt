@@ -1,6 +1,6 @@
 use Rattle.std.proofs.Common.{arith, codes, sym, ◌∙◌}
-use Rattle.auction_text.specs.Replies.{item_text}
 use Rattle.auction_text.proofs.ListedLemmas.{all_listed, shown_listed, some_there}
+use Rattle.auction_text.specs.Replies.{item_text}
 use Rattle.auction_text.proofs.writing.replies.put_items.Goals as goal
 
 pub unwrap-requires : goal.unwrap-requires

@@ -1,8 +1,7 @@
-use Rattle.std.proofs.Common.{ap, sym, ◌++◌, ◌∙◌}
-use Rattle.std.specs.Prelude.{option_map, option_to_list}
+use Rattle.std.{proofs.Common.{ap, sym, ◌++◌, ◌∙◌}, specs.Prelude.{option_map, option_to_list}}
 use Rattle.auction_text.specs.Replies.{reply_text}
-use Rattle.worker_journals.proofs.SaidLemmas.{only_item}
 use Rattle.auction_text.proofs.writing.replies.put_view.Goals as goal
+use Rattle.worker_journals.proofs.SaidLemmas.{only_item}
 
 pub returns-in-Some-clause-text : goal.returns-in-Some-clause-text
 returns-in-Some-clause-text g c =

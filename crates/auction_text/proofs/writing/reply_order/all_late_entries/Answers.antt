@@ -1,7 +1,6 @@
 use Rattle.std.proofs.Common.{arith, ◌∷◌, [], ap, length, length-append, subst, sym}
+use Rattle.auction_text.proofs.{EachLemmas.{each_more}, PartLemmas.{all_below}}
 use Rattle.auction_text.specs.inner.Workers.{AreEach, late_of}
-use Rattle.auction_text.proofs.EachLemmas.{each_more}
-use Rattle.auction_text.proofs.PartLemmas.{all_below}
 use Rattle.auction_text.proofs.writing.reply_order.all_late_entries.Goals as goal
 
 pub loop-worker-preserved : goal.loop-worker-preserved

@@ -1,5 +1,4 @@
-use Rattle.std.proofs.Common.{◌++◌, ◌∙◌, Ok, ap, map}
-use Rattle.std.specs.Vec.Iter.{into_iter_items}
+use Rattle.std.{proofs.Common.{◌++◌, ◌∙◌, Ok, ap, map}, specs.Vec.Iter.{into_iter_items}}
 use Rattle.auction_text.proofs.EachLemmas.{all_made_at_end, made_more, none_left}
 use Rattle.auction_text.proofs.writing.reply_order.all_made.Goals as goal
 

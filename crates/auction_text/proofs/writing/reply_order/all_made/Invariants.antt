@@ -1,5 +1,4 @@
-use Rattle.std.proofs.Common.{◌≡◌, ◌++◌, Ok, map}
-use Rattle.std.specs.Vec.Iter.{into_iter_items}
+use Rattle.std.{proofs.Common.{◌≡◌, ◌++◌, Ok, map}, specs.Vec.Iter.{into_iter_items}}
 use Rattle.auction_text.proofs.writing.reply_order.all_made.Given as goal
 
 -- the texts so far, and what is left

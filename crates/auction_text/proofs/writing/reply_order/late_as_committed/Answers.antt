@@ -3,11 +3,10 @@ use Rattle.std.proofs.lemmas.List.{append-nil}
 use Rattle.phase_laws.specs.Order.{part}
 use Rattle.auction_rows.specs.declared.rows.Entry.{Entry}
 use Rattle.worker_journals.specs.Journals.{entry_worker}
-use Rattle.auction_text.specs.Order.{comes_before}
-use Rattle.auction_text.specs.inner.Turns.{late}
 use Rattle.auction_text.proofs.OwnTurns.{AreOf, HasLast, late_by_index, part_own, pass_on}
 use Rattle.auction_text.proofs.TurnLemmas.{late-late, late-in_turn}
 use Rattle.auction_text.proofs.writing.reply_order.late_as_committed.Goals.{then-is_late+in_ok-push, else-is_late}
+use Rattle.auction_text.specs.{Order.{comes_before}, inner.Turns.{late}}
 use Rattle.auction_text.proofs.writing.reply_order.late_as_committed.Goals as goal
 
 pub loop-next-init : goal.loop-next-init

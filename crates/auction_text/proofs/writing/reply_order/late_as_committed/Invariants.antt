@@ -1,9 +1,8 @@
 use Rattle.std.proofs.Common.{◌≡◌, ◌++◌, None}
 use Rattle.phase_laws.specs.Order.{part}
 use Rattle.worker_journals.specs.Journals.{entry_worker}
-use Rattle.auction_text.specs.Order.{comes_before}
+use Rattle.auction_text.{proofs.OwnTurns.{AreOf, HasLast}, specs.Order.{comes_before}}
 use Rattle.auction_text.specs.inner.Turns.{late}
-use Rattle.auction_text.proofs.OwnTurns.{AreOf, HasLast}
 use Rattle.auction_text.proofs.writing.reply_order.late_as_committed.Given as goal
 
 -- the late entries so far, and those of the entries that are left

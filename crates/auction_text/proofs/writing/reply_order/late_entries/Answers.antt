@@ -1,9 +1,7 @@
-use Rattle.std.proofs.Common.{rules, ◌∙◌, List, ap}
-use Rattle.std.proofs.lemmas.List.Sorted.{answers_always}
+use Rattle.std.proofs.{Common.{rules, ◌∙◌, List, ap}, lemmas.List.Sorted.{answers_always}}
 use Rattle.auction_rows.specs.declared.rows.Entry.{Entry}
+use Rattle.auction_text.proofs.{PartLemmas.{entry_order}, SortLemmas.{sorted_once}}
 use Rattle.auction_text.specs.Order.{comes_before, in_order}
-use Rattle.auction_text.proofs.PartLemmas.{entry_order}
-use Rattle.auction_text.proofs.SortLemmas.{sorted_once}
 use Rattle.auction_text.proofs.writing.reply_order.late_entries.Goals as goal
 
 pub returns : goal.returns

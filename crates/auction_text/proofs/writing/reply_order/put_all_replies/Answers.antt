@@ -3,15 +3,12 @@ use Rattle.std.specs.Prelude.{slice_index}
 use Rattle.phase_laws.specs.Order.{part}
 use Rattle.auction_rows.specs.declared.rows.Entry.{Entry}
 use Rattle.worker_journals.specs.Journals.{entry_worker}
-use Rattle.auction_text.specs.Moved.{BeforeView, all_moved, gone_by}
-use Rattle.auction_text.specs.Order.{in_order}
-use Rattle.auction_text.specs.Replies.{lines}
-use Rattle.auction_text.specs.inner.Putting.{line_after}
-use Rattle.auction_text.specs.inner.Workers.{late_of, replies_of}
-use Rattle.auction_text.proofs.EachLemmas.{each_at}
-use Rattle.auction_text.proofs.MovedLemmas.{replies_of-moved, workers-moved}
+use Rattle.auction_text.proofs.{EachLemmas.{each_at}, MovedLemmas.{replies_of-moved, workers-moved}}
 use Rattle.auction_text.proofs.PutLemmas.{put_failed, told_all, told_more, told_none, told_part}
 use Rattle.auction_text.proofs.WorkerReplies.{next_worker, no_worker, replies_from, replies_of_all}
+use Rattle.auction_text.specs.{Moved.{BeforeView, all_moved, gone_by}, Order.{in_order}}
+use Rattle.auction_text.specs.{Replies.{lines}, inner.Putting.{line_after}}
+use Rattle.auction_text.specs.inner.Workers.{late_of, replies_of}
 use Rattle.auction_text.proofs.writing.reply_order.put_all_replies.Goals as goal
 
 pub loop-worker-init : goal.loop-worker-init

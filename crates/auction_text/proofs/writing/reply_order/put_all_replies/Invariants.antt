@@ -1,8 +1,6 @@
 use Rattle.std.proofs.Common.{◌-◌, length}
-use Rattle.auction_text.specs.Moved.{all_moved, gone_by}
-use Rattle.auction_text.specs.Replies.{replies_text}
-use Rattle.auction_text.proofs.PutLemmas.{IsTold}
-use Rattle.auction_text.proofs.WorkerReplies.{replies_from}
+use Rattle.auction_text.proofs.{PutLemmas.{IsTold}, WorkerReplies.{replies_from}}
+use Rattle.auction_text.specs.{Moved.{all_moved, gone_by}, Replies.{replies_text}}
 use Rattle.auction_text.proofs.writing.reply_order.put_all_replies.Given as goal
 
 -- the replies of the workers so far, and those of the workers that are left

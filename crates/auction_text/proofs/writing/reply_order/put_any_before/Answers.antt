@@ -1,11 +1,7 @@
-use Rattle.std.proofs.Common.{◌≡◌, ◌∙◌, [], ap, arith, drop, sym}
-use Rattle.std.proofs.lemmas.List.{drop_all}
-use Rattle.auction_text.specs.Order.{comes_before}
-use Rattle.auction_text.specs.Replies.{lines}
-use Rattle.auction_text.specs.inner.Putting.{line_after}
+use Rattle.std.proofs.{Common.{◌≡◌, ◌∙◌, [], ap, arith, drop, sym}, lemmas.List.{drop_all}}
+use Rattle.auction_text.proofs.{PutLemmas.{nothing_put}, TurnLemmas.{front-none, rest-none}}
+use Rattle.auction_text.specs.{Order.{comes_before}, Replies.{lines}, inner.Putting.{line_after}}
 use Rattle.auction_text.specs.inner.Turns.{front, rest}
-use Rattle.auction_text.proofs.PutLemmas.{nothing_put}
-use Rattle.auction_text.proofs.TurnLemmas.{front-none, rest-none}
 use Rattle.auction_text.proofs.writing.reply_order.put_any_before.Goals as goal
 
 pub returns : goal.returns

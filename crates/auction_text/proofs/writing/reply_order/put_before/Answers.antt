@@ -1,14 +1,12 @@
 use Rattle.std.proofs.Common.{rules, ◌≡◌, ◌+◌, ◌∙◌, ℕ, List, [], ◌∷◌, Option, Result, Ok, Err, IsErrAnd, ap, arith, drop, refl, sym}
 use Rattle.std.proofs.lemmas.List.{drop_all}
 use Rattle.auction_rows.specs.declared.rows.Entry.{Entry}
-use Rattle.auction_text.specs.Order.{comes_before}
-use Rattle.auction_text.specs.Replies.{lines}
-use Rattle.byte_texts.specs.declared.writing.WriteFault.{WriteFault}
-use Rattle.auction_text.specs.inner.Putting.{PutsFront, PutsText, line_after}
-use Rattle.auction_text.specs.inner.Turns.{front, rest}
 use Rattle.auction_text.proofs.PutLemmas.{put_failed, told_all, told_more, told_none, told_part}
 use Rattle.auction_text.proofs.TurnLemmas.{drop_next, front-end, front-more, front-none, rest-end, rest-more, rest-none}
+use Rattle.auction_text.specs.{Order.{comes_before}, Replies.{lines}}
+use Rattle.auction_text.specs.inner.{Putting.{PutsFront, PutsText, line_after}, Turns.{front, rest}}
 use Rattle.auction_text.proofs.writing.reply_order.put_before.Goals as goal
+use Rattle.byte_texts.specs.declared.writing.WriteFault.{WriteFault}
 
 -- where the writer failed, no place is given
 front_failed : {W : Type 0} (contents : W → Option (List ℕ)) (old new : W) (waiting left : List ℕ) (gone : ℕ) (entries : List Entry) (from : ℕ) (e : Entry)

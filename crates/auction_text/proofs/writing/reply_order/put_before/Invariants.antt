@@ -1,9 +1,6 @@
 use Rattle.std.proofs.Common.{◌≡◌, ◌≤◌, ◌-◌, drop, length}
-use Rattle.auction_text.specs.Order.{comes_before}
-use Rattle.auction_text.specs.Replies.{lines}
-use Rattle.auction_text.specs.inner.Putting.{line_after}
-use Rattle.auction_text.specs.inner.Turns.{front, rest}
-use Rattle.auction_text.proofs.PutLemmas.{IsTold}
+use Rattle.auction_text.{proofs.PutLemmas.{IsTold}, specs.{Order.{comes_before}, Replies.{lines}}}
+use Rattle.auction_text.specs.inner.{Putting.{line_after}, Turns.{front, rest}}
 use Rattle.auction_text.proofs.writing.reply_order.put_before.Given as goal
 
 -- the lines so far, and those that are left

@@ -1,9 +1,7 @@
-use Rattle.std.proofs.Common.{◌+◌, ap, drop, refl}
-use Rattle.std.proofs.lemmas.List.{drop_all}
-use Rattle.auction_text.specs.Replies.{lines}
-use Rattle.auction_text.specs.inner.Putting.{line_after}
+use Rattle.std.proofs.{Common.{◌+◌, ap, drop, refl}, lemmas.List.{drop_all}}
 use Rattle.auction_text.proofs.PutLemmas.{put_failed, told_all, told_more, told_none, told_part}
-use Rattle.auction_text.proofs.TurnLemmas.{drop_next}
+use Rattle.auction_text.{proofs.TurnLemmas.{drop_next}, specs.Replies.{lines}}
+use Rattle.auction_text.specs.inner.Putting.{line_after}
 use Rattle.auction_text.proofs.writing.reply_order.put_replies.Goals as goal
 
 pub loop-entry-init : goal.loop-entry-init

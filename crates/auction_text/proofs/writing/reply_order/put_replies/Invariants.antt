@@ -1,7 +1,6 @@
 use Rattle.std.proofs.Common.{drop}
-use Rattle.auction_text.specs.Replies.{lines}
+use Rattle.auction_text.{proofs.PutLemmas.{IsTold}, specs.Replies.{lines}}
 use Rattle.auction_text.specs.inner.Putting.{line_after}
-use Rattle.auction_text.proofs.PutLemmas.{IsTold}
 use Rattle.auction_text.proofs.writing.reply_order.put_replies.Given as goal
 
 abbrev pub invariant-loop-entry : goal.invariant-loop-entry

@@ -1,18 +1,15 @@
 use Rattle.std.proofs.Common.{rules, ℕ, ◌≡◌, ◌∙◌, ◌∷◌, ◌++◌, false, List, [], Option, Some, None, ap, arith, drop, refl, subst, sym}
-use Rattle.std.proofs.lemmas.Grind.{flat_map-append}
-use Rattle.std.proofs.lemmas.List.{take_rest}
+use Rattle.std.proofs.lemmas.{Grind.{flat_map-append}, List.{take_rest}}
 use Rattle.phase_laws.specs.Order.{part}
 use Rattle.auction_rows.specs.declared.rows.Entry.{Entry}
 use Rattle.worker_journals.specs.Journals.{entry_worker}
-use Rattle.auction_text.specs.Order.{comes_before, sorted}
-use Rattle.auction_text.specs.Replies.{lines}
-use Rattle.auction_text.specs.inner.Putting.{line_after}
-use Rattle.auction_text.specs.inner.Turns.{front, in_turn, is_late, late, rest}
-use Rattle.auction_text.proofs.OwnTurns.{AreOf, late_by_index, part_own}
-use Rattle.auction_text.proofs.PartLemmas.{entry_order}
+use Rattle.auction_text.proofs.{OwnTurns.{AreOf, late_by_index, part_own}, PartLemmas.{entry_order}}
 use Rattle.auction_text.proofs.PutLemmas.{put_failed, put_last, told_more, told_none, told_part}
 use Rattle.auction_text.proofs.SortLemmas.{IsUp, sorted-up, up-sorted}
 use Rattle.auction_text.proofs.TurnLemmas.{after_last, in_turn-in_turn, in_turn-late, in_turn-none, next_in_turn, turns_in_order, up-rest}
+use Rattle.auction_text.specs.{Order.{comes_before, sorted}, Replies.{lines}}
+use Rattle.auction_text.specs.inner.Putting.{line_after}
+use Rattle.auction_text.specs.inner.Turns.{front, in_turn, is_late, late, rest}
 use Rattle.auction_text.proofs.writing.reply_order.put_replies_of.Goals as goal
 
 -- what is left of the lines: those of the late entries before the next in turn, its own, and the others

@@ -1,14 +1,10 @@
 use Rattle.std.proofs.Common.{◌≤◌, ◌++◌, drop, length}
 use Rattle.phase_laws.specs.Order.{part}
 use Rattle.worker_journals.specs.Journals.{entry_worker}
-use Rattle.auction_text.specs.Order.{comes_before, in_order, sorted}
-use Rattle.auction_text.specs.Replies.{lines}
-use Rattle.auction_text.specs.inner.Putting.{line_after}
-use Rattle.auction_text.specs.inner.Turns.{in_turn}
-use Rattle.auction_text.proofs.OwnTurns.{AreOf, HasLast}
-use Rattle.auction_text.proofs.PartLemmas.{entry_order}
-use Rattle.auction_text.proofs.PutLemmas.{IsTold}
-use Rattle.auction_text.proofs.SortLemmas.{IsUp}
+use Rattle.auction_text.proofs.{OwnTurns.{AreOf, HasLast}, PartLemmas.{entry_order}}
+use Rattle.auction_text.proofs.{PutLemmas.{IsTold}, SortLemmas.{IsUp}}
+use Rattle.auction_text.specs.{Order.{comes_before, in_order, sorted}, Replies.{lines}}
+use Rattle.auction_text.specs.inner.{Putting.{line_after}, Turns.{in_turn}}
 use Rattle.auction_text.proofs.writing.reply_order.put_replies_of.Given as goal
 
 -- the lines so far, and those that are left: of the late entries, in order, and of the entries in turn

@@ -1,9 +1,8 @@
 use Rattle.std.proofs.Common.{◌∙◌, ◌++◌, ℕ, List, ap}
 use Rattle.phase_laws.specs.Order.{part}
 use Rattle.worker_journals.specs.Journals.{entry_worker}
+use Rattle.auction_text.proofs.{MovedLemmas.{lines_after_none}, PutLemmas.{in_memory}}
 use Rattle.auction_text.specs.Order.{in_order}
-use Rattle.auction_text.proofs.MovedLemmas.{lines_after_none}
-use Rattle.auction_text.proofs.PutLemmas.{in_memory}
 use Rattle.auction_text.proofs.writing.reply_order.worker_text.Goals as goal
 
 pub put_replies_of-requires : goal.put_replies_of-requires

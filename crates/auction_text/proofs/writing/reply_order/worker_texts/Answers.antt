@@ -1,7 +1,5 @@
-use Rattle.std.proofs.Common.{arith, Ok}
-use Rattle.std.proofs.lemmas.Result.{IfOk-weaker}
-use Rattle.auction_text.specs.inner.Workers.{AreEach, replies_of}
-use Rattle.auction_text.proofs.EachLemmas.{made_at}
+use Rattle.std.proofs.{Common.{arith, Ok}, lemmas.Result.{IfOk-weaker}}
+use Rattle.auction_text.{proofs.EachLemmas.{made_at}, specs.inner.Workers.{AreEach, replies_of}}
 use Rattle.auction_text.proofs.writing.reply_order.worker_texts.Goals as goal
 
 pub returns-clause-each : goal.returns-clause-each

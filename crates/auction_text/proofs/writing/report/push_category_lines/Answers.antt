@@ -1,6 +1,6 @@
 use Rattle.std.proofs.Common.{◌∙◌, ◌++◌, List, ℕ, ap}
-use Rattle.auction_text.specs.Report.{category_line}
 use Rattle.auction_text.proofs.NumberedLemmas.{numbered_all, numbered_more}
+use Rattle.auction_text.specs.Report.{category_line}
 use Rattle.auction_text.proofs.writing.report.push_category_lines.Goals as goal
 
 pub loop-category-preserved : goal.loop-category-preserved

@@ -1,7 +1,7 @@
 use Rattle.std.proofs.Common.{◌∙◌, ◌++◌, List, ℕ, ap, map}
 use Rattle.auction_rows.specs.declared.requests.Object.{Object}
-use Rattle.auction_text.specs.Report.{hot_line}
 use Rattle.auction_text.proofs.NumberedLemmas.{numbered_all, numbered_more-map}
+use Rattle.auction_text.specs.Report.{hot_line}
 use Rattle.auction_text.proofs.writing.report.push_hot_lines.Goals as goal
 
 pub loop-phase-preserved : goal.loop-phase-preserved

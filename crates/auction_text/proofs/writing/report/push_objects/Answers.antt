@@ -1,6 +1,5 @@
 use Rattle.std.proofs.Common.{[]}
-use Rattle.auction_text.specs.Report.{object_text}
-use Rattle.auction_text.proofs.ListedLemmas.{all_listed, read_listed}
+use Rattle.auction_text.{proofs.ListedLemmas.{all_listed, read_listed}, specs.Report.{object_text}}
 use Rattle.auction_text.proofs.writing.report.push_objects.Goals as goal
 
 pub loop-object-preserved : goal.loop-object-preserved

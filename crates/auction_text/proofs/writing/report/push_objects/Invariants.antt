@@ -1,5 +1,4 @@
-use Rattle.std.proofs.Common.{◌≡◌, ◌++◌, take}
-use Rattle.std.specs.List.{flat_map}
+use Rattle.std.{proofs.Common.{◌≡◌, ◌++◌, take}, specs.List.{flat_map}}
 use Rattle.auction_text.specs.Report.{object_text}
 use Rattle.auction_text.proofs.writing.report.push_objects.Given as goal
 

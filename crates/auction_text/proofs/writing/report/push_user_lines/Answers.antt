@@ -1,6 +1,6 @@
 use Rattle.std.proofs.Common.{◌∙◌, ◌++◌, List, ℕ, ap}
-use Rattle.auction_text.specs.Report.{user_line}
 use Rattle.auction_text.proofs.NumberedLemmas.{numbered_all, numbered_more}
+use Rattle.auction_text.specs.Report.{user_line}
 use Rattle.auction_text.proofs.writing.report.push_user_lines.Goals as goal
 
 pub loop-user-preserved : goal.loop-user-preserved

@@ -1,6 +1,6 @@
 use Rattle.std.proofs.Common.{[]}
-use Rattle.auction_text.specs.RowLines.{byte_in_quotes}
 use Rattle.auction_text.proofs.ListedLemmas.{all_listed, read_listed}
+use Rattle.auction_text.specs.RowLines.{byte_in_quotes}
 use Rattle.auction_text.proofs.writing.rows.push_bytes_in_quotes.Goals as goal
 
 pub loop-byte-preserved : goal.loop-byte-preserved

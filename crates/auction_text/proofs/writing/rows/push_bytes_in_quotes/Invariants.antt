@@ -1,5 +1,4 @@
-use Rattle.std.proofs.Common.{◌≡◌, ◌++◌, take}
-use Rattle.std.specs.List.{flat_map}
+use Rattle.std.{proofs.Common.{◌≡◌, ◌++◌, take}, specs.List.{flat_map}}
 use Rattle.auction_text.specs.RowLines.{byte_in_quotes}
 use Rattle.auction_text.proofs.writing.rows.push_bytes_in_quotes.Given as goal
 

@@ -1,6 +1,5 @@
 use Rattle.std.proofs.Common.{[]}
-use Rattle.auction_text.specs.RowLines.{row_line}
-use Rattle.auction_text.proofs.ListedLemmas.{all_listed, one_listed}
+use Rattle.auction_text.{proofs.ListedLemmas.{all_listed, one_listed}, specs.RowLines.{row_line}}
 use Rattle.auction_text.proofs.writing.rows.push_rows.Goals as goal
 
 pub loop-row-preserved : goal.loop-row-preserved

@@ -1,10 +1,8 @@
 use Rattle.std.proofs.Common.{◌≡◌, ◌∙◌, ◌++◌, ◌∷◌, option_to_list, List, ℕ, Option, Some, None, ap, refl, sym, append_assoc}
-use Rattle.std.proofs.lemmas.Grind.{flat_map-append}
-use Rattle.std.proofs.lemmas.List.{append-nil}
-use Rattle.auction_rows.specs.declared.rows.{Row.Row, Entry.Entry}
+use Rattle.std.proofs.lemmas.{Grind.{flat_map-append}, List.{append-nil}}
 use Rattle.auction_rows.specs.History.{row_of_entry, rows_of}
-use Rattle.auction_text.specs.Replies.{lines}
-use Rattle.auction_text.specs.RowLines.{row_line}
+use Rattle.auction_rows.specs.declared.rows.{Row.Row, Entry.Entry}
+use Rattle.auction_text.specs.{Replies.{lines}, RowLines.{row_line}}
 use Rattle.auction_text.proofs.writing.rows.push_rows_of.Goals as goal
 
 -- the rows of an entry, and of those after it

@@ -1,7 +1,6 @@
 use Rattle.std.proofs.Common.{◌≡◌, ◌++◌, ◌∙◌, ℕ, List, ap, ap₂}
-use Rattle.auction_text.specs.Moved.{gone_by, moved}
-use Rattle.auction_text.specs.Replies.{history_line}
 use Rattle.auction_text.proofs.PutLemmas.{line_put, none_put, part_of_line, put_failed}
+use Rattle.auction_text.specs.{Moved.{gone_by, moved}, Replies.{history_line}}
 use Rattle.auction_text.proofs.writing.text_blocks.put_entry.Goals as goal
 
 pub returns-in_default : goal.returns-in_default

@@ -1,7 +1,6 @@
 use Rattle.std.proofs.Common.{arith, ◌≡◌, ◌+◌, ◌++◌, ◌∙◌, ℕ, ap}
-use Rattle.auction_text.specs.Replies.{reply_line}
-use Rattle.auction_text.specs.inner.Putting.{line_after}
 use Rattle.auction_text.proofs.PutLemmas.{line_put, none_put, part_of_line, put_failed}
+use Rattle.auction_text.specs.{Replies.{reply_line}, inner.Putting.{line_after}}
 use Rattle.auction_text.proofs.writing.text_blocks.put_reply.Goals as goal
 
 pub returns-in_default : goal.returns-in_default

@@ -1,5 +1,4 @@
-use Rattle.std.proofs.Common.{◌+◌, [], ap, drop, refl}
-use Rattle.std.proofs.lemmas.List.{drop_all}
+use Rattle.std.proofs.{Common.{◌+◌, [], ap, drop, refl}, lemmas.List.{drop_all}}
 use Rattle.std.specs.List.{flat_map}
 use Rattle.auction_text.proofs.PutLemmas.{adds_part, put_failed, told_all, told_more, told_none, told_part}
 use Rattle.auction_text.proofs.TurnLemmas.{drop_next}

@@ -1,5 +1,4 @@
-use Rattle.std.proofs.Common.{[], drop}
-use Rattle.std.specs.List.{flat_map}
+use Rattle.std.{proofs.Common.{[], drop}, specs.List.{flat_map}}
 use Rattle.auction_text.proofs.PutLemmas.{IsTold}
 use Rattle.auction_text.proofs.writing.text_blocks.write_parts.Given as goal
 

@@ -1,5 +1,4 @@
-use Rattle.std.proofs.Common.{arith, ◌∙◌, sym}
-use Rattle.std.proofs.lemmas.Result.{IfOk-from_err}
+use Rattle.std.proofs.{Common.{arith, ◌∙◌, sym}, lemmas.Result.{IfOk-from_err}}
 use Rattle.auction_window.proofs.publisher.Publisher.new.Goals as goal
 
 pub returns-in_err-first-clause-publisher : goal.returns-in_err-first-clause-publisher

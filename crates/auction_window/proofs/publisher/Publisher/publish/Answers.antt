@@ -1,5 +1,4 @@
-use Rattle.std.proofs.Common.{arith, length, true, sym, ap, ◌∙◌}
-use Rattle.std.proofs.lemmas.Bool.{false≢true}
+use Rattle.std.proofs.{Common.{arith, length, true, sym, ap, ◌∙◌}, lemmas.Bool.{false≢true}}
 use Rattle.std.proofs.lemmas.Result.{IfOk-from_err, MatchResult-from_err}
 use Rattle.auction_window.specs.Published.{Published}
 use Rattle.auction_window.proofs.publisher.Publisher.publish.Goals as goal

@@ -1,6 +1,5 @@
 use Rattle.std.proofs.Common.{◌≡◌, [], ◌∙◌, Err, None, Ok, Option, Result, Some, refl, sym}
-use Rattle.std.proofs.lemmas.Bool.{false≢true}
-use Rattle.std.proofs.lemmas.List.{append-nil}
+use Rattle.std.proofs.lemmas.{Bool.{false≢true}, List.{append-nil}}
 use Rattle.auction_window.proofs.window.Window.view.Goals as goal
 
 err_or_ok : {T E A : Type 0} {shown : Result T E} {fault : E} {seen : T} → shown ≡ Err fault → shown ≡ Ok seen → A

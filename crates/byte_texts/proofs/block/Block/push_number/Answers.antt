@@ -1,5 +1,4 @@
-use Rattle.std.proofs.Common.{◌∙◌, ◌++◌, List, ℕ, ap, arith, sym}
-use Rattle.std.proofs.lemmas.Fmt.{decimal_digit}
+use Rattle.std.proofs.{Common.{◌∙◌, ◌++◌, List, ℕ, ap, arith, sym}, lemmas.Fmt.{decimal_digit}}
 use Rattle.byte_texts.proofs.block.Block.push_number.Goals as goal
 
 pub returns-then-number-lt10-clause-text : goal.returns-then-number-lt10-clause-text

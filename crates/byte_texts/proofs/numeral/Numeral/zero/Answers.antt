@@ -1,5 +1,4 @@
-use Rattle.std.proofs.Common.{◌≤◌, arith, sym}
-use Rattle.std.proofs.lemmas.Fmt.{decimal_digit}
+use Rattle.std.proofs.{Common.{◌≤◌, arith, sym}, lemmas.Fmt.{decimal_digit}}
 use Rattle.byte_texts.proofs.numeral.Numeral.zero.Goals as goal
 
 pub invariant_of-result : goal.invariant_of-result

@@ -1,10 +1,8 @@
 use Rattle.std.proofs.Common.{◌≡◌, ◌∙◌, false, length, refl, sym, ap, subst, arith}
-use Rattle.std.specs.List.{each_same}
+use Rattle.std.{proofs.lemmas.List.{length-replicate}, specs.List.{each_same}}
 use Rattle.std.specs.Prelude.{replicate}
-use Rattle.std.proofs.lemmas.List.{length-replicate}
-use Rattle.history_check.specs.Marks.{is_marked}
+use Rattle.history_check.{proofs.ScriptLemmas.{unmarked_new, wide_new}, specs.Marks.{is_marked}}
 use Rattle.history_check.specs.inner.MarkRows.{AreWide}
-use Rattle.history_check.proofs.ScriptLemmas.{unmarked_new, wide_new}
 use Rattle.history_check.proofs.replay.Marks.new.Goals as goal
 
 pub invariant_of-result : goal.invariant_of-result

@@ -1,10 +1,9 @@
 use Rattle.std.proofs.Common.{◌≡◌, ◌∙◌, sym, ap, subst}
-use Rattle.auction_rows.specs.declared.{values.Opening.Opening, replies.Reply.Reply}
 use Rattle.auction_rows.specs.Replies.{next, reply}
-use Rattle.item_shards.specs.declared.serial.SerialAuction.{SerialAuction}
+use Rattle.auction_rows.specs.declared.{values.Opening.Opening, replies.Reply.Reply}
 use Rattle.item_shards.specs.Serial.{HoldsBook, serial_opening}
-use Rattle.history_check.specs.declared.replay.Replay.{Replay}
-use Rattle.history_check.specs.inner.Replaying.{HasCompared}
+use Rattle.item_shards.specs.declared.serial.SerialAuction.{SerialAuction}
+use Rattle.history_check.specs.{declared.replay.Replay.{Replay}, inner.Replaying.{HasCompared}}
 use Rattle.history_check.proofs.replay.Replay.is_due.Goals as goal
 
 -- what changes with the reply that was due is not the auction

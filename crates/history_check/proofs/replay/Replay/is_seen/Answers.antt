@@ -1,5 +1,4 @@
-use Rattle.std.proofs.Common.{◌∙◌, sym, ap, subst, refl}
-use Rattle.std.proofs.lemmas.Bool.{false≢true}
+use Rattle.std.proofs.{Common.{◌∙◌, sym, ap, subst, refl}, lemmas.Bool.{false≢true}}
 use Rattle.auction_rows.specs.declared.replies.Reply.{Reply}
 use Rattle.auction_text.specs.Replies.{reply_text}
 use Rattle.history_check.specs.inner.Replaying.{HasCompared}

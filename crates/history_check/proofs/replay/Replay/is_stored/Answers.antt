@@ -1,8 +1,5 @@
-use Rattle.std.proofs.Common.{◌∙◌, sym, ap}
-use Rattle.std.specs.Prelude.{Some}
-use Rattle.std.proofs.lemmas.Bool.{false≢true}
-use Rattle.auction_rows.specs.StoreReplies.{reply_of}
-use Rattle.auction_rows.specs.declared.replies.Reply.{Reply}
+use Rattle.std.{proofs.{Common.{◌∙◌, sym, ap}, lemmas.Bool.{false≢true}}, specs.Prelude.{Some}}
+use Rattle.auction_rows.specs.{StoreReplies.{reply_of}, declared.replies.Reply.{Reply}}
 use Rattle.history_check.specs.declared.lines.Wrong.TheVariants.{Due}
 use Rattle.history_check.specs.inner.Replaying.{HasCompared}
 use Rattle.history_check.proofs.replay.Replay.is_stored.Goals as goal

@@ -1,7 +1,7 @@
 use Rattle.std.proofs.Common.{◌≡◌, ◌<◌, length, true, arith, ap}
 use Rattle.run_laws.specs.Serving.{script_of}
-use Rattle.history_check.specs.Marks.{is_marked}
 use Rattle.history_check.proofs.ScriptLemmas.{script_there, worker_within, one_worker_more}
+use Rattle.history_check.specs.Marks.{is_marked}
 use Rattle.history_check.proofs.replay.Replay.lacks.Goals as goal
 
 pub lacks-requires-clause-places : goal.lacks-requires-clause-places

@@ -1,23 +1,15 @@
 use Rattle.std.proofs.Common.{◌≡◌, ◌<◌, length, Bool, true, false, Option, Some, get_or, [], ◌∷◌, ◌++◌, cond, arith, refl, ap, sym, ◌∙◌, subst}
-use Rattle.std.specs.Bool.{OnFalse, OnTrue}
-use Rattle.std.specs.Prelude.{count_by, IsSomeAnd}
-use Rattle.std.specs.List.{AllByRecursion}
-use Rattle.std.proofs.lemmas.List.{length-append}
-use Rattle.auction_rows.specs.Book.{Book}
-use Rattle.auction_rows.specs.History.{book_after}
-use Rattle.auction_rows.specs.Replies.{reply, next}
+use Rattle.std.{proofs.lemmas.List.{length-append}, specs.Bool.{OnFalse, OnTrue}}
+use Rattle.std.specs.{List.{AllByRecursion}, Prelude.{count_by, IsSomeAnd}}
+use Rattle.auction_rows.specs.{Book.{Book}, History.{book_after}, Replies.{reply, next}}
 use Rattle.item_shards.specs.Serial.{HoldsBook, serial_opening}
-use Rattle.history_check.specs.declared.lines.Wrong.{Wrong}
-use Rattle.history_check.specs.Checking.{IsWrong}
-use Rattle.history_check.specs.Taking.{HasTaken}
-use Rattle.history_check.specs.inner.Replaying.{HasCompared, is_late}
-use Rattle.history_check.specs.Scripts.{is_of, request_at}
-use Rattle.history_check.specs.CommitIds.{entry_with_id}
-use Rattle.history_check.specs.Orders.{MayPrecede}
-use Rattle.history_check.specs.Marks.{is_marked}
-use Rattle.history_check.proofs.ScriptLemmas.{worker_below, index_below}
 use Rattle.history_check.proofs.EntryLemmas.{book_more, not_many_more, well_more, marks_more}
+use Rattle.history_check.proofs.ScriptLemmas.{worker_below, index_below}
 use Rattle.history_check.proofs.TurnLemmas.{may_stand, may_not_stand, turns_more}
+use Rattle.history_check.specs.{Checking.{IsWrong}, CommitIds.{entry_with_id}, Marks.{is_marked}}
+use Rattle.history_check.specs.{Orders.{MayPrecede}, Scripts.{is_of, request_at}, Taking.{HasTaken}}
+use Rattle.history_check.specs.declared.lines.Wrong.{Wrong}
+use Rattle.history_check.specs.inner.Replaying.{HasCompared, is_late}
 use Rattle.history_check.proofs.replay.Replay.perform_at.Goals as goal
 
 pub has-requires-clause-worker : goal.has-requires-clause-worker

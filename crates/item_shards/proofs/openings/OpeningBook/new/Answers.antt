@@ -1,12 +1,10 @@
 use Rattle.std.proofs.Common.{◌≡◌, ◌+◌, ◌<◌, ◌∷◌, [], ◌++◌, refl, sym, ap, subst, ◌∙◌, length, take, take_all, ℕ, ◌≤◌, All}
-use Rattle.std.proofs.lemmas.Bool.{eqb-true}
-use Rattle.std.proofs.lemmas.List.{nil_from_length}
-use Rattle.auction_rows.specs.Book.{Book}
-use Rattle.auction_rows.specs.History.{IsBook}
+use Rattle.std.proofs.lemmas.{Bool.{eqb-true}, List.{nil_from_length}}
+use Rattle.auction_rows.specs.{Book.{Book}, History.{IsBook}}
+use Rattle.item_shards.proofs.OpeningBookLemmas.{not_full, not_last, rows_more, book_more, first_bad, is_book, has_workers, has_few, row_moved, not_rows, fits_in, neither, not_long, not_row, no_fault, for_memory, same_number}
 use Rattle.item_shards.specs.Counting.{worker_of}
 use Rattle.item_shards.specs.OpeningRows.{rows_by, opening_rows, with_opened, IsRow, AreRows, IsFirstBad, IsTooLong}
 use Rattle.item_shards.specs.Serial.{serial_opening, HoldsBook}
-use Rattle.item_shards.proofs.OpeningBookLemmas.{not_full, not_last, rows_more, book_more, first_bad, is_book, has_workers, has_few, row_moved, not_rows, fits_in, neither, not_long, not_row, no_fault, for_memory, same_number}
 use Rattle.item_shards.proofs.openings.OpeningBook.new.Goals as goal
 
 pub add_opened-requires : goal.add_opened-requires

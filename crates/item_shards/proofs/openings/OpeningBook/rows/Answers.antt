@@ -1,6 +1,5 @@
 use Rattle.std.proofs.Math.Logic.{∥∥₁_elim}
-use Rattle.item_shards.specs.OpeningBooks.{rows_of_book}
-use Rattle.item_shards.proofs.OneProof.{IsWithinLimits-prop}
+use Rattle.item_shards.{proofs.OneProof.{IsWithinLimits-prop}, specs.OpeningBooks.{rows_of_book}}
 use Rattle.item_shards.proofs.openings.OpeningBook.rows.Goals as goal
 
 pub returns-in-Some-clause-limits : goal.returns-in-Some-clause-limits

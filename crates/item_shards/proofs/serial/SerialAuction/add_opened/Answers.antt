@@ -1,7 +1,7 @@
 use Rattle.std.proofs.Common.{sym, ap, ◌∙◌, arith}
 use Rattle.auction_rows.specs.Replies.{row_of}
-use Rattle.item_shards.specs.Serial.{serial_opening}
 use Rattle.item_shards.proofs.OpeningLemmas.{none_for, some_for, no_row_added, row_added}
+use Rattle.item_shards.specs.Serial.{serial_opening}
 use Rattle.item_shards.proofs.serial.SerialAuction.add_opened.Goals as goal
 
 pub returns-clause-bad : goal.returns-clause-bad

@@ -1,11 +1,9 @@
-use Rattle.std.proofs.Common.{◌<◌, ◌++◌, ◌∷◌, [], take, sym, subst, ◌∙◌}
-use Rattle.std.proofs.lemmas.List.{take_all}
+use Rattle.std.proofs.{Common.{◌<◌, ◌++◌, ◌∷◌, [], take, sym, subst, ◌∙◌}, lemmas.List.{take_all}}
 use Rattle.std.proofs.lemmas.List.Elements.{All-get_or}
-use Rattle.auction_rows.specs.declared.{values.Opening.Opening, rows.Row.Row}
 use Rattle.auction_rows.specs.History.{GoOn}
-use Rattle.item_shards.specs.Counting.{worker_of}
-use Rattle.item_shards.specs.Serial.{HoldsBook, serial_opening}
+use Rattle.auction_rows.specs.declared.{values.Opening.Opening, rows.Row.Row}
 use Rattle.item_shards.proofs.SerialLemmas.{either_way, one_more, next_goes_on, front_not_full}
+use Rattle.item_shards.specs.{Counting.{worker_of}, Serial.{HoldsBook, serial_opening}}
 use Rattle.item_shards.proofs.serial.SerialAuction.add_rows.Goals as goal
 
 pub store-requires : goal.store-requires

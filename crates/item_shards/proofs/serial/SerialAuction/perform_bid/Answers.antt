@@ -1,15 +1,12 @@
 use Rattle.std.proofs.Common.{◌≡◌, ◌∷◌, [], ◌++◌, Some, None, true, sym, subst, ◌∙◌, arith}
-use Rattle.auction_rows.specs.declared.requests.Object.TheVariants.{Item}
 use Rattle.auction_rows.specs.Refusals.{number_refusal, refusal}
-use Rattle.item_shards.specs.Answering.{bid_request}
-use Rattle.item_shards.specs.Contents.{after_acts}
-use Rattle.item_shards.specs.Counting.{AreFew}
-use Rattle.item_shards.specs.Serial.{HoldsBook, serial_opening}
-use Rattle.item_shards.specs.ShardContents.{contents}
-use Rattle.item_shards.specs.Writing.{writes_of}
+use Rattle.auction_rows.specs.declared.requests.Object.TheVariants.{Item}
 use Rattle.item_shards.proofs.BidLemmas.{bid_fits, bid_row, by_opening, next_id, refused_as, refused_by_number, refused_next, refused_reply, stored_next, stored_reply}
 use Rattle.item_shards.proofs.SerialLemmas.{counted_in, counts_next, limits_next, none_counted, stands_after, stored_few}
-use Rattle.item_shards.proofs.StandingLemmas.{stands_moved}
+use Rattle.item_shards.{proofs.StandingLemmas.{stands_moved}, specs.Answering.{bid_request}}
+use Rattle.item_shards.specs.{Contents.{after_acts}, Counting.{AreFew}}
+use Rattle.item_shards.specs.{Serial.{HoldsBook, serial_opening}, ShardContents.{contents}}
+use Rattle.item_shards.specs.Writing.{writes_of}
 use Rattle.item_shards.proofs.serial.SerialAuction.perform_bid.Goals as goal
 
 pub try_bid-requires-clause-count : goal.try_bid-requires-clause-count

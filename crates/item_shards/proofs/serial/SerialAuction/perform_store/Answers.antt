@@ -1,11 +1,9 @@
 use Rattle.std.proofs.Common.{◌≡◌, ◌<◌, Option, None, Some, ◌++◌, sym, ap, subst, ◌∙◌, option_to_list}
 use Rattle.std.proofs.lemmas.List.{append-nil}
-use Rattle.auction_rows.specs.declared.rows.Row.{Row}
-use Rattle.auction_rows.specs.Book.{Book}
-use Rattle.auction_rows.specs.Replies.{next, reply, row_of}
-use Rattle.item_shards.specs.Serial.{serial_opening, HoldsBook}
+use Rattle.auction_rows.specs.{Book.{Book}, Replies.{next, reply, row_of}, declared.rows.Row.{Row}}
 use Rattle.item_shards.proofs.BidLemmas.{id_at_hand}
 use Rattle.item_shards.proofs.SerialLemmas.{goes_on, view_adds_none, worker_of_added}
+use Rattle.item_shards.specs.Serial.{serial_opening, HoldsBook}
 use Rattle.item_shards.proofs.serial.SerialAuction.perform_store.Goals as goal
 
 pub perform_bid-requires-clause-id : goal.perform_bid-requires-clause-id

@@ -1,8 +1,7 @@
 use Rattle.std.proofs.Common.{◌≡◌, [], Some, None, refl, ◌∙◌, rules}
-use Rattle.auction_rows.specs.Requests.{item_of}
-use Rattle.auction_rows.specs.Refusals.{number_refusal}
-use Rattle.item_shards.specs.Serial.{serial_opening}
+use Rattle.auction_rows.specs.{Refusals.{number_refusal}, Requests.{item_of}}
 use Rattle.item_shards.proofs.SerialLemmas.{refused_by_stock, refused_by_item}
+use Rattle.item_shards.specs.Serial.{serial_opening}
 use Rattle.item_shards.proofs.serial.SerialAuction.refusal.Goals as goal
 
 pub returns : goal.returns

@@ -1,8 +1,8 @@
 use Rattle.std.proofs.Common.{◌∙◌, ap, get_or, sym}
-use Rattle.auction_rows.specs.declared.replies.Reply.TheVariants.{ItemStored, BidStored, CommentStored, Bought}
 use Rattle.auction_rows.specs.Replies.{answer, answer_unless}
-use Rattle.item_shards.specs.declared.serial.StoreCounts.{StoreCounts}
+use Rattle.auction_rows.specs.declared.replies.Reply.TheVariants.{ItemStored, BidStored, CommentStored, Bought}
 use Rattle.item_shards.proofs.SerialLemmas.{none_counted, stored_reply}
+use Rattle.item_shards.specs.declared.serial.StoreCounts.{StoreCounts}
 use Rattle.item_shards.proofs.serial.SerialAuction.reply_to_store.Goals as goal
 
 pub returns-in-Some : goal.returns-in-Some

@@ -1,15 +1,11 @@
 use Rattle.std.proofs.Common.{◌≡◌, ◌∷◌, [], ◌++◌, true, sym, ap, subst, get_or, set, ◌∙◌}
-use Rattle.std.specs.Prelude.{slice_get}
-use Rattle.item_shards.specs.declared.serial.StoreCounts.{StoreCounts}
-use Rattle.item_shards.specs.Contents.{after_acts}
-use Rattle.item_shards.specs.Writing.{writes_of}
-use Rattle.std.proofs.lemmas.Option.{get_or_from_slice_get}
-use Rattle.item_shards.specs.Counting.{stored_by, worker_of, counted, AreFew}
-use Rattle.item_shards.specs.Limits.{IsWithinLimits}
-use Rattle.item_shards.specs.Serial.{serial_opening}
-use Rattle.item_shards.specs.ShardContents.{contents}
+use Rattle.std.{proofs.lemmas.Option.{get_or_from_slice_get}, specs.Prelude.{slice_get}}
 use Rattle.item_shards.proofs.SerialLemmas.{after_own, either_way, counts_next, limits_next, stored_few, stands_after, writes_can_be_done}
-use Rattle.item_shards.proofs.StandingLemmas.{stands_moved}
+use Rattle.item_shards.{proofs.StandingLemmas.{stands_moved}, specs.Contents.{after_acts}}
+use Rattle.item_shards.specs.Counting.{stored_by, worker_of, counted, AreFew}
+use Rattle.item_shards.specs.{Limits.{IsWithinLimits}, Serial.{serial_opening}}
+use Rattle.item_shards.specs.{ShardContents.{contents}, Writing.{writes_of}}
+use Rattle.item_shards.specs.declared.serial.StoreCounts.{StoreCounts}
 use Rattle.item_shards.proofs.serial.SerialAuction.store.Goals as goal
 
 abbrev none : StoreCounts

@@ -1,10 +1,8 @@
 use Rattle.std.proofs.Common.{get_or, sym, ap, subst, ◌∙◌, List}
-use Rattle.item_shards.specs.declared.shard.acts.Act.{Act}
-use Rattle.item_shards.specs.Acting.{CanActIn, CanDo}
-use Rattle.item_shards.specs.Contents.{Contents, after_act, after_acts}
-use Rattle.item_shards.specs.Looking.{event_at, events_of}
-use Rattle.item_shards.specs.ShardContents.{contents, rooms}
 use Rattle.item_shards.proofs.CommitLemmas.{two_of, can_next, same_on}
+use Rattle.item_shards.specs.{Acting.{CanActIn, CanDo}, Contents.{Contents, after_act, after_acts}}
+use Rattle.item_shards.specs.{Looking.{event_at, events_of}, ShardContents.{contents, rooms}}
+use Rattle.item_shards.specs.declared.shard.acts.Act.{Act}
 use Rattle.item_shards.proofs.shard.Shard.apply_acts.Goals as goal
 
 pub act-requires : goal.act-requires

@@ -1,9 +1,7 @@
 use Rattle.std.proofs.Common.{Option, Some, None, IfSome, ap, sym, ◌∙◌, rules}
 use Rattle.std.specs.Prelude.{is_some}
-use Rattle.auction_rows.specs.declared.requests.Facts.{Facts}
-use Rattle.auction_rows.specs.declared.requests.Object.TheVariants.{Item}
-use Rattle.item_shards.specs.Values.{Value}
-use Rattle.item_shards.specs.ShardContents.{HasItemRoom}
+use Rattle.auction_rows.specs.declared.requests.{Facts.{Facts}, Object.TheVariants.{Item}}
+use Rattle.item_shards.specs.{ShardContents.{HasItemRoom}, Values.{Value}}
 use Rattle.item_shards.proofs.shard.Shard.facts.Goals as goal
 
 pub returns-in-Some-clause-contents : goal.returns-in-Some-clause-contents

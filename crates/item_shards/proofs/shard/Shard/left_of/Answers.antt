@@ -1,7 +1,6 @@
 use Rattle.std.proofs.Common.{ap, ◌∙◌, rules}
 use Rattle.auction_rows.specs.declared.requests.Object.TheVariants.{Item}
-use Rattle.item_shards.specs.Values.{quantity_left}
-use Rattle.item_shards.proofs.AnswerLemmas.{left_is}
+use Rattle.item_shards.{proofs.AnswerLemmas.{left_is}, specs.Values.{quantity_left}}
 use Rattle.item_shards.proofs.shard.Shard.left_of.Goals as goal
 
 pub returns-in-Some-clause-contents : goal.returns-in-Some-clause-contents

@@ -1,7 +1,6 @@
-use Rattle.std.proofs.Common.{◌≡◌}
-use Rattle.std.proofs.lemmas.Result.{on_ok_weaker}
-use Rattle.item_shards.specs.ShardContents.{rooms, shard_count, shard_number, with_room}
+use Rattle.std.proofs.{Common.{◌≡◌}, lemmas.Result.{on_ok_weaker}}
 use Rattle.item_shards.proofs.WriteLemmas.{room_for_item, room_for_other}
+use Rattle.item_shards.specs.ShardContents.{rooms, shard_count, shard_number, with_room}
 use Rattle.item_shards.proofs.shard.Shard.prepare_row.Goals as goal
 
 pub returns-in-Item-clause-room : goal.returns-in-Item-clause-room

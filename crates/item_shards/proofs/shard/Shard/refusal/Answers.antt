@@ -1,11 +1,8 @@
 use Rattle.std.proofs.Common.{◌≡◌, None, option_and_then, refl, sym, ap, ◌∙◌}
-use Rattle.auction_rows.specs.declared.requests.{ItemId.ItemId, Request.Request}
-use Rattle.auction_rows.specs.declared.requests.Object.TheVariants.{Item}
+use Rattle.auction_rows.specs.{Requests.{item_of}, declared.requests.Object.TheVariants.{Item}}
 use Rattle.auction_rows.specs.declared.requests.Request.TheVariants.{StoreItem, ViewCategory, ViewUser}
-use Rattle.auction_rows.specs.Requests.{item_of}
-use Rattle.item_shards.specs.Answering.{refusal_with}
-use Rattle.item_shards.specs.ShardContents.{contents}
-use Rattle.item_shards.specs.Values.{stock}
+use Rattle.auction_rows.specs.declared.requests.{ItemId.ItemId, Request.Request}
+use Rattle.item_shards.specs.{Answering.{refusal_with}, ShardContents.{contents}, Values.{stock}}
 use Rattle.item_shards.proofs.shard.Shard.refusal.Goals as goal
 
 -- a request that needs no item is not refused by one

@@ -1,7 +1,6 @@
 use Rattle.std.proofs.Common.{ap, ◌∙◌, rules}
 use Rattle.auction_rows.specs.declared.requests.Object.TheVariants.{Item}
-use Rattle.item_shards.specs.Values.{stock}
-use Rattle.item_shards.proofs.AnswerLemmas.{stock_is}
+use Rattle.item_shards.{proofs.AnswerLemmas.{stock_is}, specs.Values.{stock}}
 use Rattle.item_shards.proofs.shard.Shard.stock.Goals as goal
 
 pub returns-in-Some-clause-contents : goal.returns-in-Some-clause-contents

@@ -1,9 +1,8 @@
 use Rattle.std.proofs.Common.{◌+◌, ◌<◌, ◌^◌, refl, subst, ◌∙◌}
 use Rattle.auction_rows.specs.declared.requests.Object.TheVariants.{Item}
-use Rattle.item_shards.specs.Contents.{bid_on}
-use Rattle.item_shards.specs.Values.{Value}
 use Rattle.item_shards.proofs.Changes.{is_same, unchanged}
 use Rattle.item_shards.proofs.Stored.{contents_here, place_filled, value_lent, contents_left, rooms_left}
+use Rattle.item_shards.specs.{Contents.{bid_on}, Values.{Value}}
 use Rattle.item_shards.proofs.shard.Shard.try_bid.Goals as goal
 
 pub bid-requires : goal.bid-requires

@@ -1,9 +1,7 @@
 use Rattle.std.proofs.Common.{sym, ap, ◌∙◌}
 use Rattle.auction_rows.specs.declared.requests.Object.TheVariants.{User}
-use Rattle.item_shards.specs.Slices.{no_comments}
-use Rattle.item_shards.specs.Values.{Value}
-use Rattle.item_shards.proofs.Stored.{contents_here}
-use Rattle.item_shards.proofs.Listed.{lies_below, read_at}
+use Rattle.item_shards.proofs.{Listed.{lies_below, read_at}, Stored.{contents_here}}
+use Rattle.item_shards.specs.{Slices.{no_comments}, Values.{Value}}
 use Rattle.item_shards.proofs.shard.Shard.user_record.Goals as goal
 
 pub returns : goal.returns

@@ -1,8 +1,7 @@
 use Rattle.std.proofs.Common.{ap, ◌∙◌, rules}
 use Rattle.auction_rows.specs.declared.requests.Object.TheVariants.{Item}
+use Rattle.item_shards.{proofs.AnswerLemmas.{bids_reply}, specs.ShardContents.{opening}}
 use Rattle.item_shards.specs.Views.{bids_view}
-use Rattle.item_shards.specs.ShardContents.{opening}
-use Rattle.item_shards.proofs.AnswerLemmas.{bids_reply}
 use Rattle.item_shards.proofs.shard.Shard.view_bids.Goals as goal
 
 pub returns-in-Some-clause-contents : goal.returns-in-Some-clause-contents

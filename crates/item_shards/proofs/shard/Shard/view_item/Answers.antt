@@ -1,9 +1,7 @@
 use Rattle.std.proofs.Common.{ap, sym, ◌∙◌}
-use Rattle.auction_rows.specs.declared.requests.Object.TheVariants.{Item}
-use Rattle.auction_rows.specs.ItemViews.{item_told}
+use Rattle.auction_rows.specs.{ItemViews.{item_told}, declared.requests.Object.TheVariants.{Item}}
+use Rattle.item_shards.{proofs.AnswerLemmas.{item_reply}, specs.ShardContents.{opening}}
 use Rattle.item_shards.specs.Views.{item_view}
-use Rattle.item_shards.specs.ShardContents.{opening}
-use Rattle.item_shards.proofs.AnswerLemmas.{item_reply}
 use Rattle.item_shards.proofs.shard.Shard.view_item.Goals as goal
 
 pub returns-in-Some-clause-contents : goal.returns-in-Some-clause-contents

@@ -1,12 +1,10 @@
 use Rattle.std.proofs.Common.{sym, ap, subst, ◌∙◌}
-use Rattle.item_shards.specs.Acting.{CanActIn}
-use Rattle.item_shards.specs.Contents.{Contents, after_act, after_acts}
+use Rattle.item_shards.proofs.{CommitLemmas.{can_next}, SerialLemmas.{either_way}}
+use Rattle.item_shards.proofs.WriteLemmas.{both_done, can_once_prepared, first_can, second_can}
+use Rattle.item_shards.specs.{Acting.{CanActIn}, Contents.{Contents, after_act, after_acts}}
 use Rattle.item_shards.specs.Looking.{event_at}
 use Rattle.item_shards.specs.ShardContents.{contents, opening, rooms, shard_count, shard_number}
 use Rattle.item_shards.specs.Writing.{writes_of, second_act}
-use Rattle.item_shards.proofs.CommitLemmas.{can_next}
-use Rattle.item_shards.proofs.SerialLemmas.{either_way}
-use Rattle.item_shards.proofs.WriteLemmas.{both_done, can_once_prepared, first_can, second_can}
 use Rattle.item_shards.proofs.shard.Shard.write.Goals as goal
 
 pub returns-in_err-prepare_row-clause-refused : goal.returns-in_err-prepare_row-clause-refused

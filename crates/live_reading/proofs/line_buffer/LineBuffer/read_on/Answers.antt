@@ -1,9 +1,6 @@
-use Rattle.std.proofs.Common.{◌≡◌, ◌∙◌, length, take, ap, sym}
-use Rattle.std.proofs.lemmas.List.{with_items_is}
-use Rattle.std.specs.Vec.{with_items}
-use Rattle.std.specs.Io.KnownBytes.{prepend_known}
-use Rattle.live_reading.specs.LineBuffers.{held}
-use Rattle.live_reading.proofs.LineBufferLemmas.{at_front, reads_behind}
+use Rattle.std.proofs.{Common.{◌≡◌, ◌∙◌, length, take, ap, sym}, lemmas.List.{with_items_is}}
+use Rattle.std.specs.{Io.KnownBytes.{prepend_known}, Vec.{with_items}}
+use Rattle.live_reading.{proofs.LineBufferLemmas.{at_front, reads_behind}, specs.LineBuffers.{held}}
 use Rattle.live_reading.proofs.line_buffer.LineBuffer.read_on.Goals as goal
 
 pub returns-clause-reads : goal.returns-clause-reads

@@ -1,9 +1,9 @@
 use Rattle.std.proofs.Common.{arith, ◌∙◌, ap, length, refl, subst, sym, vec_len}
+use Rattle.live_reading.proofs.LivePartLemmas.{fresh_lines, keeps_workers, part_for}
 use Rattle.live_reading.specs.LiveParts.{IsLivePart, KeepsLiveWorkers}
 use Rattle.live_reading.specs.declared.live_parts.LivePart.{LivePart}
-use Rattle.record_reading.specs.Asking.{Asked}
-use Rattle.live_reading.proofs.LivePartLemmas.{fresh_lines, keeps_workers, part_for}
 use Rattle.live_reading.proofs.live_parts.LiveInput.next_part.Goals as goal
+use Rattle.record_reading.specs.Asking.{Asked}
 
 pub invariant_of-taken-clause-few_rows : goal.invariant_of-taken-clause-few_rows
 invariant_of-taken-clause-few_rows g c =

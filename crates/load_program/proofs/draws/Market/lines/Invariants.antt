@@ -1,6 +1,5 @@
 use Rattle.std.proofs.Common.{◌≡◌, ◌+◌, length}
-use Rattle.load_program.specs.Loads.{EachFrom}
-use Rattle.load_program.specs.Stored.{IsLineAt}
+use Rattle.load_program.specs.{Loads.{EachFrom}, Stored.{IsLineAt}}
 use Rattle.load_program.proofs.draws.Market.lines.Given as goal
 
 abbrev pub invariant-loop-index : goal.invariant-loop-index

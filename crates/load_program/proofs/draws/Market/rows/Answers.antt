@@ -1,6 +1,5 @@
 use Rattle.std.proofs.Common.{rules, ◌≡◌, [], ◌∷◌, ◌++◌}
-use Rattle.load_program.specs.Stored.{IsRowAt}
-use Rattle.load_program.proofs.LoadLemmas.{EachFrom-push}
+use Rattle.load_program.{proofs.LoadLemmas.{EachFrom-push}, specs.Stored.{IsRowAt}}
 use Rattle.load_program.proofs.draws.Market.rows.Goals as goal
 
 pub loop-place-preserved : goal.loop-place-preserved

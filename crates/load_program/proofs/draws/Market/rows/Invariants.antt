@@ -1,6 +1,5 @@
 use Rattle.std.proofs.Common.{◌≡◌, ◌+◌, length}
-use Rattle.load_program.specs.Loads.{EachFrom}
-use Rattle.load_program.specs.Stored.{IsRowAt}
+use Rattle.load_program.specs.{Loads.{EachFrom}, Stored.{IsRowAt}}
 use Rattle.load_program.proofs.draws.Market.rows.Given as goal
 
 abbrev pub invariant-loop-place : goal.invariant-loop-place

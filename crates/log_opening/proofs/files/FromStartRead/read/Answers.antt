@@ -1,5 +1,4 @@
-use Rattle.std.proofs.Common.{rules, ◌≡◌, ◌+◌, take}
-use Rattle.std.proofs.lemmas.List.{length-take-le}
+use Rattle.std.proofs.{Common.{rules, ◌≡◌, ◌+◌, take}, lemmas.List.{length-take-le}}
 use Rattle.log_opening.proofs.FileLemmas.{ends_at, read_from}
 use Rattle.log_opening.proofs.files.FromStartRead.read.Goals as goal
 

@@ -1,12 +1,10 @@
 use Rattle.std.proofs.Common.{◌≡◌, arith, ◌+◌, ◌∙◌, [], ℕ, List, Option, IfSome, length, refl, rules, sym, ap, subst}
-use Rattle.auction_rows.specs.declared.requests.Opened.{Opened}
-use Rattle.auction_rows.specs.Book.{Book}
-use Rattle.auction_text.specs.RowLines.{rows_text}
-use Rattle.auction_text.specs.Scripts.{Asked, input_of}
-use Rattle.log_opening.specs.Differences.{IsFirstDifference}
-use Rattle.log_opening.specs.Parts.{AreRowsFrom, IsFirstRefused, rows_from}
+use Rattle.auction_rows.specs.{Book.{Book}, declared.requests.Opened.{Opened}}
+use Rattle.auction_text.specs.{RowLines.{rows_text}, Scripts.{Asked, input_of}}
 use Rattle.log_opening.proofs.PartLemmas.{fault_place, line_low, place_within}
 use Rattle.log_opening.proofs.ReadingLemmas.{reads_added, rows_within}
+use Rattle.log_opening.specs.Differences.{IsFirstDifference}
+use Rattle.log_opening.specs.Parts.{AreRowsFrom, IsFirstRefused, rows_from}
 use Rattle.log_opening.proofs.parts.ReadRows.add_lines.Goals as goal
 
 pub counted_after-requires : goal.counted_after-requires

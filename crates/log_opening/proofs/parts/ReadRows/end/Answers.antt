@@ -1,7 +1,6 @@
 use Rattle.std.proofs.Common.{arith, rules, ◌≡◌, ◌+◌, ◌∙◌, [], true, sym, ap, refl, take}
 use Rattle.std.proofs.lemmas.List.{append-nil, length-take}
-use Rattle.log_opening.specs.CutRows.{is_cut_row}
-use Rattle.log_opening.proofs.ReadingLemmas.{rows_within}
+use Rattle.log_opening.{proofs.ReadingLemmas.{rows_within}, specs.CutRows.{is_cut_row}}
 use Rattle.log_opening.proofs.parts.ReadRows.end.Goals as goal
 
 pub overflow_add-result : goal.overflow_add-result

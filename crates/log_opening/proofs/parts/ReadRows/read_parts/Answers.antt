@@ -1,13 +1,11 @@
 use Rattle.std.proofs.Common.{arith, ◌≡◌, ◌≤◌, ◌+◌, ◌++◌, ◌∙◌, ℕ, IfSome, length, take, sym, ap, subst}
 use Rattle.std.proofs.lemmas.List.{length-take-le}
 use Rattle.auction_text.specs.ReadFault.TheVariants as read
-use Rattle.log_opening.specs.Opening.{IsRefused, TellsFirst}
-use Rattle.log_opening.specs.Parts.{HasNoEnd}
-use Rattle.log_opening.specs.inner.Reading.{IsReadTo}
-use Rattle.log_opening.specs.declared.opening.OpenFault.{OpenFault}
-use Rattle.log_opening.specs.declared.opening.OpenFault.TheVariants as fault
 use Rattle.log_opening.proofs.PartLemmas.{same_then}
 use Rattle.log_opening.proofs.ReadingLemmas.{error_is, held_more, not_read, read_more, refused_after, rows_within, told_first, told_some, too_long}
+use Rattle.log_opening.specs.{Opening.{IsRefused, TellsFirst}, Parts.{HasNoEnd}}
+use Rattle.log_opening.specs.{declared.opening.OpenFault.{OpenFault}, inner.Reading.{IsReadTo}}
+use Rattle.log_opening.specs.declared.opening.OpenFault.TheVariants as fault
 use Rattle.log_opening.proofs.parts.ReadRows.read_parts.Goals as goal
 
 pub returns-in_default-clause-refused : goal.returns-in_default-clause-refused

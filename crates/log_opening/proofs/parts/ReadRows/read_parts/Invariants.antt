@@ -1,7 +1,6 @@
 use Rattle.std.proofs.Common.{◌≡◌, ◌≤◌, ◌*◌, take, length}
 use Rattle.phase_floor.specs.Adding.{IsSameAuction}
-use Rattle.log_opening.specs.Parts.{HasNoEnd}
-use Rattle.log_opening.specs.inner.Reading.{IsReadTo}
+use Rattle.log_opening.specs.{Parts.{HasNoEnd}, inner.Reading.{IsReadTo}}
 use Rattle.log_opening.proofs.parts.ReadRows.read_parts.Given as goal
 
 abbrev pub invariant-loop : goal.invariant-loop

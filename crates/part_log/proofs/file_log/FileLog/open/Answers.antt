@@ -1,7 +1,5 @@
-use Rattle.std.proofs.Common.{◌∙◌, false, ap, subst, sym, take}
-use Rattle.std.specs.Option.{option_map}
-use Rattle.part_log.specs.Files.{IsKeptIn}
-use Rattle.part_log.proofs.KeptLemmas.{cut_holds, cut_twice}
+use Rattle.std.{proofs.Common.{◌∙◌, false, ap, subst, sym, take}, specs.Option.{option_map}}
+use Rattle.part_log.{proofs.KeptLemmas.{cut_holds, cut_twice}, specs.Files.{IsKeptIn}}
 use Rattle.part_log.proofs.file_log.FileLog.open.Goals as goal
 
 pub invariant_of-result : goal.invariant_of-result

@@ -1,8 +1,8 @@
 use Rattle.std.proofs.Common.{◌≡◌, ◌∙◌, OnOk, ap, refl, subst, sym, take}
 use Rattle.std.specs.Option.{option_map}
-use Rattle.part_log.specs.Files.{LogState}
 use Rattle.part_log.proofs.KeptLemmas.{cut_found, cut_kept, cut_twice, not_cut}
 use Rattle.part_log.proofs.file_log.FileLog.take_back.Goals.{in-Ok, in-Err}
+use Rattle.part_log.specs.Files.{LogState}
 use Rattle.part_log.proofs.file_log.FileLog.take_back.Goals as goal
 
 pub invariant_of-self : goal.invariant_of-self

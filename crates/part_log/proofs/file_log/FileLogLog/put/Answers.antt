@@ -1,9 +1,6 @@
-use Rattle.std.proofs.Common.{◌∙◌, refl, subst, sym, take}
-use Rattle.std.proofs.lemmas.Bool.{false≢true}
-use Rattle.std.specs.Io.KnownBytes.{Appends}
-use Rattle.std.specs.Option.{option_map}
-use Rattle.part_log.specs.Files.{IsKeptIn, LogState}
-use Rattle.part_log.proofs.KeptLemmas.{accepted_more, grown}
+use Rattle.std.proofs.{Common.{◌∙◌, refl, subst, sym, take}, lemmas.Bool.{false≢true}}
+use Rattle.std.specs.{Io.KnownBytes.{Appends}, Option.{option_map}}
+use Rattle.part_log.{proofs.KeptLemmas.{accepted_more, grown}, specs.Files.{IsKeptIn, LogState}}
 use Rattle.part_log.proofs.file_log.FileLogLog.put.Goals as goal
 
 pub returns-clause-accepted : goal.returns-clause-accepted

@@ -1,5 +1,4 @@
-use Rattle.std.proofs.Common.{sym}
-use Rattle.std.proofs.lemmas.Bool.{false≢true}
+use Rattle.std.proofs.{Common.{sym}, lemmas.Bool.{false≢true}}
 use Rattle.part_log.proofs.log.Log.keeps.Goals as goal
 
 pub returns : goal.returns

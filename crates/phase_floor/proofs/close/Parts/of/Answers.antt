@@ -1,12 +1,11 @@
 use Rattle.std.proofs.Common.{◌≡◌, Bool, ◌<◌, ◌++◌, ◌∷◌, [], take, length, sym, ap, ◌∙◌, subst, arith, vec_len}
-use Rattle.std.proofs.lemmas.List.{take_all, take_more}
-use Rattle.std.specs.List.{AllByRecursion}
+use Rattle.std.{proofs.lemmas.List.{take_all, take_more}, specs.List.{AllByRecursion}}
 use Rattle.std.specs.Vec.Iter.{into_iter_items}
 use Rattle.phase_laws.proofs.OrderLemmas.{all_push}
 use Rattle.shard_boxes.proofs.Each.{drop_next, at_head}
 use Rattle.closing_laws.specs.Phases.{no_receipt}
-use Rattle.phase_floor.specs.inner.Parts.{ArePartsOf, IsFinished, slices_kept}
 use Rattle.phase_floor.proofs.PartLemmas.{kept_next, parts_next}
+use Rattle.phase_floor.specs.inner.Parts.{ArePartsOf, IsFinished, slices_kept}
 use Rattle.phase_floor.proofs.close.Parts.of.Goals as goal
 
 pub loop-receipt-preserved : goal.loop-receipt-preserved

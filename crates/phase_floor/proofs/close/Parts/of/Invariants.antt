@@ -1,6 +1,5 @@
 use Rattle.std.proofs.Common.{◌≡◌, ◌+◌, ◌≤◌, false, drop, take, length, vec_len, vec_capacity}
-use Rattle.std.specs.List.{AllByRecursion}
-use Rattle.std.specs.Vec.Iter.{into_iter_items, into_iter_len}
+use Rattle.std.specs.{List.{AllByRecursion}, Vec.Iter.{into_iter_items, into_iter_len}}
 use Rattle.phase_floor.specs.inner.Parts.{ArePartsOf, IsFinished, slices_kept}
 use Rattle.phase_floor.proofs.close.Parts.of.Given as goal
 

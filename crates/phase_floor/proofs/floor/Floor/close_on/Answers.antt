@@ -1,24 +1,19 @@
 use Rattle.std.proofs.Common.{◌≡◌, ◌++◌, ◌+◌, Bool, List, map, length, sym, ap, ◌∙◌, subst, arith}
-use Rattle.std.specs.List.{AllByRecursion}
-use Rattle.std.proofs.lemmas.List.{length-map}
+use Rattle.std.{proofs.lemmas.List.{length-map}, specs.List.{AllByRecursion}}
 use Rattle.auction_rows.specs.declared.rows.Entry.{Entry}
-use Rattle.shard_boxes.specs.Closed.{AreSpent}
-use Rattle.shard_boxes.specs.Keys.{BoxId, KeyState}
-use Rattle.shard_boxes.specs.States.{state_of}
-use Rattle.worker_journals.specs.Histories.{HistoryView}
-use Rattle.worker_journals.specs.Journals.{IsJournalOf}
-use Rattle.worker_journals.specs.Merged.{AreByWorker, added}
+use Rattle.shard_boxes.specs.{Closed.{AreSpent}, Keys.{BoxId, KeyState}, States.{state_of}}
 use Rattle.worker_journals.proofs.AddedLemmas.{added_front, last_merged}
+use Rattle.worker_journals.specs.{Histories.{HistoryView}, Journals.{IsJournalOf}}
+use Rattle.worker_journals.specs.Merged.{AreByWorker, added}
 use Rattle.closing_laws.specs.Phases.{journal_of}
-use Rattle.phase_floor.specs.Closings.{HasReconciled}
-use Rattle.phase_floor.specs.Floors.{FloorState, IsOpen}
-use Rattle.phase_transactions.specs.Workers.{IsEmptyIf}
 use Rattle.phase_floor.proofs.Closings.{nothing_added, in_order, are_spent}
 use Rattle.phase_floor.proofs.Cold.{all_kept, has_settled}
 use Rattle.phase_floor.proofs.Leaving.{shards_one, slices_known, slices_can, reconciled, kept_left, leaves}
+use Rattle.phase_floor.proofs.floor.Floor.close_on.Goals.{After-reconciled-shards}
+use Rattle.phase_floor.specs.{Closings.{HasReconciled}, Floors.{FloorState, IsOpen}}
 use Rattle.phase_floor.proofs.floor.Floor.close_on.Given as given
 use Rattle.phase_floor.proofs.floor.Floor.close_on.Goals as goal
-use Rattle.phase_floor.proofs.floor.Floor.close_on.Goals.{After-reconciled-shards}
+use Rattle.phase_transactions.specs.Workers.{IsEmptyIf}
 
 pub of-requires : goal.of-requires
 of-requires g c =

@@ -1,14 +1,13 @@
 use Rattle.std.proofs.Common.{◌≡◌, ℕ, ◌+◌, ◌<◌, get_or, length, refl, sym, ap, ◌∙◌, subst, arith}
-use Rattle.std.proofs.lemmas.List.{get_or_read}
-use Rattle.std.specs.Vec.Iter.{into_iter_items}
+use Rattle.std.{proofs.lemmas.List.{get_or_read}, specs.Vec.Iter.{into_iter_items}}
 use Rattle.shard_boxes.proofs.Each.{at_head, each_push, drop_next}
 use Rattle.phase_transactions.specs.Workers.{IsEmptyIf, new_worker, no_counters}
 use Rattle.closing_laws.specs.Standing.{counters_at}
-use Rattle.phase_floor.specs.Floors.{FloorState, IsOpen, IsNewPermit, stash_at}
 use Rattle.phase_floor.proofs.BeginLemmas.{begun_next, can_start, kit_cold}
+use Rattle.phase_floor.proofs.floor.Floor.give.Goals.{After-index-counters}
+use Rattle.phase_floor.specs.Floors.{FloorState, IsOpen, IsNewPermit, stash_at}
 use Rattle.phase_floor.proofs.floor.Floor.give.Given as given
 use Rattle.phase_floor.proofs.floor.Floor.give.Goals as goal
-use Rattle.phase_floor.proofs.floor.Floor.give.Goals.{After-index-counters}
 
 pub from_start-requires-clause-kind : goal.from_start-requires-clause-kind
 from_start-requires-clause-kind g c =

@@ -1,22 +1,16 @@
 use Rattle.std.proofs.Common.{◌≡◌, ◌<◌, None, Some, length, refl, sym, ap, subst, ◌∙◌, arith, rules}
+use Rattle.std.proofs.{Math.Nat.{lt_of_not-le}, lemmas.Bool.{false≢true}}
 use Rattle.std.specs.Prelude.{Result, Err, IsErrOf}
-use Rattle.std.proofs.Math.Nat.{lt_of_not-le}
-use Rattle.std.proofs.lemmas.Bool.{false≢true}
-use Rattle.auction_rows.specs.declared.{replies.Refusal.Refusal, rows.Row.Row}
-use Rattle.auction_rows.specs.declared.replies.Refusal.TheVariants.{NoSuchUser}
-use Rattle.auction_rows.specs.Refusals.{refusal}
-use Rattle.auction_rows.specs.Replies.{reply, row_of}
+use Rattle.auction_rows.specs.{Book.{Book, worker_of}, Refusals.{refusal}, Replies.{reply, row_of}}
 use Rattle.auction_rows.specs.Requests.{is_view}
-use Rattle.auction_rows.specs.Book.{Book, worker_of}
+use Rattle.auction_rows.specs.declared.replies.Refusal.TheVariants.{NoSuchUser}
+use Rattle.auction_rows.specs.declared.{replies.Refusal.Refusal, rows.Row.Row}
 use Rattle.item_shards.proofs.OpeningLemmas.{made, row_added, row_at}
 use Rattle.item_shards.proofs.SerialLemmas.{goes_on, worker_of_added}
 use Rattle.closing_laws.specs.Standing.{counters_at}
-use Rattle.phase_floor.specs.declared.adding.AddFault.{AddFault}
-use Rattle.phase_floor.specs.declared.adding.AddFault.TheVariants.{Refused, BadRow}
-use Rattle.phase_floor.specs.Resuming.{counters_in}
-use Rattle.phase_floor.specs.States.{IsBookOf}
-use Rattle.phase_floor.proofs.ResumeLemmas.{each_next}
-use Rattle.phase_floor.proofs.RowLemmas.{view_without_row}
+use Rattle.phase_floor.proofs.{ResumeLemmas.{each_next}, RowLemmas.{view_without_row}}
+use Rattle.phase_floor.specs.{Resuming.{counters_in}, States.{IsBookOf}}
+use Rattle.phase_floor.specs.declared.adding.AddFault.{TheVariants.{Refused, BadRow}, AddFault}
 use Rattle.phase_floor.proofs.joined.Joined.add.Goals as goal
 
 not_view : (reason : Refusal) → IsErrOf {T = Row} (Err (Refused reason)) BadRow → ⊥

@@ -1,9 +1,9 @@
 use Rattle.std.proofs.Common.{[], ◌∷◌, ◌++◌, map, sym, subst, arith}
 use Rattle.auction_rows.specs.History.{GoOn}
 use Rattle.shard_boxes.specs.States.{state_of}
-use Rattle.phase_floor.specs.inner.Rows.{CanTake}
-use Rattle.phase_floor.specs.States.{IsBookOf, IsKept, JoinedState, joined_of}
 use Rattle.phase_floor.proofs.RowLemmas.{book_taken, counted_back, kept_taken, writes}
+use Rattle.phase_floor.specs.States.{IsBookOf, IsKept, JoinedState, joined_of}
+use Rattle.phase_floor.specs.inner.Rows.{CanTake}
 use Rattle.phase_floor.proofs.joined.Joined.add_row.Goals as goal
 
 pub write-requires : goal.write-requires

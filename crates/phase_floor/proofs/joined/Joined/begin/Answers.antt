@@ -1,14 +1,12 @@
 use Rattle.std.proofs.Common.{◌≡◌, ◌+◌, ◌<◌, ◌≤◌, ◌^◌, List, get_or, map, length, refl, sym, ap, ◌∙◌, subst}
-use Rattle.shard_boxes.specs.declared.limits.TheConstants.{MOST_COMMITS}
 use Rattle.shard_boxes.specs.States.{ShardState, AreInitial, state_of}
+use Rattle.shard_boxes.specs.declared.limits.TheConstants.{MOST_COMMITS}
 use Rattle.auction_shards.specs.Shards.{AreOfOne}
 use Rattle.worker_slices.specs.Stashes.{StashState}
-use Rattle.phase_floor.specs.Begins.{asked_in_all}
-use Rattle.phase_floor.specs.inner.Kits.{AreKits}
-use Rattle.phase_floor.specs.Floors.{AreStocksOf, stash_at}
+use Rattle.phase_floor.proofs.{BeginLemmas.{waiting_within, within}, Shards.{one_of_kept}}
+use Rattle.phase_floor.specs.{Begins.{asked_in_all}, Floors.{AreStocksOf, stash_at}}
 use Rattle.phase_floor.specs.States.{JoinedState, IsKept, joined_of, states_of}
-use Rattle.phase_floor.proofs.BeginLemmas.{waiting_within, within}
-use Rattle.phase_floor.proofs.Shards.{one_of_kept}
+use Rattle.phase_floor.specs.inner.Kits.{AreKits}
 use Rattle.phase_floor.proofs.joined.Joined.begin.Goals as goal
 
 pub new_kits-requires-clause-fit : goal.new_kits-requires-clause-fit

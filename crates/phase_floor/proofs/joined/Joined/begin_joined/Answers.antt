@@ -1,13 +1,11 @@
-use Rattle.std.proofs.Common.{[], refl, sym, ap, ◌∙◌, subst}
-use Rattle.std.specs.List.{IsDistinct}
+use Rattle.std.{proofs.Common.{[], refl, sym, ap, ◌∙◌, subst}, specs.List.{IsDistinct}}
 use Rattle.auction_rows.specs.Requests.{same_object}
-use Rattle.phase_floor.specs.Begins.{IsTooLong}
-use Rattle.phase_floor.specs.Floors.{AreStocksOf}
-use Rattle.phase_floor.specs.States.{JoinedState, states_of}
 use Rattle.phase_floor.proofs.BeginLemmas.{fits, joined_memory, joined_too_long, no_stashes, too_long}
+use Rattle.phase_floor.proofs.joined.Joined.begin_joined.Goals.{After-new}
+use Rattle.phase_floor.specs.{Begins.{IsTooLong}, Floors.{AreStocksOf}}
+use Rattle.phase_floor.specs.States.{JoinedState, states_of}
 use Rattle.phase_floor.proofs.joined.Joined.begin_joined.Given as given
 use Rattle.phase_floor.proofs.joined.Joined.begin_joined.Goals as goal
-use Rattle.phase_floor.proofs.joined.Joined.begin_joined.Goals.{After-new}
 
 no_two : IsDistinct same_object []
 unfolding IsDistinct

@@ -1,18 +1,15 @@
-use Rattle.std.proofs.Common.{[], List, refl, sym, ap, ◌∙◌, subst}
-use Rattle.std.proofs.lemmas.Bool.{false≢true}
+use Rattle.std.proofs.{Common.{[], List, refl, sym, ap, ◌∙◌, subst}, lemmas.Bool.{false≢true}}
 use Rattle.std.specs.List.{IsDistinct}
 use Rattle.auction_rows.specs.Requests.{same_object}
-use Rattle.worker_slices.specs.Slicing.{hot_objects}
+use Rattle.worker_slices.{proofs.Places.{distinct_objects}, specs.Slicing.{hot_objects}}
 use Rattle.worker_slices.specs.Stashes.{StashState}
-use Rattle.worker_slices.proofs.Places.{distinct_objects}
-use Rattle.phase_floor.specs.Begins.{IsTooLong}
-use Rattle.phase_floor.specs.inner.Kits.{HaveStashRoom}
-use Rattle.phase_floor.specs.Floors.{AreBegun}
-use Rattle.phase_floor.specs.States.{JoinedState, DoAllExist, states_of}
 use Rattle.phase_floor.proofs.BeginLemmas.{fits, not_too_long, own_stashes, split_memory, split_too_long, split_unknown, too_long}
+use Rattle.phase_floor.proofs.joined.Joined.begin_split_in.Goals.{After-stocks_of}
+use Rattle.phase_floor.specs.{Begins.{IsTooLong}, Floors.{AreBegun}}
+use Rattle.phase_floor.specs.States.{JoinedState, DoAllExist, states_of}
+use Rattle.phase_floor.specs.inner.Kits.{HaveStashRoom}
 use Rattle.phase_floor.proofs.joined.Joined.begin_split_in.Given as given
 use Rattle.phase_floor.proofs.joined.Joined.begin_split_in.Goals as goal
-use Rattle.phase_floor.proofs.joined.Joined.begin_split_in.Goals.{After-stocks_of}
 
 module _ (g : given.Over) (c : After-stocks_of g) where
   -- the hot objects exist

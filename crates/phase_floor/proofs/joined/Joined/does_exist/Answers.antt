@@ -1,7 +1,6 @@
 use Rattle.std.proofs.Common.{rules, ap, ◌∙◌}
 use Rattle.item_shards.specs.Values.{stock}
-use Rattle.phase_floor.specs.States.{states_of}
-use Rattle.phase_floor.proofs.HotItems.{item_exists}
+use Rattle.phase_floor.{proofs.HotItems.{item_exists}, specs.States.{states_of}}
 use Rattle.phase_floor.proofs.joined.Joined.does_exist.Goals as goal
 
 pub returns-in-Item : goal.returns-in-Item

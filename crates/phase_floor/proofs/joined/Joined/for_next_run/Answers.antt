@@ -3,9 +3,9 @@ use Rattle.std.proofs.lemmas.List.Elements.{All-from_recursion}
 use Rattle.auction_rows.specs.Book.{worker_of}
 use Rattle.shard_boxes.specs.States.{state_of}
 use Rattle.closing_laws.specs.Standing.{StandFor}
+use Rattle.phase_floor.proofs.NextRunLemmas.{kept_next, stand_next, stores_within}
 use Rattle.phase_floor.specs.NextRun.{for_next_run}
 use Rattle.phase_floor.specs.States.{joined_of, HasNoBook, IsKept, StandsFor}
-use Rattle.phase_floor.proofs.NextRunLemmas.{kept_next, stand_next, stores_within}
 use Rattle.phase_floor.proofs.joined.Joined.for_next_run.Goals as goal
 
 pub set_commits-requires : goal.set_commits-requires

@@ -1,5 +1,4 @@
-use Rattle.std.proofs.Common.{◌<◌, length, ap, ◌∙◌, arith}
-use Rattle.std.proofs.lemmas.Bool.{le-leb, leb-true}
+use Rattle.std.proofs.{Common.{◌<◌, length, ap, ◌∙◌, arith}, lemmas.Bool.{le-leb, leb-true}}
 use Rattle.std.proofs.lemmas.List.{get_or_read}
 use Rattle.worker_slices.specs.declared.counters.Counters.{Counters}
 use Rattle.phase_transactions.specs.Workers.{no_counters}

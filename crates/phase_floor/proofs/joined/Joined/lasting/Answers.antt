@@ -1,8 +1,7 @@
 use Rattle.std.proofs.Common.{map, sym, ap, subst}
 use Rattle.shard_boxes.specs.States.{state_of}
-use Rattle.phase_floor.specs.NextRun.{lasting}
+use Rattle.phase_floor.{proofs.NextRunLemmas.{kept_longer}, specs.NextRun.{lasting}}
 use Rattle.phase_floor.specs.States.{IsBookOf}
-use Rattle.phase_floor.proofs.NextRunLemmas.{kept_longer}
 use Rattle.phase_floor.proofs.joined.Joined.lasting.Goals as goal
 
 pub invariant_of-result : goal.invariant_of-result

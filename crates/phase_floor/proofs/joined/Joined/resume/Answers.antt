@@ -1,15 +1,11 @@
 use Rattle.std.proofs.Common.{◌<◌, ◌≤◌, ◌∷◌, [], All, length, take, sym, ap, subst, ◌∙◌, arith}
-use Rattle.std.proofs.lemmas.List.{take_all}
-use Rattle.std.proofs.lemmas.List.Elements.{All-get_or}
-use Rattle.auction_rows.specs.Book.{Book, worker_of}
-use Rattle.auction_rows.specs.History.{GoOn, IsBook}
-use Rattle.item_shards.specs.OpeningRows.{rows_by}
-use Rattle.item_shards.proofs.SerialLemmas.{next_goes_on, one_more}
+use Rattle.std.proofs.lemmas.List.{Elements.{All-get_or}, take_all}
+use Rattle.auction_rows.specs.{Book.{Book, worker_of}, History.{GoOn, IsBook}}
+use Rattle.item_shards.{proofs.SerialLemmas.{next_goes_on, one_more}, specs.OpeningRows.{rows_by}}
 use Rattle.worker_slices.specs.declared.counters.Counters.{Counters}
 use Rattle.closing_laws.specs.Standing.{counters_at}
-use Rattle.phase_floor.specs.Resuming.{counters_in}
+use Rattle.phase_floor.{proofs.ResumeLemmas.{before_fewer, each_next}, specs.Resuming.{counters_in}}
 use Rattle.phase_floor.specs.States.{IsBookOf, StandsFor}
-use Rattle.phase_floor.proofs.ResumeLemmas.{before_fewer, each_next}
 use Rattle.phase_floor.proofs.joined.Joined.resume.Goals as goal
 
 pub add_row-requires : goal.add_row-requires

@@ -1,8 +1,7 @@
 use Rattle.std.proofs.Common.{◌≡◌, ℕ, ◌<◌, length, take}
 use Rattle.auction_rows.specs.declared.limits.TheConstants.{MOST_OF_A_WORKER}
 use Rattle.closing_laws.specs.Standing.{counters_at}
-use Rattle.phase_floor.specs.Resuming.{counters_in}
-use Rattle.phase_floor.specs.States.{IsBookOf}
+use Rattle.phase_floor.specs.{Resuming.{counters_in}, States.{IsBookOf}}
 use Rattle.phase_floor.proofs.joined.Joined.resume.Given as goal
 
 abbrev pub invariant-loop-row : goal.invariant-loop-row

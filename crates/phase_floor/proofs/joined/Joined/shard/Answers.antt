@@ -1,8 +1,7 @@
 use Rattle.std.proofs.Common.{[], map, sym, ap, ◌∙◌, subst}
 use Rattle.shard_boxes.specs.States.{state_of}
 use Rattle.auction_shards.specs.Shards.{ShardsStandFor, value_on}
-use Rattle.phase_floor.specs.States.{JoinedState, states_of}
-use Rattle.phase_floor.proofs.Shards.{opening_kept}
+use Rattle.phase_floor.{proofs.Shards.{opening_kept}, specs.States.{JoinedState, states_of}}
 use Rattle.phase_floor.proofs.joined.Joined.shard.Goals as goal
 
 pub returns-clause-here : goal.returns-clause-here

@@ -1,14 +1,12 @@
 use Rattle.std.proofs.Common.{ℕ, Option, ◌++◌, ◌∷◌, [], ◌<◌, length, get_or, ap, sym, ◌∙◌, subst, arith}
-use Rattle.std.specs.List.{AllByRecursion}
-use Rattle.std.proofs.lemmas.List.{take_more}
-use Rattle.auction_rows.specs.declared.requests.{Facts.Facts, Object.Object}
+use Rattle.std.{proofs.lemmas.List.{take_more}, specs.List.{AllByRecursion}}
 use Rattle.auction_rows.specs.declared.requests.Object.TheVariants.{Item}
+use Rattle.auction_rows.specs.declared.requests.{Facts.Facts, Object.Object}
 use Rattle.phase_laws.proofs.OrderLemmas.{all_push}
 use Rattle.worker_slices.specs.Slicing.{hot_objects, IsStocked}
 use Rattle.closing_laws.specs.Phases.{IsReadFrom}
+use Rattle.phase_floor.proofs.{Every.{at_place}, HotItems.{objects_push}}
 use Rattle.phase_floor.specs.States.{DoesExist, states_of}
-use Rattle.phase_floor.proofs.Every.{at_place}
-use Rattle.phase_floor.proofs.HotItems.{objects_push}
 use Rattle.phase_floor.proofs.joined.Joined.stocks_of.Goals as goal
 
 abbrev none : Object

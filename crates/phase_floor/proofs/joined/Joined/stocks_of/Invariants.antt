@@ -1,5 +1,4 @@
-use Rattle.std.proofs.Common.{◌≡◌, take}
-use Rattle.std.specs.List.{AllByRecursion}
+use Rattle.std.{proofs.Common.{◌≡◌, take}, specs.List.{AllByRecursion}}
 use Rattle.worker_slices.specs.Slicing.{hot_objects, IsStocked}
 use Rattle.closing_laws.specs.Phases.{IsReadFrom}
 use Rattle.phase_floor.specs.States.{states_of}

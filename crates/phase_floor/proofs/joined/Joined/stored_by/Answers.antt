@@ -1,5 +1,4 @@
-use Rattle.std.proofs.Common.{◌<◌, ◌∙◌, length, ap, arith}
-use Rattle.std.proofs.lemmas.List.{get_or_read}
+use Rattle.std.proofs.{Common.{◌<◌, ◌∙◌, length, ap, arith}, lemmas.List.{get_or_read}}
 use Rattle.phase_transactions.specs.Workers.{no_counters}
 use Rattle.closing_laws.specs.Standing.{counters_at, stores}
 use Rattle.phase_floor.specs.States.{JoinedState}

@@ -1,10 +1,8 @@
-use Rattle.std.proofs.Common.{[], map, sym, ap, ◌∙◌, subst}
-use Rattle.std.proofs.lemmas.Option.{IfSome_then}
+use Rattle.std.proofs.{Common.{[], map, sym, ap, ◌∙◌, subst}, lemmas.Option.{IfSome_then}}
 use Rattle.auction_rows.specs.Replies.{reply}
 use Rattle.shard_boxes.specs.States.{state_of}
 use Rattle.auction_shards.specs.Shards.{ShardsStandFor}
-use Rattle.phase_floor.specs.States.{JoinedState, states_of}
-use Rattle.phase_floor.proofs.Shards.{opening_kept}
+use Rattle.phase_floor.{proofs.Shards.{opening_kept}, specs.States.{JoinedState, states_of}}
 use Rattle.phase_floor.proofs.joined.Joined.view.Goals as goal
 
 pub returns-clause-book : goal.returns-clause-book

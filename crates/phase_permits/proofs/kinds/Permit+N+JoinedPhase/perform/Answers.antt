@@ -1,8 +1,7 @@
 use Rattle.std.proofs.Common.{◌≡◌, ◌<◌, Some, length, refl, sym, subst}
 use Rattle.phase_transactions.specs.Performing.{HasCommittedSome, HasDealt}
 use Rattle.phase_transactions.specs.Workers.{WorkerState, last_reply, with_try}
-use Rattle.phase_permits.proofs.LastLemmas.{some_entry, as_read}
-use Rattle.phase_permits.proofs.RightLemmas.{model_reply}
+use Rattle.phase_permits.proofs.{LastLemmas.{some_entry, as_read}, RightLemmas.{model_reply}}
 use Rattle.phase_permits.proofs.kinds.Permit+N+JoinedPhase.perform.Goals as goal
 
 pub last_reply-requires : goal.last_reply-requires

@@ -1,7 +1,6 @@
 use Rattle.std.proofs.Common.{◌<◌, length, sym, ◌≡◌, Some, subst}
 use Rattle.phase_transactions.specs.Workers.{with_first_unstashed, WorkerState, last_reply, with_try}
-use Rattle.phase_permits.proofs.LastLemmas.{some_entry, as_read}
-use Rattle.phase_permits.proofs.RightLemmas.{first_reply_read}
+use Rattle.phase_permits.proofs.{LastLemmas.{some_entry, as_read}, RightLemmas.{first_reply_read}}
 use Rattle.phase_permits.proofs.kinds.Permit+N+JoinedPhase.perform_stashed.Goals.{then-branch, else-branch}
 use Rattle.phase_permits.proofs.kinds.Permit+N+JoinedPhase.perform_stashed.Goals as goal
 

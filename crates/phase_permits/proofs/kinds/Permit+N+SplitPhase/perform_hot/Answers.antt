@@ -1,11 +1,9 @@
-use Rattle.std.proofs.Common.{length, sym, ap, subst}
-use Rattle.std.specs.Prelude.{is_some}
+use Rattle.std.{proofs.Common.{length, sym, ap, subst}, specs.Prelude.{is_some}}
 use Rattle.worker_slices.specs.Homes.{IsHotStore}
+use Rattle.phase_transactions.proofs.EmptyLemmas.{hot_commits}
 use Rattle.phase_transactions.specs.Performing.{HasCommitted, HasCommittedSome}
 use Rattle.phase_transactions.specs.Workers.{WorkerState, IsExplained}
-use Rattle.phase_transactions.proofs.EmptyLemmas.{hot_commits}
-use Rattle.phase_permits.proofs.LastLemmas.{some_entry, as_read}
-use Rattle.phase_permits.proofs.PermitLemmas.{commit_explained}
+use Rattle.phase_permits.proofs.{LastLemmas.{some_entry, as_read}, PermitLemmas.{commit_explained}}
 use Rattle.phase_permits.proofs.RightLemmas.{model_reply}
 use Rattle.phase_permits.proofs.kinds.Permit+N+SplitPhase.perform_hot.Goals as goal
 

@@ -1,9 +1,8 @@
 use Rattle.std.proofs.Common.{rules, length, sym, ap, subst, ◌∙◌}
 use Rattle.phase_transactions.specs.Performing.{IsUntouched}
 use Rattle.phase_transactions.specs.Workers.{WorkerState, IsEmptyIf, with_try}
-use Rattle.phase_permits.specs.inner.Permits.{IsPermit}
 use Rattle.phase_permits.proofs.PermitLemmas.{not_put_off, off_permit, performed_permit, tried_permit}
-use Rattle.phase_permits.proofs.UntouchedLemmas.{leaves_untouched}
+use Rattle.phase_permits.{proofs.UntouchedLemmas.{leaves_untouched}, specs.inner.Permits.{IsPermit}}
 use Rattle.phase_permits.proofs.permit.Permit.commit.Goals as goal
 
 pub invariant_of-self : goal.invariant_of-self

@@ -1,6 +1,5 @@
 use Rattle.std.proofs.Common.{length, refl, sym, subst}
-use Rattle.phase_permits.specs.inner.Permits.{IsPermit}
-use Rattle.phase_permits.proofs.PermitLemmas.{start_explained}
+use Rattle.phase_permits.{proofs.PermitLemmas.{start_explained}, specs.inner.Permits.{IsPermit}}
 use Rattle.phase_permits.proofs.permit.Permit.from_start.Goals as goal
 
 pub invariant_of-result : goal.invariant_of-result

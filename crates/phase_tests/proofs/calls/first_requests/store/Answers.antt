@@ -1,8 +1,6 @@
-use Rattle.std.proofs.Common.{List, slice_get, refl, sym, subst}
-use Rattle.std.specs.Prelude.{IfSome}
+use Rattle.std.{proofs.Common.{List, slice_get, refl, sym, subst}, specs.Prelude.{IfSome}}
 use Rattle.auction_rows.specs.declared.requests.Object.TheVariants.{Item}
-use Rattle.item_shards.specs.declared.shard.Shard.{Shard}
-use Rattle.item_shards.specs.ShardContents.{LiesIn}
+use Rattle.item_shards.specs.{ShardContents.{LiesIn}, declared.shard.Shard.{Shard}}
 use Rattle.phase_tests.proofs.permits.ClosedLemmas.{first_has}
 use Rattle.phase_tests.proofs.calls.first_requests.store.Goals as goal
 

@@ -1,6 +1,5 @@
 use Rattle.std.proofs.Common.{◌∷◌, [], subst, arith}
-use Rattle.phase_floor.specs.Closings.{AreReceiptsOf}
-use Rattle.phase_floor.proofs.Receipts.{begun_receipts}
+use Rattle.phase_floor.{proofs.Receipts.{begun_receipts}, specs.Closings.{AreReceiptsOf}}
 use Rattle.phase_tests.proofs.calls.joined.joined_phase.Goals as goal
 
 pub perform-requires : goal.perform-requires

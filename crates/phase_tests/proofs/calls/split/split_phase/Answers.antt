@@ -1,7 +1,6 @@
 use Rattle.std.proofs.Common.{◌∷◌, [], map, subst, arith}
-use Rattle.phase_floor.specs.Begins.{empty_stash}
+use Rattle.phase_floor.{proofs.Receipts.{begun_receipts}, specs.Begins.{empty_stash}}
 use Rattle.phase_floor.specs.Closings.{AreReceiptsOf}
-use Rattle.phase_floor.proofs.Receipts.{begun_receipts}
 use Rattle.phase_tests.proofs.calls.split.split_phase.Goals as goal
 
 pub perform-requires : goal.perform-requires

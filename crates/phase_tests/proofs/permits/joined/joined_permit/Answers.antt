@@ -1,5 +1,4 @@
-use Rattle.std.proofs.Common.{refl, ap, ◌∙◌, arith}
-use Rattle.std.proofs.lemmas.Bool.{false≢true}
+use Rattle.std.proofs.{Common.{refl, ap, ◌∙◌, arith}, lemmas.Bool.{false≢true}}
 use Rattle.worker_journals.specs.Journals.{JournalView}
 use Rattle.phase_tests.proofs.permits.joined.joined_permit.Goals as goal
 

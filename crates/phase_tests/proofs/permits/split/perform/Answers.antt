@@ -1,7 +1,5 @@
-use Rattle.std.proofs.Common.{ap, subst}
-use Rattle.std.specs.Prelude.{IfOk}
-use Rattle.phase_transactions.specs.Performing.{HasDealtWith}
-use Rattle.phase_transactions.specs.Workers.{WorkerState, with_try}
+use Rattle.std.{proofs.Common.{ap, subst}, specs.Prelude.{IfOk}}
+use Rattle.phase_transactions.specs.{Performing.{HasDealtWith}, Workers.{WorkerState, with_try}}
 use Rattle.phase_tests.proofs.permits.split.perform.Goals as goal
 
 pub returns : goal.returns

@@ -1,15 +1,14 @@
 use Rattle.std.proofs.Common.{◌≡◌, ℕ, List, [], ◌∷◌, Option, Some, None, length, refl, sym, ap, ◌∙◌, arith}
-use Rattle.std.proofs.lemmas.Result.{IfOk-at_ok}
-use Rattle.std.specs.List.{IsDistinct}
-use Rattle.auction_rows.specs.declared.requests.{Facts.Facts, ItemId.ItemId, Object.Object}
-use Rattle.auction_rows.specs.declared.requests.Object.TheVariants.{Item, User}
+use Rattle.std.{proofs.lemmas.Result.{IfOk-at_ok}, specs.List.{IsDistinct}}
 use Rattle.auction_rows.specs.Footprint.{is_hot}
-use Rattle.worker_slices.specs.Slicing.{hot_objects, slices_of, stocks_of}
+use Rattle.auction_rows.specs.declared.requests.Object.TheVariants.{Item, User}
+use Rattle.auction_rows.specs.declared.requests.{Facts.Facts, ItemId.ItemId, Object.Object}
 use Rattle.worker_slices.proofs.Places.{stocks_of_rows}
+use Rattle.worker_slices.specs.Slicing.{hot_objects, slices_of, stocks_of}
 use Rattle.phase_floor.proofs.HotItems.{objects_of_slices}
 use Rattle.phase_tests.proofs.permits.HotLemmas.{only_item, stash_room}
-use Rattle.worker_journals.specs.Journals.{JournalView}
 use Rattle.phase_tests.proofs.permits.split.split_permit.Goals as goal
+use Rattle.worker_journals.specs.Journals.{JournalView}
 
 pub new-requires-clause-distinct : goal.new-requires-clause-distinct
 unfolding IsDistinct

@@ -1,10 +1,8 @@
 use Rattle.std.proofs.Common.{◌<◌, ◌+◌, ◌-◌, refl, sym, ap, subst, ◌∙◌, arith}
 use Rattle.worker_journals.specs.Journals.{JournalView}
-use Rattle.worker_slices.specs.Slicing.{HaveAtMost}
-use Rattle.phase_transactions.specs.WorkerFields.{state_in}
+use Rattle.worker_slices.{proofs.FewLemmas.{few_more}, specs.Slicing.{HaveAtMost}}
+use Rattle.phase_transactions.{proofs.LawfulLemmas.{lawful_as}, specs.WorkerFields.{state_in}}
 use Rattle.phase_transactions.specs.Workers.{WorkerState, with_entry}
-use Rattle.worker_slices.proofs.FewLemmas.{few_more}
-use Rattle.phase_transactions.proofs.LawfulLemmas.{lawful_as}
 use Rattle.phase_transactions.proofs.worker.Worker.add_entry.Goals as goal
 
 pub invariant_of-self : goal.invariant_of-self

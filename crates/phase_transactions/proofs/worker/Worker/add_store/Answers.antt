@@ -1,10 +1,9 @@
 use Rattle.std.proofs.Common.{rules, sym, ap, subst, ◌∙◌}
-use Rattle.auction_rows.specs.Replies.{row_of}
-use Rattle.auction_rows.specs.StoreReplies.{reply_of}
+use Rattle.auction_rows.specs.{Replies.{row_of}, StoreReplies.{reply_of}}
 use Rattle.item_shards.specs.Writing.{writes_if}
 use Rattle.worker_slices.specs.Slicing.{hot_objects, HaveAtMost}
-use Rattle.phase_transactions.specs.Workers.{WorkerState}
 use Rattle.phase_transactions.proofs.LawfulLemmas.{lawful_sliced, objects-acts, counts_one}
+use Rattle.phase_transactions.specs.Workers.{WorkerState}
 use Rattle.phase_transactions.proofs.worker.Worker.add_store.Goals as goal
 
 pub invariant_of-self : goal.invariant_of-self

@@ -1,9 +1,8 @@
 use Rattle.std.proofs.Common.{rules, ◌≤◌, max, subst}
 use Rattle.item_shards.specs.CommitNumbers.{last_number}
+use Rattle.phase_transactions.{proofs.ChainLemmas.{store_fails}, specs.Workers.{WorkerState}}
 use Rattle.phase_transactions.specs.declared.done.PermitFault.TheVariants.{NumberFull}
 use Rattle.phase_transactions.specs.inner.Takens.{footprint_of, greatest_held, held_in, HasTakenAll}
-use Rattle.phase_transactions.specs.Workers.{WorkerState}
-use Rattle.phase_transactions.proofs.ChainLemmas.{store_fails}
 use Rattle.phase_transactions.proofs.worker.Worker.begin.Goals as goal
 
 pub returns-in-None-clause-full : goal.returns-in-None-clause-full

@@ -1,23 +1,18 @@
 use Rattle.std.proofs.Common.{◌≡◌, ℕ, true, Some, None, length, Option, refl, sym, ap, subst, ◌∙◌}
 use Rattle.std.specs.Prelude.{Bool, IsSome, is_some, not}
+use Rattle.auction_rows.specs.{Refusals.{number_refusal}, StoreReplies.{reply_of}}
 use Rattle.auction_rows.specs.declared.requests.Request.{Request}
-use Rattle.auction_rows.specs.Refusals.{number_refusal}
-use Rattle.auction_rows.specs.StoreReplies.{reply_of}
 use Rattle.item_shards.specs.Answering.{bid_request}
-use Rattle.shard_boxes.specs.Helds.{MayPut, taken_at}
-use Rattle.shard_boxes.specs.Keys.{holds_at, putting}
-use Rattle.shard_boxes.specs.Lines.{bid_acts, line_of}
-use Rattle.shard_boxes.specs.States.{state_of}
-use Rattle.phase_transactions.specs.inner.Begun.{step_of}
-use Rattle.phase_transactions.specs.inner.Deeds.{IsReplyUnless}
-use Rattle.worker_slices.specs.Homes.{IsWrittenAt, shard_at}
-use Rattle.phase_transactions.specs.Performing.{HasCommitted, HaveOpening}
-use Rattle.worker_slices.specs.Counting.{IsOwn}
-use Rattle.phase_transactions.specs.Workers.{WorkerState, after_commit, next_bid}
+use Rattle.shard_boxes.specs.{Helds.{MayPut, taken_at}, Keys.{holds_at, putting}}
+use Rattle.shard_boxes.specs.{Lines.{bid_acts, line_of}, States.{state_of}}
 use Rattle.phase_transactions.proofs.BidLemmas.{bid_commits, bid_counts, bid_held, bid_here, bid_own, bid_took_one}
 use Rattle.phase_transactions.proofs.EmptyLemmas.{stored_performed, refused_untaken, hot_untaken}
 use Rattle.phase_transactions.proofs.PutAllLemmas.{acted_holder, acted_may, acted_put}
+use Rattle.phase_transactions.specs.Performing.{HasCommitted, HaveOpening}
+use Rattle.phase_transactions.specs.Workers.{WorkerState, after_commit, next_bid}
+use Rattle.phase_transactions.specs.inner.{Begun.{step_of}, Deeds.{IsReplyUnless}}
 use Rattle.phase_transactions.proofs.worker.Worker.bid.Goals as goal
+use Rattle.worker_slices.specs.{Counting.{IsOwn}, Homes.{IsWrittenAt, shard_at}}
 
 none_of : (o : Option ℕ) (b : Bool) → is_some o ≡ not b → b ≡ true → o ≡ None
 none_of None b is none = refl

@@ -1,5 +1,4 @@
-use Rattle.phase_transactions.specs.Workers.{new_worker}
-use Rattle.phase_transactions.proofs.StartLemmas.{start_lawful}
+use Rattle.phase_transactions.{proofs.StartLemmas.{start_lawful}, specs.Workers.{new_worker}}
 use Rattle.phase_transactions.proofs.worker.Worker.new.Goals as goal
 
 pub invariant_of-result : goal.invariant_of-result

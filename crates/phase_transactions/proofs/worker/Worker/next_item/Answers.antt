@@ -1,10 +1,9 @@
 use Rattle.std.proofs.Common.{ℕ, refl, ap, subst, ◌∙◌}
-use Rattle.auction_rows.specs.declared.requests.ItemId.{ItemId}
+use Rattle.auction_rows.specs.{Footprint.{is_hot}, declared.requests.ItemId.{ItemId}}
 use Rattle.auction_rows.specs.declared.requests.Object.TheVariants.{Item}
-use Rattle.auction_rows.specs.Footprint.{is_hot}
 use Rattle.worker_slices.specs.Slicing.{hot_objects}
-use Rattle.phase_transactions.specs.Workers.{IsLawfulWorker, next_item}
 use Rattle.phase_transactions.proofs.BegunLemmas.{next_cold}
+use Rattle.phase_transactions.specs.Workers.{IsLawfulWorker, next_item}
 use Rattle.phase_transactions.proofs.worker.Worker.next_item.Goals as goal
 
 pub returns-clause-next : goal.returns-clause-next

@@ -1,18 +1,14 @@
 use Rattle.std.proofs.Common.{◌≡◌, length, sym, ap, subst, ◌∙◌}
 use Rattle.auction_rows.specs.StoreReplies.{reply_of}
 use Rattle.shard_boxes.specs.Keys.{KeyState}
-use Rattle.phase_transactions.specs.declared.deeds.Written.{Written}
-use Rattle.phase_transactions.specs.inner.Begun.{step_of}
-use Rattle.phase_transactions.specs.inner.Deeds.{written_of}
-use Rattle.worker_slices.specs.Homes.{IsWrittenAt}
-use Rattle.phase_transactions.specs.Putting.{HasPutAll}
-use Rattle.phase_transactions.specs.inner.HeldShards.{written_acts}
-use Rattle.phase_transactions.specs.inner.Takens.{held_in, numbers_of, is_one_of, dealt, line_among, CanBeDoneOnAll}
-use Rattle.worker_slices.specs.Counting.{IsOwn}
-use Rattle.phase_transactions.specs.Workers.{WorkerState, after_commit}
 use Rattle.phase_transactions.proofs.AnswerLemmas.{own_reply, written_at}
 use Rattle.phase_transactions.proofs.BegunLemmas.{begun_can, begun_commits, begun_good, next_reply, seen_answered}
+use Rattle.phase_transactions.specs.{Putting.{HasPutAll}, Workers.{WorkerState, after_commit}}
+use Rattle.phase_transactions.specs.{declared.deeds.Written.{Written}, inner.Begun.{step_of}}
+use Rattle.phase_transactions.specs.inner.{Deeds.{written_of}, HeldShards.{written_acts}}
+use Rattle.phase_transactions.specs.inner.Takens.{held_in, numbers_of, is_one_of, dealt, line_among, CanBeDoneOnAll}
 use Rattle.phase_transactions.proofs.worker.Worker.put_store.Goals as goal
+use Rattle.worker_slices.specs.{Counting.{IsOwn}, Homes.{IsWrittenAt}}
 
 pub put_all-requires-clause-can : goal.put_all-requires-clause-can
 put_all-requires-clause-can g c =

@@ -2,11 +2,10 @@ use Rattle.std.proofs.Common.{◌≡◌, [], ◌∷◌, sym, ap, subst, ◌∙�
 use Rattle.item_shards.specs.declared.shard.acts.Act.TheVariants.{Look}
 use Rattle.item_shards.specs.declared.shard.acts.Look.TheVariants as look
 use Rattle.shard_boxes.specs.Keys.{KeyState}
-use Rattle.phase_transactions.specs.Putting.{HasPutAll}
+use Rattle.phase_transactions.proofs.ViewLemmas.{view_commits, view_entered}
+use Rattle.phase_transactions.specs.{Putting.{HasPutAll}, Workers.{WorkerState, with_entry}}
 use Rattle.phase_transactions.specs.inner.Begun.{step_of}
 use Rattle.phase_transactions.specs.inner.Takens.{held_in, numbers_of, is_one_of, dealt, line_among}
-use Rattle.phase_transactions.specs.Workers.{WorkerState, with_entry}
-use Rattle.phase_transactions.proofs.ViewLemmas.{view_commits, view_entered}
 use Rattle.phase_transactions.proofs.worker.Worker.put_view.Goals as goal
 
 pub returns : goal.returns

@@ -1,7 +1,7 @@
 use Rattle.std.proofs.Common.{◌≡◌, ◌≤◌, suc, subst}
 use Rattle.item_shards.specs.CommitNumbers.{last_number}
-use Rattle.phase_transactions.specs.Workers.{WorkerState}
 use Rattle.phase_transactions.proofs.AnswerLemmas.{refusal_stored, full_stored}
+use Rattle.phase_transactions.specs.Workers.{WorkerState}
 use Rattle.phase_transactions.proofs.worker.Worker.refuse.Goals as goal
 
 pub returns : goal.returns

@@ -1,6 +1,5 @@
 use Rattle.std.proofs.Common.{Option, refl, sym, subst}
-use Rattle.auction_rows.specs.declared.replies.Refusal.{Refusal}
-use Rattle.auction_rows.specs.declared.replies.Reply.TheVariants.{Refused}
+use Rattle.auction_rows.specs.declared.replies.{Refusal.{Refusal}, Reply.TheVariants.{Refused}}
 use Rattle.phase_transactions.specs.inner.Deeds.{IsReplyUnless}
 use Rattle.phase_transactions.proofs.worker.Worker.reply.Goals as goal
 

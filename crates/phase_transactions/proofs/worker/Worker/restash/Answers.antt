@@ -1,6 +1,5 @@
 use Rattle.std.proofs.Common.{◌≡◌, ◌<◌, ◌+◌, ◌-◌, sym, subst, ◌∙◌, arith}
-use Rattle.phase_transactions.specs.WorkerFields.{state_in}
-use Rattle.phase_transactions.specs.Workers.{WorkerState}
+use Rattle.phase_transactions.specs.{WorkerFields.{state_in}, Workers.{WorkerState}}
 use Rattle.phase_transactions.proofs.worker.Worker.restash.Goals as goal
 
 pub returns-clause-before : goal.returns-clause-before

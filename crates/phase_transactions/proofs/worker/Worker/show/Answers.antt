@@ -1,11 +1,9 @@
 use Rattle.std.proofs.Common.{◌≡◌, Some, length, sym, ap, subst, ◌∙◌}
-use Rattle.auction_rows.specs.declared.requests.Request.{Request}
-use Rattle.auction_rows.specs.Refusals.{number_refusal}
-use Rattle.phase_transactions.specs.inner.Begun.{IsOnOne, step_of}
-use Rattle.phase_transactions.specs.Performing.{HasCommittedSome, HaveOpening}
-use Rattle.phase_transactions.specs.Workers.{WorkerState}
+use Rattle.auction_rows.specs.{Refusals.{number_refusal}, declared.requests.Request.{Request}}
 use Rattle.phase_transactions.proofs.EmptyLemmas.{stored_performed, refused_untaken}
 use Rattle.phase_transactions.proofs.ViewLemmas.{on_one}
+use Rattle.phase_transactions.specs.Performing.{HasCommittedSome, HaveOpening}
+use Rattle.phase_transactions.specs.{Workers.{WorkerState}, inner.Begun.{IsOnOne, step_of}}
 use Rattle.phase_transactions.proofs.worker.Worker.show.Goals as goal
 
 pub returns-in-Some : goal.returns-in-Some

@@ -1,8 +1,7 @@
 use Rattle.std.proofs.Common.{sym, subst}
 use Rattle.auction_rows.specs.declared.replies.Reply.{Reply}
 use Rattle.item_shards.specs.declared.shard.acts.Look.{Look}
-use Rattle.phase_transactions.specs.inner.Begun.{look_for}
-use Rattle.phase_transactions.specs.inner.Viewing.{IsShownBy}
+use Rattle.phase_transactions.specs.inner.{Begun.{look_for}, Viewing.{IsShownBy}}
 use Rattle.phase_transactions.proofs.worker.Worker.show_whole.Goals as goal
 
 pub put_view-requires-clause-begun : goal.put_view-requires-clause-begun

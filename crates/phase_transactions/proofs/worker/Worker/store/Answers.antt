@@ -1,17 +1,14 @@
 use Rattle.std.proofs.Common.{◌≡◌, true, Some, None, length, Result, Ok, Err, sym, ap, subst, ◌∙◌}
 use Rattle.std.specs.Prelude.{is_err, IfErr}
-use Rattle.auction_rows.specs.Refusals.{number_refusal}
-use Rattle.auction_rows.specs.StoreReplies.{reply_of}
-use Rattle.phase_transactions.specs.declared.done.PermitFault.TheVariants.{Memory}
-use Rattle.phase_transactions.specs.inner.Begun.{step_of}
-use Rattle.phase_transactions.specs.Performing.{HasCommitted, HasFailed}
-use Rattle.phase_transactions.specs.inner.Takens.{AreBack}
-use Rattle.phase_transactions.specs.WorkerFields.{state_in}
-use Rattle.phase_transactions.specs.Workers.{WorkerState, IsLawfulWorker}
+use Rattle.auction_rows.specs.{Refusals.{number_refusal}, StoreReplies.{reply_of}}
 use Rattle.phase_transactions.proofs.AnswerLemmas.{reply_by}
 use Rattle.phase_transactions.proofs.BegunLemmas.{begun_fails, item_first, needed_first}
 use Rattle.phase_transactions.proofs.EmptyLemmas.{stored_performed, refused_untaken, hot_untaken}
 use Rattle.phase_transactions.proofs.FirstLemmas.{begun_before}
+use Rattle.phase_transactions.specs.{Performing.{HasCommitted, HasFailed}, WorkerFields.{state_in}}
+use Rattle.phase_transactions.specs.Workers.{WorkerState, IsLawfulWorker}
+use Rattle.phase_transactions.specs.declared.done.PermitFault.TheVariants.{Memory}
+use Rattle.phase_transactions.specs.inner.{Begun.{step_of}, Takens.{AreBack}}
 use Rattle.phase_transactions.proofs.worker.Worker.store.Goals as goal
 
 of_err : {T E : Type 0} {P : Type 0} (result : Result T E) → is_err result ≡ true → IfErr result (λ _. P) → P

@@ -1,9 +1,9 @@
 use Rattle.std.proofs.Common.{◌≡◌, ◌≤◌, suc, subst}
 use Rattle.item_shards.specs.CommitNumbers.{last_number}
-use Rattle.phase_transactions.specs.Workers.{WorkerState}
-use Rattle.auction_rows.specs.StoreReplies.{reply_of}
 use Rattle.phase_transactions.proofs.AnswerLemmas.{hot_stored, hot_answered, full_stored, reply_by}
+use Rattle.phase_transactions.specs.Workers.{WorkerState}
 use Rattle.phase_transactions.proofs.worker.Worker.store_hot.Goals as goal
+use Rattle.auction_rows.specs.StoreReplies.{reply_of}
 
 pub returns : goal.returns
 returns g c =

@@ -1,7 +1,7 @@
 use Rattle.std.proofs.Common.{sym, subst}
 use Rattle.auction_rows.specs.declared.requests.Request.{Request}
-use Rattle.phase_transactions.specs.Performing.{CanTransact, HasPerformed}
 use Rattle.phase_transactions.proofs.ViewLemmas.{view_else}
+use Rattle.phase_transactions.specs.Performing.{CanTransact, HasPerformed}
 use Rattle.phase_transactions.proofs.worker.Worker.transact.Goals as goal
 
 pub transact_bid-requires : goal.transact_bid-requires

@@ -1,6 +1,5 @@
 use Rattle.std.proofs.Common.{◌+◌, ap, ◌∙◌}
-use Rattle.phase_transactions.specs.WorkerFields.{state_in}
-use Rattle.phase_transactions.specs.Workers.{with_first_unstashed}
+use Rattle.phase_transactions.specs.{WorkerFields.{state_in}, Workers.{with_first_unstashed}}
 use Rattle.phase_transactions.proofs.worker.Worker.unstash.Goals as goal
 
 pub returns-clause-called : goal.returns-clause-called

@@ -1,5 +1,4 @@
-use Rattle.std.proofs.Common.{take, ap, arith}
-use Rattle.std.proofs.lemmas.List.{length-take-le}
+use Rattle.std.proofs.{Common.{take, ap, arith}, lemmas.List.{length-take-le}}
 use Rattle.program_progress.proofs.progress.Progress.piece.Goals as goal
 
 -- so many bytes of the front are as many of all

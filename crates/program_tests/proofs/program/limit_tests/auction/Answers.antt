@@ -1,5 +1,4 @@
-use Rattle.std.proofs.Common.{[], arith}
-use Rattle.std.proofs.lemmas.Result.{IfOk-at_ok}
+use Rattle.std.proofs.{Common.{[], arith}, lemmas.Result.{IfOk-at_ok}}
 use Rattle.program_tests.proofs.program.limit_tests.auction.Goals as goal
 
 pub returns : goal.returns

@@ -1,11 +1,9 @@
 use Rattle.std.proofs.Common.{rules, ◌≡◌, ◌<◌, [], ◌∷◌, ◌++◌, true, false, length, refl}
-use Rattle.std.proofs.lemmas.List.{get_or_default}
-use Rattle.std.specs.Prelude.{Ok, Err, OnOk, Result}
-use Rattle.std.specs.Result.{is_ok}
-use Rattle.std.proofs.lemmas.Bool.{false≢true}
+use Rattle.std.proofs.lemmas.{Bool.{false≢true}, List.{get_or_default}}
+use Rattle.std.specs.{Prelude.{Ok, Err, OnOk, Result}, Result.{is_ok}}
 use Rattle.auction_rows.specs.declared.requests.Opened.{Opened}
-use Rattle.record_reading.proofs.inputs.CompactInput.add.Goals as goal
 use Rattle.record_reading.proofs.inputs.CompactInput.add.Goals.{then-said, else-said}
+use Rattle.record_reading.proofs.inputs.CompactInput.add.Goals as goal
 
 -- what is known of a call that went well
 on_ok : {T E P : Type 0} (result : Result T E) → is_ok result ≡ true → OnOk result P → P

@@ -1,6 +1,5 @@
 use Rattle.std.proofs.Common.{arith, ◌≡◌, ◌+◌, ◌∙◌, ◌++◌, ◌∷◌, [], ℕ, List, true, not, replicate, ap, ap₂}
-use Rattle.std.proofs.lemmas.List.{replicate_more}
-use Rattle.std.specs.Result.{is_ok}
+use Rattle.std.{proofs.lemmas.List.{replicate_more}, specs.Result.{is_ok}}
 use Rattle.auction_rows.specs.declared.requests.{Request.Request, Opened.Opened}
 use Rattle.record_reading.specs.Asking.{Asked}
 use Rattle.record_reading.proofs.inputs.CompactInput.with_room.Goals as goal

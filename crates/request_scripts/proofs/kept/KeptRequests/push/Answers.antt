@@ -1,9 +1,8 @@
 use Rattle.std.proofs.Common.{◌<◌, ◌++◌, ◌∷◌, ◌∙◌, [], ap, arith, length, length-append, min, subst, sym}
 use Rattle.std.proofs.lemmas.List.{length-map}
-use Rattle.request_scripts.specs.KeptLists.{KeptList}
-use Rattle.request_scripts.specs.ShortRequests.{facts_in, request_from}
 use Rattle.request_scripts.proofs.RequestLemmas.{one_fact_at_most}
 use Rattle.request_scripts.proofs.ScriptLemmas.{pushed_have, pushed_requests}
+use Rattle.request_scripts.specs.{KeptLists.{KeptList}, ShortRequests.{facts_in, request_from}}
 use Rattle.request_scripts.proofs.kept.KeptRequests.push.Goals as goal
 
 pub keep_request-short-requires : goal.keep_request-short-requires

@@ -1,8 +1,8 @@
 use Rattle.std.proofs.Common.{◌∙◌, ◌++◌, List, ap, ap₂, map}
 use Rattle.auction_rows.specs.declared.requests.Facts.{Facts}
+use Rattle.request_scripts.proofs.AppendLemmas.{appended}
 use Rattle.request_scripts.specs.declared.short_request.ShortRequest.{ShortRequest}
 use Rattle.request_scripts.specs.inner.Shifting.{shifted}
-use Rattle.request_scripts.proofs.AppendLemmas.{appended}
 use Rattle.request_scripts.proofs.script.Script.append.Goals as goal
 
 pub invariant_of-self-2 : goal.invariant_of-self-2

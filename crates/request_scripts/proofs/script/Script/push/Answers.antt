@@ -1,6 +1,5 @@
 use Rattle.std.proofs.Common.{◌++◌, ◌∷◌, [], ap, ◌∙◌}
-use Rattle.request_scripts.specs.ShortRequests.{facts_in}
-use Rattle.request_scripts.proofs.ScriptLemmas.{pushed_requests}
+use Rattle.request_scripts.{proofs.ScriptLemmas.{pushed_requests}, specs.ShortRequests.{facts_in}}
 use Rattle.request_scripts.proofs.script.Script.push.Goals as goal
 
 pub returns-clause-pushed : goal.returns-clause-pushed

@@ -1,10 +1,8 @@
 use Rattle.std.proofs.Common.{◌≡◌, ◌<◌, List, [], length, map, slice_index_or, sym, ap, ◌∙◌, subst}
 use Rattle.std.proofs.lemmas.List.{get_or-map, length-map}
-use Rattle.shard_boxes.specs.States.{state_of}
-use Rattle.shard_boxes.specs.Keys.{BoxId, KeyState, no_key, lines_at}
-use Rattle.shard_boxes.specs.Closed.{AreSpent}
+use Rattle.shard_boxes.{proofs.GrantLemmas.{no_grant, as_many}, specs.Closed.{AreSpent}}
+use Rattle.shard_boxes.specs.{Keys.{BoxId, KeyState, no_key, lines_at}, States.{state_of}}
 use Rattle.shard_boxes.specs.inner.Grants.{AreFree, AreSpare}
-use Rattle.shard_boxes.proofs.GrantLemmas.{no_grant, as_many}
 use Rattle.shard_boxes.proofs.boxes.Boxes.close_kept.Goals as goal
 
 pub returns-clause-closed : goal.returns-clause-closed

@@ -1,7 +1,6 @@
 use Rattle.std.proofs.Common.{◌≡◌, ◌<◌, ◌≤◌, ◌^◌, List, length, get_or, vec_capacity, sym, ◌∙◌, subst}
-use Rattle.shard_boxes.specs.Keys.{BoxId, AreNewKeys}
+use Rattle.shard_boxes.{proofs.GrantLemmas.{as_many_states}, specs.Keys.{BoxId, AreNewKeys}}
 use Rattle.shard_boxes.specs.inner.Grants.{AreSpare, AreNewGrants}
-use Rattle.shard_boxes.proofs.GrantLemmas.{as_many_states}
 use Rattle.shard_boxes.proofs.boxes.Boxes.open.Goals as goal
 
 pub open_all-grants-requires : goal.open_all-grants-requires

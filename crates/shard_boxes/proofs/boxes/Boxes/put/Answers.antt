@@ -1,10 +1,7 @@
 use Rattle.std.proofs.Common.{ℕ, option_map, sym, ap, subst, ◌∙◌}
 use Rattle.item_shards.specs.declared.shard.Shard.{Shard}
-use Rattle.shard_boxes.specs.States.{state_of}
-use Rattle.shard_boxes.specs.Lines.{seen_line}
-use Rattle.shard_boxes.specs.Keys.{putting}
-use Rattle.shard_boxes.specs.Helds.{taken_at, MayGoBack}
-use Rattle.shard_boxes.proofs.EventLemmas.{may_put}
+use Rattle.shard_boxes.{proofs.EventLemmas.{may_put}, specs.Helds.{taken_at, MayGoBack}}
+use Rattle.shard_boxes.specs.{Keys.{putting}, Lines.{seen_line}, States.{state_of}}
 use Rattle.shard_boxes.proofs.boxes.Boxes.put.Goals as goal
 
 pub put-requires-clause-may : goal.put-requires-clause-may

@@ -1,6 +1,5 @@
 use Rattle.std.proofs.Common.{option_map}
-use Rattle.shard_boxes.specs.Helds.{taken_at}
-use Rattle.shard_boxes.specs.Lines.{seen_line}
+use Rattle.shard_boxes.specs.{Helds.{taken_at}, Lines.{seen_line}}
 use Rattle.shard_boxes.proofs.boxes.Boxes.put.Given as goal
 
 -- the line that is put, with what its looks showed

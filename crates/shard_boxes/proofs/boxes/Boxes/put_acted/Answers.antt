@@ -1,9 +1,6 @@
-use Rattle.std.proofs.Common.{ℕ, sym, ap, subst, ◌∙◌}
-use Rattle.std.specs.Prelude.{Some}
+use Rattle.std.{proofs.Common.{ℕ, sym, ap, subst, ◌∙◌}, specs.Prelude.{Some}}
 use Rattle.item_shards.specs.declared.shard.Shard.{Shard}
-use Rattle.shard_boxes.specs.States.{state_of}
-use Rattle.shard_boxes.specs.Keys.{putting}
-use Rattle.shard_boxes.specs.Helds.{taken_at, MayPut}
+use Rattle.shard_boxes.specs.{Helds.{taken_at, MayPut}, Keys.{putting}, States.{state_of}}
 use Rattle.shard_boxes.proofs.boxes.Boxes.put_acted.Goals as goal
 
 pub put-requires-clause-may : goal.put-requires-clause-may

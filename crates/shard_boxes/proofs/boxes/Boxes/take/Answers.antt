@@ -1,8 +1,6 @@
 use Rattle.std.proofs.Common.{sym, subst}
 use Rattle.item_shards.specs.declared.shard.Shard.{Shard}
-use Rattle.shard_boxes.specs.States.{state_of}
-use Rattle.shard_boxes.specs.Lines.{IsShardHistory}
-use Rattle.shard_boxes.specs.Keys.{seen_at}
+use Rattle.shard_boxes.specs.{Keys.{seen_at}, Lines.{IsShardHistory}, States.{state_of}}
 use Rattle.shard_boxes.proofs.boxes.Boxes.take.Goals as goal
 
 pub returns-clause-history : goal.returns-clause-history

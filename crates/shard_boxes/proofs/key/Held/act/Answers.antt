@@ -1,10 +1,7 @@
 use Rattle.std.proofs.Common.{◌≡◌, ◌<◌, sym, ap, subst, ◌∙◌}
-use Rattle.item_shards.specs.Acting.{CanDo}
-use Rattle.item_shards.specs.ShardContents.{clock}
-use Rattle.shard_boxes.specs.Helds.{HeldState}
-use Rattle.shard_boxes.specs.Lines.{after_line, line_of}
-use Rattle.shard_boxes.specs.States.{state_of}
-use Rattle.shard_boxes.proofs.EventLemmas.{line_follows, line_done}
+use Rattle.item_shards.specs.{Acting.{CanDo}, ShardContents.{clock}}
+use Rattle.shard_boxes.{proofs.EventLemmas.{line_follows, line_done}, specs.Helds.{HeldState}}
+use Rattle.shard_boxes.specs.{Lines.{after_line, line_of}, States.{state_of}}
 use Rattle.shard_boxes.proofs.key.Held.act.Goals as goal
 
 pub returns-clause-after : goal.returns-clause-after

@@ -1,13 +1,10 @@
 use Rattle.std.proofs.Common.{◌≡◌, ◌<◌, Option, Some, None, refl, sym, ap, subst, ◌∙◌}
 use Rattle.auction_rows.specs.declared.{requests.ItemId.ItemId, requests.BidEntry.BidEntry, replies.Refusal.Refusal}
-use Rattle.item_shards.specs.Contents.{Contents, after_acts, bid_unless}
-use Rattle.item_shards.specs.Looking.{events_of}
-use Rattle.item_shards.specs.ShardContents.{clock, contents}
 use Rattle.item_shards.proofs.CommitLemmas.{same_on}
-use Rattle.shard_boxes.specs.Helds.{HeldState}
-use Rattle.shard_boxes.specs.Lines.{after_line, bid_acts, line_of}
-use Rattle.shard_boxes.specs.States.{state_of}
-use Rattle.shard_boxes.proofs.EventLemmas.{line_done, line_follows}
+use Rattle.item_shards.specs.{Contents.{Contents, after_acts, bid_unless}, Looking.{events_of}}
+use Rattle.item_shards.specs.ShardContents.{clock, contents}
+use Rattle.shard_boxes.{proofs.EventLemmas.{line_done, line_follows}, specs.Helds.{HeldState}}
+use Rattle.shard_boxes.specs.{Lines.{after_line, bid_acts, line_of}, States.{state_of}}
 use Rattle.shard_boxes.proofs.key.Held.bid.Goals as goal
 
 -- a bid that is refused or stored is its two acts

@@ -1,14 +1,10 @@
 use Rattle.std.proofs.Common.{ℕ, ◌<◌, List, sym, ap, ◌∙◌, subst, arith, length}
-use Rattle.shard_boxes.specs.States.{ShardState, state_of}
-use Rattle.shard_boxes.specs.Lines.{Line, after_lines}
-use Rattle.shard_boxes.specs.Keys.{SeatState, KeyState, seat_at, with_seat, put_seat}
+use Rattle.shard_boxes.proofs.{BoxSteps.{length-with_first}, GrantLemmas.{place_is}}
+use Rattle.shard_boxes.proofs.{KeySteps.{read, key_after, put_seat_is}, Sweeps.{each_set}}
 use Rattle.shard_boxes.specs.Helds.{MayPut}
-use Rattle.shard_boxes.specs.Passes.{GrantState, start_of}
-use Rattle.shard_boxes.specs.Seats.{IsFor}
-use Rattle.shard_boxes.proofs.KeySteps.{read, key_after, put_seat_is}
-use Rattle.shard_boxes.proofs.GrantLemmas.{place_is}
-use Rattle.shard_boxes.proofs.Sweeps.{each_set}
-use Rattle.shard_boxes.proofs.BoxSteps.{length-with_first}
+use Rattle.shard_boxes.specs.Keys.{SeatState, KeyState, seat_at, with_seat, put_seat}
+use Rattle.shard_boxes.specs.{Lines.{Line, after_lines}, Passes.{GrantState, start_of}}
+use Rattle.shard_boxes.specs.{Seats.{IsFor}, States.{ShardState, state_of}}
 use Rattle.shard_boxes.proofs.key.Key.put.Goals as goal
 
 pub put-requires-clause-place : goal.put-requires-clause-place

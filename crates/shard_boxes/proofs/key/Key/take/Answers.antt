@@ -1,13 +1,9 @@
 use Rattle.std.proofs.Common.{◌<◌, ◌++◌, true, ap, sym, ◌∙◌, subst, arith, length}
-use Rattle.shard_boxes.specs.declared.shard_box.Knowledge.{Knowledge}
-use Rattle.shard_boxes.specs.States.{state_of}
-use Rattle.shard_boxes.specs.Lines.{IsShardHistory, lines_of}
-use Rattle.shard_boxes.specs.Passes.{GrantState, start_of}
-use Rattle.shard_boxes.specs.Keys.{KeyState, SeatState, taking}
-use Rattle.shard_boxes.specs.Seats.{own_of}
-use Rattle.shard_boxes.proofs.BoxSteps.{plus_zero}
+use Rattle.shard_boxes.proofs.{BoxSteps.{plus_zero}, GrantLemmas.{history_by}}
 use Rattle.shard_boxes.proofs.KeySteps.{key_after, seen_after, holds_after, read}
-use Rattle.shard_boxes.proofs.GrantLemmas.{history_by}
+use Rattle.shard_boxes.specs.{Keys.{KeyState, SeatState, taking}, Lines.{IsShardHistory, lines_of}}
+use Rattle.shard_boxes.specs.{Passes.{GrantState, start_of}, Seats.{own_of}, States.{state_of}}
+use Rattle.shard_boxes.specs.declared.shard_box.Knowledge.{Knowledge}
 use Rattle.shard_boxes.proofs.key.Key.take.Goals as goal
 
 pub returns-clause-key : goal.returns-clause-key

@@ -1,10 +1,8 @@
-use Rattle.std.proofs.Common.{sym, ap, ◌∙◌, subst}
-use Rattle.std.proofs.lemmas.List.{nil_from_length}
+use Rattle.std.proofs.{Common.{sym, ap, ◌∙◌, subst}, lemmas.List.{nil_from_length}}
 use Rattle.ruled_cell.specs.Passes.{view}
-use Rattle.shard_boxes.specs.declared.shard_box.Knowledge.{Knowledge}
-use Rattle.shard_boxes.specs.Passes.{GrantState, SpeaksForAll}
-use Rattle.shard_boxes.specs.inner.Steps.{TakenBy}
 use Rattle.shard_boxes.proofs.BoxSteps.{takes, learns_full}
+use Rattle.shard_boxes.specs.Passes.{GrantState, SpeaksForAll}
+use Rattle.shard_boxes.specs.{declared.shard_box.Knowledge.{Knowledge}, inner.Steps.{TakenBy}}
 use Rattle.shard_boxes.proofs.shard_box.ShardBox.take_last.Goals as goal
 
 pub take_as-requires-clause-rule : goal.take_as-requires-clause-rule

@@ -1,6 +1,5 @@
 use Rattle.std.proofs.Common.{length, sym, ap, ◌∙◌}
-use Rattle.shard_boxes.specs.Seats.{boxes_of}
-use Rattle.shard_boxes.proofs.Each.{none_below}
+use Rattle.shard_boxes.{proofs.Each.{none_below}, specs.Seats.{boxes_of}}
 use Rattle.shard_boxes.proofs.spare.Spare.none.Goals as goal
 
 pub invariant_of-result : goal.invariant_of-result

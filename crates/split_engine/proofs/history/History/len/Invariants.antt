@@ -1,5 +1,4 @@
-use Rattle.std.proofs.Common.{◌≡◌, ◌≤◌, length, take}
-use Rattle.std.specs.List.{flat_map}
+use Rattle.std.{proofs.Common.{◌≡◌, ◌≤◌, length, take}, specs.List.{flat_map}}
 use Rattle.split_engine.specs.declared.state.TheConstants.{MOST_COMMITS}
 use Rattle.split_engine.proofs.history.History.len.Given as goal
 

@@ -1,5 +1,4 @@
-use Rattle.std.proofs.Common.{◌≡◌, ◌++◌, ◌∷◌, [], ◌-◌, refl, ap, ◌∙◌, arith}
-use Rattle.std.specs.Vec.{vec_len}
+use Rattle.std.{proofs.Common.{◌≡◌, ◌++◌, ◌∷◌, [], ◌-◌, refl, ap, ◌∙◌, arith}, specs.Vec.{vec_len}}
 use Rattle.split_engine.proofs.Pieces.{flat-longer}
 use Rattle.split_engine.proofs.history.History.push.Goals as goal
 

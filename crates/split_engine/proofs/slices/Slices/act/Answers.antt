@@ -1,9 +1,8 @@
 use Rattle.std.proofs.Common.{length, set, suc, ap, sym, ◌∙◌, subst, arith}
 use Rattle.std.specs.List.{AllByRecursion}
-use Rattle.split_engine.specs.inner.Kept.{spread}
-use Rattle.split_engine.specs.Splitting.{after_slice_act}
-use Rattle.split_engine.proofs.Splits.{slice_act_fits, read_any}
 use Rattle.split_engine.proofs.KeptSlices.{kept_set, length-spread, of_kept, spread_act}
+use Rattle.split_engine.proofs.Splits.{slice_act_fits, read_any}
+use Rattle.split_engine.specs.{Splitting.{after_slice_act}, inner.Kept.{spread}}
 use Rattle.split_engine.proofs.slices.Slices.act.Goals as goal
 
 pub place_of-requires-clause-within : goal.place_of-requires-clause-within

@@ -1,10 +1,8 @@
 use Rattle.std.proofs.Common.{◌<◌, length, refl, sym, ap, ◌∙◌, subst, arith}
-use Rattle.std.specs.List.{AllByRecursion}
+use Rattle.std.{proofs.lemmas.List.{length-set}, specs.List.{AllByRecursion}}
 use Rattle.std.specs.Vec.Iter.{into_iter_items}
-use Rattle.std.proofs.lemmas.List.{length-set}
-use Rattle.split_engine.specs.inner.Kept.{AreKept, spread}
-use Rattle.split_engine.proofs.Splits.{read_any}
 use Rattle.split_engine.proofs.KeptSlices.{length-spread, of_kept, next_at, merged_first, record_fits, merged_one}
+use Rattle.split_engine.{proofs.Splits.{read_any}, specs.inner.Kept.{AreKept, spread}}
 use Rattle.split_engine.proofs.slices.Slices.merge_into.Goals as goal
 
 pub loop-place-init : goal.loop-place-init

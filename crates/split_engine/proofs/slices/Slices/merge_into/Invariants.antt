@@ -1,7 +1,5 @@
-use Rattle.std.proofs.Common.{◌≡◌, length, take, drop}
-use Rattle.std.specs.Vec.Iter.{into_iter_items}
-use Rattle.split_engine.specs.inner.Kept.{spread}
-use Rattle.split_engine.specs.Splitting.{merged_all}
+use Rattle.std.{proofs.Common.{◌≡◌, length, take, drop}, specs.Vec.Iter.{into_iter_items}}
+use Rattle.split_engine.specs.{Splitting.{merged_all}, inner.Kept.{spread}}
 use Rattle.split_engine.proofs.slices.Slices.merge_into.Given as goal
 
 abbrev pub invariant-loop-place : goal.invariant-loop-place

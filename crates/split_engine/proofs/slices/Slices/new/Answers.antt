@@ -1,8 +1,8 @@
 use Rattle.std.proofs.Common.{◌≡◌, ap, length, replicate, ◌∙◌, arith}
-use Rattle.split_engine.specs.inner.Kept.{spread}
 use Rattle.split_engine.proofs.KeptSlices.{none_kept, spread_none}
-use Rattle.split_engine.proofs.slices.Slices.new.Goals as goal
 use Rattle.split_engine.proofs.slices.Slices.new.Goals.{then-len-size, else-len-size+in_ok-guesses}
+use Rattle.split_engine.specs.inner.Kept.{spread}
+use Rattle.split_engine.proofs.slices.Slices.new.Goals as goal
 
 -- whichever guesses there are, nothing is kept
 pub invariant_of-result : goal.invariant_of-result

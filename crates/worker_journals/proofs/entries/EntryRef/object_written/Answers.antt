@@ -1,6 +1,5 @@
 use Rattle.std.proofs.Common.{◌∙◌}
-use Rattle.auction_rows.specs.Choosing.{written_by}
-use Rattle.auction_rows.specs.History.{commit}
+use Rattle.auction_rows.specs.{Choosing.{written_by}, History.{commit}}
 use Rattle.worker_journals.proofs.entries.EntryRef.object_written.Goals as goal
 
 pub returns : goal.returns

@@ -1,9 +1,8 @@
-use Rattle.std.proofs.Common.{◌∙◌, ap, subst, sym}
-use Rattle.std.specs.List.{AllByRecursion}
-use Rattle.worker_journals.specs.inner.Asked.{HaveRequests, IsWithin, requests_of}
-use Rattle.worker_journals.specs.inner.HeadLists.{HeadList, IsHeadOf, heads_of}
+use Rattle.std.{proofs.Common.{◌∙◌, ap, subst, sym}, specs.List.{AllByRecursion}}
 use Rattle.worker_journals.proofs.AskedLemmas.{as_many_asked}
 use Rattle.worker_journals.proofs.HeadListLemmas.{heads_of_script, within_script}
+use Rattle.worker_journals.specs.inner.Asked.{HaveRequests, IsWithin, requests_of}
+use Rattle.worker_journals.specs.inner.HeadLists.{HeadList, IsHeadOf, heads_of}
 use Rattle.worker_journals.proofs.head_list.Heads.close_on.Goals as goal
 
 pub invariant_of-self : goal.invariant_of-self

@@ -1,5 +1,4 @@
-use Rattle.std.proofs.Common.{◌∙◌, sym}
-use Rattle.std.proofs.lemmas.Bool.{eqb-true}
+use Rattle.std.proofs.{Common.{◌∙◌, sym}, lemmas.Bool.{eqb-true}}
 use Rattle.worker_journals.proofs.HeadListLemmas.{no_first}
 use Rattle.worker_journals.proofs.head_list.Heads.first.Goals as goal
 

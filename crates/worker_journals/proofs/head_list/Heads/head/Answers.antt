@@ -1,10 +1,8 @@
 use Rattle.std.proofs.Common.{◌<◌, ◌≡◌, ◌∙◌, ap, arith, length, map, refl, subst, sym}
-use Rattle.std.specs.Prelude.{Some, slice_get}
-use Rattle.std.proofs.lemmas.Option.{slice_get_read}
-use Rattle.worker_journals.specs.inner.Asked.{requests_of}
-use Rattle.worker_journals.specs.inner.HeadLists.{HeadList, head_in}
+use Rattle.std.{proofs.lemmas.Option.{slice_get_read}, specs.Prelude.{Some, slice_get}}
 use Rattle.worker_journals.proofs.AskedLemmas.{as_many_asked}
 use Rattle.worker_journals.proofs.HeadListLemmas.{heads_alone, within_heads}
+use Rattle.worker_journals.specs.inner.{Asked.{requests_of}, HeadLists.{HeadList, head_in}}
 use Rattle.worker_journals.proofs.head_list.Heads.head.Goals as goal
 
 pub index-requires : goal.index-requires

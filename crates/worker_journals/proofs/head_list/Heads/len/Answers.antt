@@ -1,8 +1,6 @@
 use Rattle.std.proofs.Common.{◌∙◌, ap, arith, length, sym}
-use Rattle.worker_journals.specs.inner.Asked.{requests_of}
-use Rattle.worker_journals.specs.inner.HeadLists.{HeadList}
-use Rattle.worker_journals.proofs.AskedLemmas.{as_many_asked}
-use Rattle.worker_journals.proofs.HeadListLemmas.{as_many}
+use Rattle.worker_journals.proofs.{AskedLemmas.{as_many_asked}, HeadListLemmas.{as_many}}
+use Rattle.worker_journals.specs.inner.{Asked.{requests_of}, HeadLists.{HeadList}}
 use Rattle.worker_journals.proofs.head_list.Heads.len.Goals as goal
 
 pub returns-clause-len : goal.returns-clause-len

@@ -1,8 +1,8 @@
 use Rattle.std.proofs.Common.{◌<◌, ◌∷◌, ◌++◌, ◌∙◌, [], ap, arith, length, min, subst, sym}
-use Rattle.worker_journals.specs.inner.Asked.{requests_of, room_of}
-use Rattle.worker_journals.specs.inner.HeadLists.{HeadList, asked_head, head_by, heads_of}
 use Rattle.worker_journals.proofs.AskedLemmas.{as_many_asked, can_keep, have_more, more_requests, same_room}
 use Rattle.worker_journals.proofs.HeadListLemmas.{as_many, one_more_head}
+use Rattle.worker_journals.specs.inner.Asked.{requests_of, room_of}
+use Rattle.worker_journals.specs.inner.HeadLists.{HeadList, asked_head, head_by, heads_of}
 use Rattle.worker_journals.proofs.head_list.Heads.push.Goals as goal
 
 pub push-requires : goal.push-requires

@@ -1,7 +1,5 @@
-use Rattle.std.proofs.Common.{◌≡◌, ◌++◌, length}
-use Rattle.std.specs.List.{AllByRecursion}
-use Rattle.worker_journals.specs.Histories.{ArePhase}
-use Rattle.worker_journals.specs.inner.Phases.{entries_in, journals_of}
+use Rattle.std.{proofs.Common.{◌≡◌, ◌++◌, length}, specs.List.{AllByRecursion}}
+use Rattle.worker_journals.specs.{Histories.{ArePhase}, inner.Phases.{entries_in, journals_of}}
 use Rattle.worker_journals.proofs.history.EntriesIterator.next.Given as goal
 
 abbrev pub invariant-loop-first : goal.invariant-loop-first

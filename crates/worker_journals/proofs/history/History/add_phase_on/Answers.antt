@@ -1,12 +1,10 @@
 use Rattle.std.proofs.Common.{◌≡◌, ◌∙◌, sym, ap, subst, map, length, arith}
-use Rattle.std.proofs.lemmas.List.{length-map, with_items_is}
+use Rattle.std.{proofs.lemmas.List.{length-map, with_items_is}, specs.List.{AllByRecursion}}
 use Rattle.std.specs.Vec.{with_items}
-use Rattle.std.specs.List.{AllByRecursion}
-use Rattle.worker_journals.specs.Journals.{IsJournalOf, IsLawfulJournal, closed_journal}
-use Rattle.worker_journals.specs.Merged.{entry_count}
-use Rattle.worker_journals.specs.Histories.{ArePhase}
-use Rattle.worker_journals.specs.inner.Phases.{IsHistory, journals_of}
 use Rattle.worker_journals.proofs.HistoryLemmas.{history_after, kept_after}
+use Rattle.worker_journals.specs.Histories.{ArePhase}
+use Rattle.worker_journals.specs.Journals.{IsJournalOf, IsLawfulJournal, closed_journal}
+use Rattle.worker_journals.specs.{Merged.{entry_count}, inner.Phases.{IsHistory, journals_of}}
 use Rattle.worker_journals.proofs.history.History.add_phase_on.Goals as goal
 
 pub close_all-requires : goal.close_all-requires

@@ -1,7 +1,6 @@
 use Rattle.std.proofs.Common.{◌∙◌, ◌++◌, ap}
-use Rattle.worker_journals.specs.Histories.{HistoryView}
+use Rattle.worker_journals.{proofs.HistoryLemmas.{merged_nothing}, specs.Histories.{HistoryView}}
 use Rattle.worker_journals.specs.inner.Phases.{entries_in, journals_of}
-use Rattle.worker_journals.proofs.HistoryLemmas.{merged_nothing}
 use Rattle.worker_journals.proofs.history.History.iter.Goals as goal
 
 pub returns : goal.returns

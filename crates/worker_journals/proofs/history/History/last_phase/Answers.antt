@@ -1,6 +1,6 @@
 use Rattle.std.proofs.Common.{◌∙◌, sym, subst}
-use Rattle.worker_journals.specs.Histories.{ArePhase}
 use Rattle.worker_journals.proofs.HistoryLemmas.{last_shown, last_are_phase}
+use Rattle.worker_journals.specs.Histories.{ArePhase}
 use Rattle.worker_journals.proofs.history.History.last_phase.Goals as goal
 
 pub returns-in-Some-clause-last : goal.returns-in-Some-clause-last

@@ -1,12 +1,9 @@
-use Rattle.std.proofs.Common.{◌≤◌, ◌∙◌, List, ap, subst, arith}
-use Rattle.std.specs.Global.{Vec}
-use Rattle.std.specs.List.{AllByRecursion}
-use Rattle.std.proofs.lemmas.List.{take_all}
+use Rattle.std.proofs.{Common.{◌≤◌, ◌∙◌, List, ap, subst, arith}, lemmas.List.{take_all}}
+use Rattle.std.specs.{Global.{Vec}, List.{AllByRecursion}}
 use Rattle.auction_rows.specs.declared.rows.Entry.{Entry}
-use Rattle.worker_journals.specs.Journals.{JournalView}
-use Rattle.worker_journals.specs.Histories.{HistoryView}
-use Rattle.worker_journals.specs.inner.Phases.{journals_of}
 use Rattle.worker_journals.proofs.LastLemmas.{all_items, none_later, one_more}
+use Rattle.worker_journals.specs.{Histories.{HistoryView}, Journals.{JournalView}}
+use Rattle.worker_journals.specs.inner.Phases.{journals_of}
 use Rattle.worker_journals.proofs.history.History.last_worker.Goals as goal
 
 pub loop-journals-preserved : goal.loop-journals-preserved

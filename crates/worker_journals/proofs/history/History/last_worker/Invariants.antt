@@ -1,5 +1,4 @@
-use Rattle.std.proofs.Common.{ℕ, ◌≤◌, take}
-use Rattle.std.specs.List.{AllByRecursion}
+use Rattle.std.{proofs.Common.{ℕ, ◌≤◌, take}, specs.List.{AllByRecursion}}
 use Rattle.worker_journals.proofs.history.History.last_worker.Given as goal
 
 abbrev pub invariant-loop-journals : goal.invariant-loop-journals

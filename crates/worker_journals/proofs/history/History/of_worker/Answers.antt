@@ -1,10 +1,8 @@
 use Rattle.std.proofs.Common.{◌∙◌, [], ap}
 use Rattle.phase_laws.specs.Order.{part}
-use Rattle.worker_journals.specs.Journals.{entry_worker}
-use Rattle.worker_journals.specs.Histories.{HistoryView}
-use Rattle.worker_journals.specs.inner.Phases.{journals_of}
+use Rattle.worker_journals.{proofs.HistoryLemmas.{own_all}, specs.Histories.{HistoryView}}
+use Rattle.worker_journals.specs.{Journals.{entry_worker}, inner.Phases.{journals_of}}
 use Rattle.worker_journals.specs.inner.Places.{own_left}
-use Rattle.worker_journals.proofs.HistoryLemmas.{own_all}
 use Rattle.worker_journals.proofs.history.History.of_worker.Goals as goal
 
 pub returns : goal.returns

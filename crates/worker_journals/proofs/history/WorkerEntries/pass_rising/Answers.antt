@@ -1,12 +1,10 @@
 use Rattle.std.proofs.Common.{◌≡◌, ◌∙◌, Bool, true, not, List, [], Option, Some, None, refl, sym, ap, subst}
 use Rattle.std.specs.Prelude.{is_some}
 use Rattle.auction_rows.specs.declared.rows.Entry.{Entry}
-use Rattle.worker_journals.specs.inner.Phases.{journals_of}
-use Rattle.worker_journals.specs.Merged.{entries_of}
-use Rattle.worker_journals.specs.inner.Places.{first_entries, own_left}
-use Rattle.worker_journals.specs.Rising.{HasPassed}
 use Rattle.worker_journals.proofs.HistoryLemmas.{own_past}
 use Rattle.worker_journals.proofs.RisingLemmas.{none_passed, passed_more}
+use Rattle.worker_journals.specs.{Merged.{entries_of}, Rising.{HasPassed}}
+use Rattle.worker_journals.specs.inner.{Phases.{journals_of}, Places.{first_entries, own_left}}
 use Rattle.worker_journals.proofs.history.WorkerEntries.pass_rising.Goals as goal
 
 none_of : {X : Type 0} (o : Option X) (b : Bool) → is_some o ≡ not b → b ≡ true → o ≡ None

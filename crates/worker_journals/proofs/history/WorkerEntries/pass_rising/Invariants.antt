@@ -1,7 +1,6 @@
 use Rattle.std.proofs.Common.{length}
-use Rattle.worker_journals.specs.inner.Phases.{journals_of}
+use Rattle.worker_journals.specs.{Rising.{HasPassed}, inner.Phases.{journals_of}}
 use Rattle.worker_journals.specs.inner.Places.{own_left}
-use Rattle.worker_journals.specs.Rising.{HasPassed}
 use Rattle.worker_journals.proofs.history.WorkerEntries.pass_rising.Given as goal
 
 abbrev pub invariant-loop-self : goal.invariant-loop-self

@@ -1,9 +1,7 @@
 use Rattle.std.proofs.Common.{◌≡◌, ◌∙◌, ◌∷◌, List, [], length, refl, sym, ap, arith}
-use Rattle.worker_journals.specs.inner.Phases.{journals_of}
-use Rattle.worker_journals.specs.Merged.{entries_of}
-use Rattle.worker_journals.specs.inner.Places.{own_left}
 use Rattle.worker_journals.proofs.HistoryLemmas.{own_end, own_next, own_past}
-use Rattle.worker_journals.proofs.StepLemmas.{goes_on}
+use Rattle.worker_journals.{proofs.StepLemmas.{goes_on}, specs.Merged.{entries_of}}
+use Rattle.worker_journals.specs.inner.{Phases.{journals_of}, Places.{own_left}}
 use Rattle.worker_journals.proofs.history.WorkerEntriesIterator.next.Goals as goal
 
 nothing : {X : Type 0} (xs : List X) → length xs ≡ 0 → xs ≡ []

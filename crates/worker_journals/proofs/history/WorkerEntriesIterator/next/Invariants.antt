@@ -1,6 +1,5 @@
 use Rattle.std.proofs.Common.{◌≡◌, length}
-use Rattle.worker_journals.specs.inner.Phases.{journals_of}
-use Rattle.worker_journals.specs.inner.Places.{own_left}
+use Rattle.worker_journals.specs.inner.{Phases.{journals_of}, Places.{own_left}}
 use Rattle.worker_journals.proofs.history.WorkerEntriesIterator.next.Given as goal
 
 abbrev pub invariant-phases : goal.invariant-phases

@@ -1,6 +1,6 @@
 use Rattle.std.proofs.Common.{sym, subst}
-use Rattle.worker_journals.specs.inner.HeadLists.{IsRising}
 use Rattle.worker_journals.proofs.GrowthLemmas.{closed_kept, closed_shown}
+use Rattle.worker_journals.specs.inner.HeadLists.{IsRising}
 use Rattle.worker_journals.proofs.journal.Journal.close_kept.Goals as goal
 
 pub invariant_of-self : goal.invariant_of-self

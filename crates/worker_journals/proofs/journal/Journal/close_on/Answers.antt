@@ -1,8 +1,6 @@
-use Rattle.std.proofs.Common.{sym, subst}
-use Rattle.std.specs.List.{AllByRecursion}
-use Rattle.worker_journals.specs.Journals.{IsOfScript, JournalView}
-use Rattle.worker_journals.specs.inner.HeadLists.{IsRising}
+use Rattle.std.{proofs.Common.{sym, subst}, specs.List.{AllByRecursion}}
 use Rattle.worker_journals.proofs.GrowthLemmas.{closed_kept, closed_shown, of_script}
+use Rattle.worker_journals.specs.{Journals.{IsOfScript, JournalView}, inner.HeadLists.{IsRising}}
 use Rattle.worker_journals.proofs.journal.Journal.close_on.Goals as goal
 
 pub close_on-requires : goal.close_on-requires

@@ -1,7 +1,6 @@
 use Rattle.std.proofs.Common.{arith, subst}
-use Rattle.worker_journals.specs.Journals.{JournalView}
-use Rattle.worker_journals.specs.Rising.{EntriesRiseTo}
 use Rattle.worker_journals.proofs.RisingLemmas.{entries_from, none_rise}
+use Rattle.worker_journals.specs.{Journals.{JournalView}, Rising.{EntriesRiseTo}}
 use Rattle.worker_journals.proofs.journal.Journal.rising_from.Goals as goal
 
 pub returns-in-None : goal.returns-in-None

@@ -1,8 +1,7 @@
 use Rattle.std.proofs.Common.{◌≡◌, ◌∙◌, arith, ap, sym, length, map, take, refl}
 use Rattle.std.proofs.Math.Seq.{take-length}
-use Rattle.worker_journals.specs.Merged.{merged}
+use Rattle.worker_journals.{proofs.StepLemmas.{left_all}, specs.Merged.{merged}}
 use Rattle.worker_journals.specs.inner.Places.{first_number}
-use Rattle.worker_journals.proofs.StepLemmas.{left_all}
 use Rattle.worker_journals.proofs.merge.Merging.of.Goals as goal
 
 pub invariant_of-result : goal.invariant_of-result

@@ -1,8 +1,6 @@
 use Rattle.std.proofs.Common.{◌≡◌, ◌∙◌, ap, sym}
-use Rattle.auction_rows.specs.ItemViews.{item_reply}
-use Rattle.auction_rows.specs.StoreReplies.{reply_of}
-use Rattle.worker_journals.specs.Answers.{reply_in_form}
-use Rattle.worker_journals.proofs.KeptLemmas.{said_of}
+use Rattle.auction_rows.specs.{ItemViews.{item_reply}, StoreReplies.{reply_of}}
+use Rattle.worker_journals.{proofs.KeptLemmas.{said_of}, specs.Answers.{reply_in_form}}
 use Rattle.worker_journals.proofs.sides.Sides.keep.Goals as goal
 
 pub returns-in-Store-clause-reply : goal.returns-in-Store-clause-reply

@@ -1,6 +1,5 @@
 use Rattle.std.proofs.Common.{◌<◌, ◌∙◌, ap, arith, refl}
-use Rattle.worker_journals.specs.inner.Sides.{SideLists}
-use Rattle.worker_journals.proofs.SaidLemmas.{says_item}
+use Rattle.worker_journals.{proofs.SaidLemmas.{says_item}, specs.inner.Sides.{SideLists}}
 use Rattle.worker_journals.proofs.sides.Sides.keep_item.Goals as goal
 
 pub keep_one-requires : goal.keep_one-requires

@@ -1,8 +1,7 @@
 use Rattle.std.proofs.Common.{◌<◌, ◌∙◌, ap, arith, sym}
-use Rattle.worker_journals.specs.Shown.{shown_in}
-use Rattle.worker_journals.specs.inner.Sides.{SideLists, with_reply_of}
 use Rattle.worker_journals.proofs.KeptLemmas.{said_of}
 use Rattle.worker_journals.proofs.SaidLemmas.{not_none, only_item, says_bids, says_latest}
+use Rattle.worker_journals.specs.{Shown.{shown_in}, inner.Sides.{SideLists, with_reply_of}}
 use Rattle.worker_journals.proofs.sides.Sides.keep_reply.Goals as goal
 
 pub returns-in-Some-clause-kept : goal.returns-in-Some-clause-kept

@@ -1,11 +1,10 @@
 use Rattle.std.proofs.Common.{refl, sym, subst}
 use Rattle.indexmap.specs.Layout.{set_value_at}
 use Rattle.shard_boxes.specs.declared.limits.TheConstants.{MOST_COMMITS}
-use Rattle.worker_slices.specs.Guessing.{AreGuessed}
-use Rattle.worker_slices.specs.Slicing.{IsAt, HaveAtMost}
 use Rattle.worker_slices.proofs.GuessLemmas.{same_names}
 use Rattle.worker_slices.proofs.Places.{write_seen, none_there, few_there, still_stocked}
-use Rattle.worker_slices.proofs.SlicedLemmas.{unsliced}
+use Rattle.worker_slices.{proofs.SlicedLemmas.{unsliced}, specs.Guessing.{AreGuessed}}
+use Rattle.worker_slices.specs.Slicing.{IsAt, HaveAtMost}
 use Rattle.worker_slices.proofs.slices.Slices.apply_at.Goals as goal
 
 pub returns-in_default : goal.returns-in_default

@@ -1,7 +1,6 @@
 use Rattle.std.proofs.Common.{subst, sym, ◌∙◌}
+use Rattle.worker_slices.proofs.{GuessLemmas.{on_true}, Places.{at_where_read}}
 use Rattle.worker_slices.specs.Slicing.{IsAt}
-use Rattle.worker_slices.proofs.GuessLemmas.{on_true}
-use Rattle.worker_slices.proofs.Places.{at_where_read}
 use Rattle.worker_slices.proofs.slices.Slices.is_at.Goals as goal
 
 pub returns-in-Some : goal.returns-in-Some

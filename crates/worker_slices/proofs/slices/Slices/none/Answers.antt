@@ -1,7 +1,5 @@
-use Rattle.std.proofs.Common.{ap, subst, sym}
-use Rattle.std.specs.List.{AllByRecursion}
-use Rattle.worker_slices.specs.Guessing.{AreGuessed}
-use Rattle.worker_slices.specs.Slicing.{IsStocked, hot_objects, stocks_of}
+use Rattle.std.{proofs.Common.{ap, subst, sym}, specs.List.{AllByRecursion}}
+use Rattle.worker_slices.specs.{Guessing.{AreGuessed}, Slicing.{IsStocked, hot_objects, stocks_of}}
 use Rattle.worker_slices.proofs.slices.Slices.none.Goals as goal
 
 pub invariant_of-result : goal.invariant_of-result

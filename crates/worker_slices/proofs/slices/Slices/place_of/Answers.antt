@@ -1,10 +1,9 @@
 use Rattle.std.proofs.Common.{position, sym, ap, subst, ◌∙◌}
-use Rattle.auction_rows.specs.contracts.requests.ObjectPartialEq.TheImpl.{eq-value as object_eq}
 use Rattle.auction_rows.specs.Footprint.{is_hot}
-use Rattle.worker_slices.specs.Guessing.{AreGuessed}
-use Rattle.worker_slices.specs.Slicing.{hot_objects}
+use Rattle.auction_rows.specs.contracts.requests.ObjectPartialEq.TheImpl.{eq-value as object_eq}
 use Rattle.worker_slices.proofs.GuessLemmas.{unguessed}
 use Rattle.worker_slices.proofs.Places.{hot_where_at, hot_where_found, at_where_found}
+use Rattle.worker_slices.specs.{Guessing.{AreGuessed}, Slicing.{hot_objects}}
 use Rattle.worker_slices.proofs.slices.Slices.place_of.Goals as goal
 
 pub returns-clause-hot : goal.returns-clause-hot

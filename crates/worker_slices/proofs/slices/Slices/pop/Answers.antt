@@ -1,12 +1,9 @@
-use Rattle.std.proofs.Common.{ap, subst, ◌∙◌}
-use Rattle.std.specs.Prelude.{option_to_list}
-use Rattle.std.specs.List.{AllByRecursion}
-use Rattle.std.proofs.lemmas.List.{map-append}
+use Rattle.std.proofs.{Common.{ap, subst, ◌∙◌}, lemmas.List.{map-append}}
+use Rattle.std.specs.{List.{AllByRecursion}, Prelude.{option_to_list}}
 use Rattle.auction_rows.specs.declared.requests.Object.{Object}
-use Rattle.worker_slices.specs.declared.slices.Hot.{Hot}
-use Rattle.worker_slices.specs.Guessing.{AreGuessed, MayStand}
+use Rattle.worker_slices.{proofs.Places.{stocks-append}, specs.Guessing.{AreGuessed, MayStand}}
 use Rattle.worker_slices.specs.Slicing.{hot_objects, stocks_of, IsStocked}
-use Rattle.worker_slices.proofs.Places.{stocks-append}
+use Rattle.worker_slices.specs.declared.slices.Hot.{Hot}
 use Rattle.worker_slices.proofs.slices.Slices.pop.Goals as goal
 use Rattle.phase_laws.proofs.ListLemmas.{all-left}
 

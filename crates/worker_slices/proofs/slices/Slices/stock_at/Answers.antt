@@ -1,8 +1,7 @@
-use Rattle.std.proofs.Common.{◌≡◌, Some, sym, ap, subst, ◌∙◌}
-use Rattle.std.specs.Map.{lookup}
+use Rattle.std.{proofs.Common.{◌≡◌, Some, sym, ap, subst, ◌∙◌}, specs.Map.{lookup}}
 use Rattle.auction_rows.specs.contracts.requests.ObjectPartialEq.TheImpl.{eq-value as object_eq}
-use Rattle.worker_slices.specs.Slicing.{stocks_of, stock_of, IsAt}
 use Rattle.worker_slices.proofs.Places.{stock_found, at_and_there, none_at}
+use Rattle.worker_slices.specs.Slicing.{stocks_of, stock_of, IsAt}
 use Rattle.worker_slices.proofs.slices.Slices.stock_at.Goals as goal
 
 pub returns-in-Some : goal.returns-in-Some

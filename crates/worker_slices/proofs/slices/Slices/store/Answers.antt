@@ -1,9 +1,8 @@
-use Rattle.std.proofs.Common.{◌+◌, sym, subst, arith}
-use Rattle.std.proofs.lemmas.Bool.{eq-eqb}
+use Rattle.std.proofs.{Common.{◌+◌, sym, subst, arith}, lemmas.Bool.{eq-eqb}}
 use Rattle.auction_rows.specs.declared.requests.Object.TheVariants.{Item, User, Category}
-use Rattle.worker_slices.specs.Slicing.{HaveAtMost}
 use Rattle.worker_slices.proofs.FewLemmas.{few_more, few_changed, few_bid, few_comment, few_listed}
 use Rattle.worker_slices.proofs.SlicedLemmas.{no_item, no_bid, no_comment, unwritten}
+use Rattle.worker_slices.specs.Slicing.{HaveAtMost}
 use Rattle.worker_slices.proofs.slices.Slices.store.Goals as goal
 
 pub returns-in-ItemStored : goal.returns-in-ItemStored

@@ -1,6 +1,5 @@
 use Rattle.std.proofs.Common.{ap, ◌∙◌}
-use Rattle.worker_slices.specs.Stashes.{without_first}
-use Rattle.worker_slices.proofs.StashLemmas.{one_taken}
+use Rattle.worker_slices.{proofs.StashLemmas.{one_taken}, specs.Stashes.{without_first}}
 use Rattle.worker_slices.proofs.stash.Stash.forget_first.Goals as goal
 
 pub returns : goal.returns

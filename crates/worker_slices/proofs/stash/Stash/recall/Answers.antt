@@ -1,6 +1,5 @@
 use Rattle.std.proofs.Common.{◌<◌, length, sym, subst, ◌∙◌}
-use Rattle.worker_slices.specs.Stashes.{StashState}
-use Rattle.worker_slices.proofs.StashLemmas.{one_back}
+use Rattle.worker_slices.{proofs.StashLemmas.{one_back}, specs.Stashes.{StashState}}
 use Rattle.worker_slices.proofs.stash.Stash.recall.Goals as goal
 
 pub returns-clause-first : goal.returns-clause-first

@@ -1,5 +1,4 @@
-use Rattle.std.proofs.Common.{◌-◌, arith}
-use Rattle.std.proofs.Math.Nat.{min-le_right}
+use Rattle.std.proofs.{Common.{◌-◌, arith}, Math.Nat.{min-le_right}}
 use Rattle.zipf_draws.proofs.popularity.Popularity.rank_below.Goals as goal
 
 -- the last rank is the greatest

@@ -1,5 +1,4 @@
-use Rattle.std.proofs.Common.{◌≡◌, subst}
-use Rattle.std.specs.Prelude.{◌↔◌, List, IsTrue, ℕ}
+use Rattle.std.{proofs.Common.{◌≡◌, subst}, specs.Prelude.{◌↔◌, List, IsTrue, ℕ}}
 use Rattle.auction_text.proofs.writing.replies.ReplyText.is_of_store.Goals as goal
 
 pub returns : goal.returns

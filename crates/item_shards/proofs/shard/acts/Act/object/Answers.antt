@@ -1,7 +1,5 @@
 use Rattle.std.proofs.Common.{sym, ap, ◌∙◌}
-use Rattle.item_shards.specs.declared.shard.acts.Act.{Act}
-use Rattle.item_shards.specs.Contents.{target}
-use Rattle.item_shards.specs.Looking.{event_at}
+use Rattle.item_shards.specs.{Contents.{target}, Looking.{event_at}, declared.shard.acts.Act.{Act}}
 use Rattle.item_shards.proofs.shard.acts.Act.object.Goals as goal
 
 pub returns-in-AddItem : goal.returns-in-AddItem

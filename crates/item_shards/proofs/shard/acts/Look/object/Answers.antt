@@ -1,7 +1,5 @@
 use Rattle.std.proofs.Common.{sym, ap}
-use Rattle.item_shards.specs.Contents.{target}
-use Rattle.item_shards.specs.Events.{Look}
-use Rattle.item_shards.specs.Looking.{shown_in}
+use Rattle.item_shards.specs.{Contents.{target}, Events.{Look}, Looking.{shown_in}}
 use Rattle.item_shards.proofs.shard.acts.Look.object.Goals as goal
 
 pub returns-in-Nothing : goal.returns-in-Nothing

@@ -1,6 +1,5 @@
 use Rattle.std.proofs.Common.{ap}
-use Rattle.item_shards.specs.Contents.{bought_of}
-use Rattle.item_shards.specs.Records.{record_value}
+use Rattle.item_shards.specs.{Contents.{bought_of}, Records.{record_value}}
 use Rattle.item_shards.proofs.shard.records.ItemRecord.buy.Goals as goal
 
 pub returns-in-Some : goal.returns-in-Some
