@@ -11,12 +11,16 @@ use std::io::Read;
 
 /// How the plain lines of a text are read.
 pub(crate) trait LineReading {
+    /// What reading asks of the type.
+    ghost can_read: { Type 0 };
+
     /// So many bytes are waited for before lines are read, unless the input ends.
     fn wanted(&self) -> usize;
 
     /// Reads the plain lines at the front of a text, and returns the place after them. How far that
     /// is, no clause says: what is left is read by `csv`.
     fn read_front(&mut self, progress: &mut Progress, text: &[u8]) -> Result<usize, ReadFault>
+        requires can { can_read }
         requires ends { EndsLine text.now }
         requires room { progress.old.count ≤ MOST_RECORDS }
         ensures within { IfOk result (λ at. at ≤ length text.now) }
@@ -30,6 +34,8 @@ pub(crate) trait LineReading {
 pub(crate) struct Alone;
 
 impl LineReading for Alone {
+    ghost can_read = { Unit };
+
     fn wanted(&self) -> usize {
         0
     }
@@ -81,6 +87,7 @@ fn take_lines<L: LineReading>(
     from: usize,
     filled: usize,
 ) -> Result<(usize, bool), ReadFault>
+    requires can { L.can_read }
     requires from { from ≤ filled }
     requires filled { filled ≤ length buffer.old }
     requires room { progress.old.count ≤ MOST_RECORDS }
@@ -108,6 +115,7 @@ pub(crate) fn read_lines<L: LineReading, R: Read>(
     buffer: &mut [u8],
     reader: &mut R,
 ) -> Result<usize, ReadFault>
+    requires can { L.can_read }
     requires room { progress.old.count ≤ MOST_RECORDS }
     ensures within { IfOk result (λ filled. filled ≤ length buffer.new) }
     ensures end { IfOk result (λ filled. filled ≡ 0 → filled < length buffer.new →

@@ -1,5 +1,6 @@
 //! The rows and scripts of a whole input, read by threads.
 ghost use Rattle.std.specs.Prelude.{◌≡◌, ◌<◌, vec_len, IfErr, IfOk, IfSome};
+ghost use Rattle.std.specs.Thread.{IsSync};
 ghost use Rattle.record_reading.specs.{Asking.{asked_of}, Reading.{HasNoInputFault, IsInputFault}};
 ghost use Rattle.auction_reading.specs.Scripts.{input_of};
 
@@ -41,6 +42,8 @@ struct ByThreads<'a, R> {
 }
 
 impl<R: Threads + Sync> LineReading for ByThreads<'_, R> {
+    ghost can_read = { IsSync R.row };
+
     fn wanted(&self) -> usize {
         ROOM
     }

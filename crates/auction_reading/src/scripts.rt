@@ -124,7 +124,8 @@ pub(crate) fn read_input<L: LineReading, R: Read + Drop>(
     reader: R,
     workers: u32,
 ) -> Result<CompactInput, ReadFault>
-    requires { 0 < length buffer.old }
+    requires can { L.can_read }
+    requires some { 0 < length buffer.old }
     ensures input { IfOk result (λ input. IfSome (R.remaining reader) (λ bytes.
         input_of workers bytes ≡ Ok (asked_of input))) }
     ensures count { IfOk result (λ input. vec_len input.scripts ≡ workers) }
