@@ -6,7 +6,7 @@ use Rattle.phase_laws.proofs.ListLemmas.{greatest_bounds, greatest_least}
 use Rattle.phase_laws.specs.{Numbers.{greatest_by}, Order.{IsOrderedBy}}
 use Rattle.auction_rows.specs.declared.rows.Entry.{Entry}
 use Rattle.history_check.specs.Orders.{is_bound, MayPrecede, turn, turn_after}
-use Rattle.history_check.specs.{declared.lines.Order.{Order}, inner.Replaying.{is_late}}
+use Rattle.history_check.specs.{declared.lines.Order.{Order}, inner.Lateness.{is_late}}
 
 max_zero : (a : ℕ) → max a 0 ≡ a
 max_zero a = omega arith

@@ -12,7 +12,7 @@ ghost use Rattle.history_check.specs.{Checking.{IsWrong}, CommitIds.{Fits, IsLin
 ghost use Rattle.history_check.specs.{Marks.{is_marked, HasPlaces}, Orders.{is_bound}};
 ghost use Rattle.history_check.specs.Scripts.{request_at};
 ghost use Rattle.history_check.specs.declared.lines.CheckFault.TheVariants.{TooLong};
-ghost use Rattle.history_check.specs.inner.{MarkRows.{AreWide}, Replaying.{is_late}};
+ghost use Rattle.history_check.specs.inner.{Lateness.{is_late}, MarkRows.{AreWide}};
 
 use crate::lines::{CheckFault, CommitId, Order, Wrong, read_line};
 use auction_rows::{MOST_ROWS, MOST_WORKERS, Reply, Request, StoreReply, is_splittable};
