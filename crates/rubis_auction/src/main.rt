@@ -100,7 +100,8 @@ where
     NotedWriter::of(progress, io::writer(progress.rt))
 }
 
-// Executes an input that is read first.
+// Executes an input that is read first. Its buffers are not on the stack of the others.
+#[inline(never)]
 fn execute_input<R, I>(progress: &Progress<'_, R>, stdin: I, options: &Options) -> Result<(), Fault>
 where
     I: Read + Drop,
@@ -141,7 +142,8 @@ where
     serve(rt, alloc, source, &mut teller, options)
 }
 
-// Serves standard input, and keeps no log.
+// Serves standard input, and keeps no log. Its buffers are not on the stack of the others.
+#[inline(never)]
 fn serve_unlogged<R, E>(
     progress: &Progress<'_, R>,
     errors: &mut E,
