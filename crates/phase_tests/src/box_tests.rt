@@ -68,7 +68,7 @@ fn put_by_hand<N: PhaseName, R: Wait + Abort>(
     let (boxes, mut key) = boxes_of_one::<N>(alloc, shards)?;
     assert_same(rt, [boxes.shards(), key.shards()], [4, 4]);
     let mut held = boxes.take(rt, &mut key, 0);
-    let clock = held.clock();
+    let clock = held.shard().clock();
     assert!(rt; clock < LAST_NUMBER);
     let line = list(held.shard_mut(), clock + 1);
     assert_same(rt, [line.before, line.number], [0, 1]);

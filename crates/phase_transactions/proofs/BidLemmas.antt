@@ -1,29 +1,33 @@
 -- A bid on an item in a shard, which refuses it or takes it by one look-up: that is a commit.
 use Rattle.std.proofs.Common.{◌≡◌, ◌==◌, ◌||◌, ℕ, ◌+◌, ◌<◌, ◌^◌, Bool, true, false, cond, List, [], ◌∷◌, length, map, Option, Some, None, IsSome, refl, sym, ap, ◌∙◌, arith, eq-eqb}
-use Rattle.std.proofs.lemmas.{List.{length-map}, Option.{same_Some}}
+use Rattle.std.proofs.lemmas.{List.{length-map}, Option.{none-some, same_Some}}
+use Rattle.auction_rows.specs.{Footprint.{is_hot}, Replies.{row_if}}
 use Rattle.auction_rows.specs.declared.replies.Reply.TheVariants.{BidStored}
 use Rattle.auction_rows.specs.declared.requests.Object.TheVariants.{Item}
 use Rattle.auction_rows.specs.declared.{requests.ItemId.ItemId, requests.BidId.BidId, requests.Facts.Facts, requests.BidEntry.BidEntry, requests.Object.Object, requests.Request.Request, replies.Refusal.Refusal, replies.Reply.Reply}
+use Rattle.auction_rows.specs.declared.rows.Row.TheVariants as row
 use Rattle.item_shards.specs.{Answering.{bid_request, refusal_with}, Events.{Event}}
 use Rattle.item_shards.specs.{ShardContents.{LiesIn, clock, contents}, Values.{stock}}
-use Rattle.item_shards.specs.Writing.{done_on, is_done_on, padded}
+use Rattle.item_shards.specs.Writing.{done_on, is_done_on, padded, writes_if}
 use Rattle.item_shards.specs.declared.shard.acts.Act.TheVariants.{Look}
 use Rattle.item_shards.specs.Events as event
 use Rattle.item_shards.specs.Shown as shown
 use Rattle.item_shards.specs.declared.shard.acts.Look.TheVariants as look
 use Rattle.shard_boxes.specs.{Helds.{HeldState}, Lines.{bid_act, bid_acts, line_of}}
-use Rattle.phase_transactions.proofs.{AnswerLemmas.{own_reply, reply_by}, ArmLemmas.{bid_arm}}
+use Rattle.phase_transactions.proofs.{AnswerLemmas.{reply_by}, ArmLemmas.{bid_arm}}
 use Rattle.phase_transactions.proofs.BegunLemmas.{begun_commits, begun_good, needed_first, seen_answered}
 use Rattle.phase_transactions.proofs.{DeedLemmas.{done_is}, PutAllLemmas.{none_put, put_more}}
 use Rattle.phase_transactions.specs.Performing.{HasCommitted, HaveOpening}
-use Rattle.phase_transactions.specs.Workers.{WorkerState, next_bid, after_commit}
+use Rattle.phase_transactions.specs.Workers.{WorkerState, next_bid, with_entry, after_commit}
 use Rattle.phase_transactions.specs.declared.{deeds.Deeds.{Deeds}, taken.Begun.{Begun}}
 use Rattle.phase_transactions.specs.inner.Begun.{Step, HasBegun, IsAnsweredOn, IsSeen}
 use Rattle.phase_transactions.specs.inner.Deeds.{IsReplyBy, IsReplyUnless, AreDeedsOf, AreGoodOn, acts_for, deeds_on, event_with, is_at}
 use Rattle.phase_transactions.specs.inner.HeldShards.{IsAsTaken, IsHeldFor, IsPutWith}
 use Rattle.phase_transactions.specs.inner.Takens.{each_once, footprint_of, held_in}
 use Rattle.phase_transactions.specs.declared.taken.Taken.TheVariants as taken
-use Rattle.worker_slices.specs.{Counting.{IsOwn}, Homes.{shard_at}, Slicing.{hot_objects}}
+use Rattle.worker_slices.proofs.SlicedLemmas.{cold_kept}
+use Rattle.worker_slices.specs.Homes.{IsHomeOf, shard_at}
+use Rattle.worker_slices.specs.Slicing.{hot_objects, slice_with_bid, slices_after_acts}
 use Rattle.worker_slices.specs.declared.{homes.Home.{Home}, slices.Hot.{Hot}}
 use Rattle.worker_slices.specs.declared.homes.Home.TheVariants as home
 
@@ -53,6 +57,18 @@ at_number (Some t) other n is none = let same : n ∷ [] ≡ t ∷ [] = is ∙ a
 twice : (n : ℕ) → each_once (Some n) (Some n) ≡ n ∷ []
 twice n = rw (eq-eqb n n refl) refl
 
+-- an object in a shard is not hot
+cold_home : (hots : List (Object × Hot)) (shards : ℕ) (object : Object) (h : Home) (n : ℕ) → IsHomeOf hots shards object h → shard_at h ≡ Some n → is_hot (hot_objects hots) object ≡ false
+cold_home hots shards object home.Nowhere n is some = absurd is
+cold_home hots shards object (home.Slice place) n is some = absurd (none-some n some)
+cold_home hots shards object (home.Shard shard) n is some = is.1
+
+-- what a bid writes of an item that is not hot changes no slice
+bid_unsliced : (hots : List (Object × Hot)) (item : ItemId) (id : BidId) (bidder amount time : ℕ) (own : Bool) → is_hot (hot_objects hots) (Item item) ≡ false
+    → hots ≡ slices_after_acts hots (writes_if (row_if own (row.Bid (record { id = id; item = item; bidder = bidder; amount = amount; time = time }))))
+bid_unsliced hots item id bidder amount time true cold = sym (cold_kept hots (Item item) (slice_with_bid (record { amount = amount; time = time; id = id; bidder = bidder })) cold)
+bid_unsliced hots item id bidder amount time false cold = refl
+
 -- the deeds of a bid at a home
 abbrev deeds_at : Home → ItemId → BidEntry → Option Refusal → Deeds
 deeds_at at item entry refused = record { first = Look (look.Left item); second = bid_act item entry refused; home = at; other = at }
@@ -64,14 +80,14 @@ module _ {N : Type 0} (step : Step) (w : WorkerState) (item : ItemId) (entry : B
 
   pub bid_took_one : IsSome (shard_at step.homes.item) → length (held_in b.taken) ≡ 1
   bid_took_one some =
-      sym (length-map (held_in b.taken) (λ (h : HeldState). h.number)) ∙ ap length begun.taken.numbers ∙ alone (shard_at step.homes.item) step.homes.other some begun.homes_are.1
+      sym (length-map (held_in b.taken) (λ (h : HeldState). h.number)) ∙ ap length begun.taken.numbers ∙ alone (shard_at step.homes.item) step.homes.other some begun.may.homes_are.1
 
   module _ (held : HeldState) (is : b.taken ≡ taken.One held) where
     abbrev seen : Option (Facts × ℕ)
     seen = stock (contents held.shard (Item item))
 
     its_number : shard_at step.homes.item ≡ Some held.number
-    its_number = at_number (shard_at step.homes.item) step.homes.other held.number (sym (ap (λ took. map (λ (h : HeldState). h.number) (held_in took)) is) ∙ begun.taken.numbers) begun.homes_are.1
+    its_number = at_number (shard_at step.homes.item) step.homes.other held.number (sym (ap (λ took. map (λ (h : HeldState). h.number) (held_in took)) is) ∙ begun.taken.numbers) begun.may.homes_are.1
 
     its_taken : IsAsTaken step.initial step.workers w.key held
     its_taken = (rw is at begun.taken.taken).0
@@ -94,6 +110,13 @@ module _ {N : Type 0} (step : Step) (w : WorkerState) (item : ItemId) (entry : B
     pub bid_counts : (contents held.shard (Item item)).bids.bids + 1 < 2 ^ 64
     bid_counts = let within = begun.within in let later = its_clock in omega (arith, its_taken.within.bids item, within, later)
 
+    -- no slice has its operation
+    pub bid_entered : (index : ℕ) (reply : Reply) → with_entry w b.number index request reply ≡ after_commit w b.number index request reply
+    bid_entered index (BidStored id) =
+        let cold = cold_home w.slices (length step.initial) (Item item) step.homes.item held.number begun.may.homes_are.0 its_number in
+        λ i. record (with_entry w b.number index request (BidStored id)) { slices = bid_unsliced w.slices item id entry.bidder entry.amount entry.time (id.worker == w.journal.worker) cold i }
+    bid_entered index reply = refl
+
     is_seen : IsSeen w request step.homes b.taken seen
     is_seen = record {
       fixed = λ other needs none. absurd (cc (sym none ∙ its_number));
@@ -102,11 +125,7 @@ module _ {N : Type 0} (step : Step) (w : WorkerState) (item : ItemId) (entry : B
 
     module _ (refused : Option Refusal) (reply : Reply) (by : refused ≡ refusal_with seen request) (answered : IsReplyUnless w refused request reply) where
       replied : IsReplyBy w seen request reply
-      replied = reply_by w seen request refused reply begun.allowed by answered
-
-      -- an id in the reply is one of the worker
-      pub bid_own : IsOwn w.journal.worker reply
-      bid_own = own_reply w seen request reply replied refl
+      replied = reply_by w seen request refused reply begun.may.allowed by answered
 
       module _ (id : entry.id ≡ next_bid w) where
         abbrev deeds : Deeds
@@ -121,10 +140,10 @@ module _ {N : Type 0} (step : Step) (w : WorkerState) (item : ItemId) (entry : B
         owed : AreDeedsOf w.slices (length step.initial) acts (event_with seen reply deeds.first) (event_with seen reply deeds.second) step.homes.item step.homes.item
         owed t = at refused reply answered where
           its_look : is_done_on t (length step.initial) (hot_objects w.slices) (event.Look (shown.Left item seen)) ≡ is_at step.homes.item t
-          its_look = done_is w.slices (length step.initial) t (Item item) step.homes.item begun.homes_are.0 (event.Look (shown.Left item seen)) refl
+          its_look = done_is w.slices (length step.initial) t (Item item) step.homes.item begun.may.homes_are.0 (event.Look (shown.Left item seen)) refl
 
           its_bid : is_done_on t (length step.initial) (hot_objects w.slices) (event.Bid item entry) ≡ is_at step.homes.item t
-          its_bid = done_is w.slices (length step.initial) t (Item item) step.homes.item begun.homes_are.0 (event.Bid item entry) refl
+          its_bid = done_is w.slices (length step.initial) t (Item item) step.homes.item begun.may.homes_are.0 (event.Bid item entry) refl
 
           at : (refused : Option Refusal) (reply : Reply) → IsReplyUnless w refused request reply
               → padded (done_on t (length step.initial) (hot_objects w.slices) (acts_for w.journal.worker seen request reply))

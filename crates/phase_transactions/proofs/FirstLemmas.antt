@@ -103,10 +103,7 @@ begun_before {N} {step} {w} {request} before after same number_is begun =
     let all = taken_before step.initial step.workers w.key took now same begun.taken.taken in
     let known = known_by_numbers (length w.key.seats) (held_in now) (subst (AllByRecursion (λ n. n < length w.key.seats)) (sym numbers) (known_of_numbers (length w.key.seats) (held_in took) begun.held.known)) in
     record {
-      allowed = begun.allowed;
-      goes = begun.goes;
-      homes_are = begun.homes_are;
-      asked = begun.asked;
+      may = begun.may;
       taken = record { numbers = numbers ∙ begun.taken.numbers; known = known; taken = all; holds = begun.taken.holds; others = begun.taken.others; lines = begun.taken.lines };
       held = record {
         boxes_are = begun.held.boxes_are;

@@ -1,10 +1,12 @@
 -- The shards of a footprint, taken one after the other before anything is read.
-use Rattle.std.proofs.Common.{◌≡◌, ℕ, ◌<◌, ◌==◌, ◌||◌, Bool, true, false, List, [], ◌∷◌, length, refl, sym, ap, subst, ◌∙◌, inl, inr}
-use Rattle.std.{proofs.lemmas.Bool.{true≢false}, specs.List.{AllByRecursion}}
-use Rattle.shard_boxes.specs.{Helds.{HeldState}, Keys.{KeyState, SeatState, taking, seen_at}}
+use Rattle.std.proofs.Common.{◌≡◌, ◌≢◌, ℕ, ◌<◌, ◌==◌, ◌||◌, Bool, true, false, if◌then◌else◌, List, [], ◌∷◌, length, Option, Some, None, refl, sym, ap, subst, ◌∙◌, inl, inr}
+use Rattle.std.proofs.lemmas.Bool.{true≢false, eq-eqb, ne_eqb, or_from}
+use Rattle.std.specs.List.{AllByRecursion}
+use Rattle.shard_boxes.specs.{Helds.{HeldState}, Keys.{BoxId, KeyState, SeatState, taking, seen_at}}
 use Rattle.shard_boxes.specs.{Lines.{IsShardHistory, StartsWith}, States.{ShardState, state_of}}
 use Rattle.phase_transactions.proofs.KeyLemmas.{at_each, many, still_taken, held_seat, lines_still, lines_on, lines_taken}
-use Rattle.phase_transactions.specs.{Workers.{IsIdle}, inner.Takens.{is_one_of, HasTakenAll}}
+use Rattle.phase_transactions.specs.Workers.{IsIdle}
+use Rattle.phase_transactions.specs.inner.Takens.{each_once, is_one_of, AreApart, AreHeldAll, HasTakenAll}
 
 -- none
 pub taken_none : (initial : List ShardState) (workers : ℕ) (key : KeyState) → IsIdle key → HasTakenAll initial workers key key [] []
@@ -48,4 +50,28 @@ taken_turned {a = a} {b = b} its = record {
   holds = λ t. its.holds t ∙ either (a == t) (b == t);
   others = λ t left. its.others t (either (a == t) (b == t) ∙ left);
   lines = its.lines;
+}
+
+-- each shard of a footprint is named once
+apart_if : (a b : ℕ) (same : Bool) → (a == b) ≡ same → AreApart (if same then a ∷ [] else a ∷ b ∷ [])
+apart_if a b true is = (refl, tt)
+apart_if a b false is =
+    let other : b ≢ a = λ e. true≢false (sym (eq-eqb a b (sym e)) ∙ is) in
+    (or_from _ _ (ne_eqb b a other) refl, (refl, tt))
+
+once_apart : (a b : Option ℕ) → AreApart (each_once a b)
+once_apart None None = tt
+once_apart None (Some b) = (refl, tt)
+once_apart (Some a) None = (refl, tt)
+once_apart (Some a) (Some b) = apart_if a b (a == b) refl
+
+-- so its shards can go back
+pub taken_held : {initial : List ShardState} {workers : ℕ} {boxes : List BoxId} {old key : KeyState} {held : List HeldState} (a b : Option ℕ)
+    → HasTakenAll initial workers old key (each_once a b) held → old.boxes ≡ boxes → AreHeldAll initial workers boxes key held
+taken_held a b its its_boxes = record {
+  boxes_are = its.lines.boxes ∙ its_boxes;
+  apart = subst AreApart (sym its.numbers) (once_apart a b);
+  known = its.known;
+  holds = λ t. its.holds t ∙ ap (λ shards. is_one_of shards t) (sym its.numbers);
+  taken = its.taken;
 }

@@ -134,7 +134,7 @@ module _ {N : Type 0} (step : Step) (w : WorkerState) (request : Request) (b : B
   object = (shows_one request view).0
 
   abbrev its_home : (h : Home) × IsOnlyHome w.slices (length initial) homes object h
-  its_home = only_home w (length initial) request homes object (shows_one request view).1 begun.goes begun.homes_are
+  its_home = only_home w (length initial) request homes object (shows_one request view).1 begun.may.goes begun.may.homes_are
 
   abbrev h : Home
   h = its_home.0
@@ -157,7 +157,7 @@ module _ {N : Type 0} (step : Step) (w : WorkerState) (request : Request) (b : B
           ap (shard_of object) all.0.shards_is ∙ sym (home_number w.slices (length initial) n object h its_home.1.at its_shard.1) ∙ sym number ∙ sym all.0.number_is in
           record {
             here = λ other is. subst (LiesIn one.shard) (same_Some object other (sym (shows_one request view).1 ∙ is)) lies;
-            allowed = subst (λ start. number_refusal start request ≡ None) (sym (all.0.opening_is ∙ openings one.number all.0.known)) begun.allowed;
+            allowed = subst (λ start. number_refusal start request ≡ None) (sym (all.0.opening_is ∙ openings one.number all.0.known)) begun.may.allowed;
           }
       go (taken.Two one other) all numbers = absurd (cc)
 
@@ -166,10 +166,10 @@ module _ {N : Type 0} (step : Step) (w : WorkerState) (request : Request) (b : B
   view_answered index reply found answers =
       let z = setting_of w (length initial) in
       let txn = txn_of w number request index reply found in
-      let none : reason_seen z txn ≡ None = ap (λ b. cond b (number_refusal w.opening request) (refusal_seen z txn)) view ∙ begun.allowed in
+      let none : reason_seen z txn ≡ None = ap (λ b. cond b (number_refusal w.opening request) (refusal_seen z txn)) view ∙ begun.may.allowed in
       record {
         answered = subst (λ refused. MatchOption refused (IsReplyTo w.counters w.journal.worker request reply) (λ reason. reply ≡ Refused reason)) (sym none) (answers w.counters w.journal.worker);
-        not_put_off = ap (λ objects. is_put_off objects request) (same_objects_of w.slices) ∙ begun.goes;
+        not_put_off = ap (λ objects. is_put_off objects request) (same_objects_of w.slices) ∙ begun.may.goes;
       }
 
   view_owed : (reply : Reply) → AreDeedsOf w.slices (length initial) (acts_for w.journal.worker None request reply) (event_with None reply (Look (look_for request))) (event.Look shown.Nothing) h home.Nowhere

@@ -132,7 +132,7 @@ pub(crate) fn item_on<N: PhaseName>(taken: &Taken<N>, item: ItemId) -> Option<It
     ensures { IsShownBy taken.now (ViewItem item) (look.Item item) (item_told result) }
 {
     match taken {
-        Taken::One(one) => one.item_seen(item),
+        Taken::One(one) => one.shard().item_seen(item),
         Taken::Nothing | Taken::Two(_, _) => unreachable!(),
     }
 }

@@ -91,8 +91,10 @@ pub(crate) fn number_on<N: PhaseName>(taken: &Taken<N>, own: u64) -> Option<u64>
 {
     match taken {
         Taken::Nothing => next_number(own, 0),
-        Taken::One(one) => one.next_number(own),
-        Taken::Two(item, other) => item.next_number(own.max(other.clock())),
+        Taken::One(one) => next_number(own, one.shard().clock()),
+        Taken::Two(item, other) => {
+            next_number(own.max(other.shard().clock()), item.shard().clock())
+        }
     }
 }
 
@@ -104,8 +106,8 @@ pub(crate) fn refusal_in<N: PhaseName>(taken: &Taken<N>, request: &Request) -> O
 {
     match taken {
         Taken::Nothing => refusal_with(&None, request),
-        Taken::One(one) => one.refusal(request),
-        Taken::Two(one, _) => one.refusal(request),
+        Taken::One(one) => one.shard().refusal(request),
+        Taken::Two(one, _) => one.shard().refusal(request),
     }
 }
 

@@ -1,6 +1,6 @@
 //! What a worker does with a request that is not put off: what it finds, and how it answers.
 ghost use Rattle.std.specs.List.{AllByRecursion};
-ghost use Rattle.std.specs.Prelude.{◌≡◌, ◌<◌, ◌≤◌, ◌↔◌, ℕ, suc, None, Some, IsNone, IfNone, IfSome, IfOk, IfErr, false, true, length};
+ghost use Rattle.std.specs.Prelude.{◌≡◌, ◌<◌, ◌≤◌, ◌↔◌, suc, None, Some, IsNone, IfNone, IfSome, IfOk, IfErr, false, true, length};
 ghost use Rattle.auction_rows.specs.{Refusals.{number_refusal}, Requests.{is_view}};
 ghost use Rattle.auction_rows.specs.StoreReplies.{reply_of};
 ghost use Rattle.item_shards.specs.{Answering.{bid_request}, CommitNumbers.{last_number}};
@@ -22,14 +22,15 @@ use worker_journals::{Answer, BidRequest, ReplyForm};
 use worker_slices::Homes;
 
 impl<N: PhaseName> Worker<N> {
+    ghost use Rattle.auction_rows.specs.declared.requests.Request.{Request as RequestValue};
     ghost use Rattle.worker_slices.specs.{Homes.{IsHotStore, shard_at}, Slicing.{hot_objects}};
     ghost use Rattle.worker_slices.specs.declared.homes.Homes.{Homes as HomesValue};
-    ghost use Rattle.phase_transactions.specs.Performing.{asks, CanTransact, HasCommitted, HasCommittedSome, HasFailed, HasPerformed, HasStoredSome, HaveOpening, StoresItem};
+    ghost use Rattle.phase_transactions.specs.Performing.{CanTransact, HasCommitted, HasCommittedSome, HasFailed, HasPerformed, HasStoredSome, HaveOpening, StoresItem};
     ghost use Rattle.phase_transactions.specs.{Txns.{is_put_off}, Workers.{next_bid}};
-    ghost use Rattle.phase_transactions.specs.inner.Begun.{step_of, HasBegun, HasFirst, HasRoomFor, IsAnsweredBy, IsOnOne, states_in};
-    ghost use Rattle.phase_transactions.specs.inner.Homes.{AreHomesOf, HasHomes};
+    ghost use Rattle.phase_transactions.specs.inner.Begun.{step_of, HasBegun, HasFirst, HasRoomFor, IsAnsweredBy, IsOnOne, MayBegin, states_in};
+    ghost use Rattle.phase_transactions.specs.inner.Homes.{HasHomes};
     ghost use Rattle.phase_transactions.specs.inner.Storing.{HasStoredOrIsFull};
-    ghost use Rattle.phase_transactions.specs.inner.Takens.{footprint_of, is_one_of, IsReady};
+    ghost use Rattle.phase_transactions.specs.inner.Takens.{footprint_of, IsReady};
     ghost use Rattle.phase_transactions.specs.inner.Viewing.{IsShownBy};
     ghost use Rattle.request_scripts.specs.Scripts.{request_of};
 
@@ -118,17 +119,16 @@ impl<N: PhaseName> Worker<N> {
             return self.store_hot(call, &homes);
         }
 
-        let begun = self.begin(rt, boxes, request, &homes)?;
+        let begun = self.begin(rt, boxes, &homes)?;
         let Begun { taken, number } = begun;
         let mut held = taken.one();
         let (trace, refused) = held.bid(number, index, item, entry);
         boxes.put_acted(&mut self.key, held, trace);
-        let store = Store {
-            call,
-            homes: &homes,
-            reply: self.reply_to_bid(refused, bid),
+        // The item is in a shard, so no slice is written.
+        let answer = Answer {
+            form: ReplyForm::Store(self.reply_to_bid(refused, bid)),
         };
-        self.add_store(number, &store);
+        self.add_entry(number, call, &answer);
         Ok(())
     }
 
@@ -157,7 +157,7 @@ impl<N: PhaseName> Worker<N> {
         }
 
         // The shards are taken in ascending order, each once, before anything is read.
-        let mut begun = self.begin(rt, boxes, request, &homes)?;
+        let mut begun = self.begin(rt, boxes, &homes)?;
         if self.prepare(&mut begun, request).is_err() {
             let Begun { taken, number: _ } = begun;
             put_back(boxes, &mut self.key, taken);
@@ -181,20 +181,18 @@ impl<N: PhaseName> Worker<N> {
         &mut self,
         rt: &R,
         boxes: &Boxes<N>,
-        request: &Request,
         homes: &Homes,
     ) -> Result<Begun<N>, PermitFault>
         requires ready { IsReady boxes.now self.old.key }
-        requires allowed { number_refusal self.old.opening request.now ≡ None }
-        requires goes { is_put_off (hot_objects self.old.slices) request.now ≡ false }
-        requires homes { AreHomesOf self.old (length N.initial) request.now homes.now }
-        requires asked { (t : ℕ) →
-            asks (length N.initial) self.old request.now t ≡ is_one_of (footprint_of homes.now) t }
         requires known { AllByRecursion (λ s. s < length N.initial) (footprint_of homes.now) }
         ensures worker { self.new ≡ record self.old { key = self.new.key } }
-        ensures begun { IfOk result (HasBegun
-            (step_of N.initial N.workers boxes.now self.old.key homes.now) self.new request.now) }
-        ensures full { IfErr result (HasFailed N.initial self.old self.new request.now) }
+        ensures begun { IfOk result (λ begun. (request : RequestValue) →
+            MayBegin (length N.initial) self.old request homes.now → HasBegun
+            (step_of N.initial N.workers boxes.now self.old.key homes.now)
+            self.new request begun) }
+        ensures full { IfErr result (λ fault. (request : RequestValue) →
+            MayBegin (length N.initial) self.old request homes.now →
+            HasFailed N.initial self.old self.new request fault) }
     {
         let taken = take_all(rt, boxes, &mut self.key, homes);
         match number_on(&taken, self.clock) {
@@ -322,7 +320,7 @@ impl<N: PhaseName> Worker<N> {
             return self.refuse(call, reason);
         }
         let homes = self.homes(request);
-        let begun = self.begin(rt, boxes, request, &homes)?;
+        let begun = self.begin(rt, boxes, &homes)?;
         if let Request::ViewItem { item } = *request {
             let seen = item_on(&begun.taken, item);
             let view = View {

@@ -5,7 +5,8 @@ ghost use Rattle.shard_boxes.specs.Keys.{taking, putting, lines_at, seen_at, hol
 ghost use Rattle.shard_boxes.specs.Lines.{lines_of, seen_line, StartsWith, IsShardHistory};
 ghost use Rattle.shard_boxes.specs.States.{state_of};
 
-use crate::key::{Held, Key};
+use crate::held::Held;
+use crate::key::Key;
 use crate::line::{Line, Trace};
 use crate::shard_box::ShardBox;
 use item_shards::Shard;
@@ -38,7 +39,8 @@ impl PhaseName for Brand {
 #[derive(Drop)]
 pub struct Boxes<N: PhaseName> {
     pub(crate) boxes: Vec<ShardBox>,
-    pub(crate) answer: Vec<Shard>,
+    // What closing gives: empty until then, with room for all shards, so that it takes no memory.
+    pub(crate) closed_shards: Vec<Shard>,
     pub(crate) of: PhantomData<N>,
 }
 
@@ -53,7 +55,7 @@ impl<N: PhaseName> Model for Boxes<N> {
 
     ghost invariant = { λ b. (vec_len b.boxes ≡ length N.initial)
         × (length N.initial ≤ MOST_SHARDS) × (0 < N.workers)
-        × (vec_len b.answer ≡ 0) × (length N.initial ≤ vec_capacity b.answer)
+        × (vec_len b.closed_shards ≡ 0) × (length N.initial ≤ vec_capacity b.closed_shards)
         × (0 < length N.initial) × AreInitial N.initial };
 }
 

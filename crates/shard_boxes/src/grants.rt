@@ -63,7 +63,7 @@ impl<N: PhaseName> Boxes<N> {
         let Ok(keys) = Vec::with_capacity(alloc, workers as usize) else {
             return Err((shards, AllocError));
         };
-        let Ok(answer) = Vec::with_capacity(alloc, count) else {
+        let Ok(closed_shards) = Vec::with_capacity(alloc, count) else {
             return Err((shards, AllocError));
         };
         let grants = open_all::<N>(&boxes, grants, shards);
@@ -71,7 +71,7 @@ impl<N: PhaseName> Boxes<N> {
         Ok((
             Boxes {
                 boxes,
-                answer,
+                closed_shards,
                 of: PhantomData,
             },
             keys,
@@ -185,11 +185,11 @@ impl<N: PhaseName> Boxes<N> {
     {
         let Boxes {
             boxes,
-            answer,
+            closed_shards,
             of: _,
         } = self;
         let grants = collect_all(&boxes, keys);
-        let (shards, grants) = take_all::<N>(&boxes, grants, answer);
+        let (shards, grants) = take_all::<N>(&boxes, grants, closed_shards);
         (shards, Spare { boxes, grants })
     }
 }
@@ -236,14 +236,15 @@ fn collect<N: PhaseName>(boxes: &[ShardBox], key: Key<N>, others: Vec<Grant>) ->
 fn take_all<N: PhaseName>(
     boxes: &[ShardBox],
     mut grants: Vec<Grant>,
-    mut answer: Vec<Shard>,
+    mut closed_shards: Vec<Shard>,
 ) -> (Vec<Shard>, Vec<Grant>)
     requires opened { AreInitial N.initial }
     requires boxes { length boxes.now ≡ length N.initial }
     requires free { AreFree N.initial N.workers boxes.now 0 grants.items }
     requires own { (s : ℕ) (d : GrantState) → s < length grants.items →
         length (own_at grants.items s d) ≡ N.workers }
-    requires answer { (vec_len answer ≡ 0) × (length N.initial ≤ vec_capacity answer) }
+    requires closed_shards { (vec_len closed_shards ≡ 0)
+        × (length N.initial ≤ vec_capacity closed_shards) }
     ensures len { length result.0.items ≡ length N.initial }
     ensures each { (s : ℕ) (d : GrantState) → s < length N.initial →
         IsTaken N.initial N.workers (own_at grants.items s d) s
@@ -252,7 +253,7 @@ fn take_all<N: PhaseName>(
 {
     for s in 0..boxes.len() {
         let shard = boxes[s].take_last(&mut grants[s]);
-        answer.push_reserved(shard);
+        closed_shards.push_reserved(shard);
     }
-    (answer, grants)
+    (closed_shards, grants)
 }

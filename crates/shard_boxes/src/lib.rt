@@ -8,6 +8,7 @@
 
 mod boxes;
 mod grants;
+mod held;
 mod key;
 mod limits;
 mod line;
@@ -15,7 +16,8 @@ mod shard_box;
 mod spare;
 
 pub use boxes::{Boxes, PhaseName};
-pub use key::{Held, Key, sums_fit};
-pub use limits::{MOST_COMMITS, MOST_KEPT};
+pub use held::Held;
+pub use key::Key;
+pub use limits::{MOST_COMMITS, MOST_KEPT, sums_fit};
 pub use line::{Line, Trace};
 pub use spare::Spare;

@@ -1,8 +1,9 @@
 //! An entry of a journal, where it lies, and the reply of a commit, in few bytes.
-ghost use Rattle.std.specs.Prelude.{◌≡◌, ◌+◌, ◌<◌, ◌^◌, ◌∷◌, ◌++◌, [], Some, OnOk, length, option_map, option_to_list, slice_get};
+ghost use Rattle.std.specs.Prelude.{◌≡◌, ◌<◌, ◌∷◌, ◌++◌, [], Some, OnOk, length, option_map, option_to_list, slice_get};
 ghost use Rattle.auction_rows.specs.{Choosing.{written_by}, History.{row_of_entry}};
 ghost use Rattle.auction_rows.specs.{ItemViews.{item_told}, StoreReplies.{is_refusal, store_reply}};
-ghost use Rattle.worker_journals.specs.{Shown.{shown_in}, inner.Entries.{SaysEntry}};
+ghost use Rattle.worker_journals.specs.{Journals.{IsLawfulJournal}, Shown.{shown_in}};
+ghost use Rattle.worker_journals.specs.inner.Entries.{SaysEntry};
 
 use crate::heads::Head;
 use crate::journal::Journal;
@@ -24,24 +25,24 @@ pub struct EntryRef<'a> {
 impl<'a> Model for EntryRef<'a> {
     ghost use Rattle.std.specs.Prelude.{◌<◌, length};
     ghost use Rattle.auction_rows.specs.declared.rows.Entry.{Entry};
-    ghost use Rattle.worker_journals.specs.inner.Places.{entry_at};
+    ghost use Rattle.worker_journals.specs.{Journals.{IsLawfulJournal}, inner.Places.{entry_at}};
 
     ghost Value = { Entry };
 
     ghost view = { λ e. entry_at e.place e.journal.now.entries };
 
-    ghost invariant = { λ e. e.place < length e.journal.now.entries };
+    ghost invariant = { λ e. (e.place < length e.journal.now.entries)
+        × IsLawfulJournal e.journal.now };
 }
 
 impl<'a> EntryRef<'a> {
-    /// The reference to a journal's entry at a place. The place after it is a `usize` too.
+    /// The reference to a lawful journal's entry at a place.
     #[inline(always)]
     pub(crate) fn of(journal: &'a Journal, place: usize) -> EntryRef<'a>
-        requires { place < length journal.now.entries }
+        requires place { place < length journal.now.entries }
+        requires lawful { IsLawfulJournal journal.now }
         ensures entry { slice_get journal.now.entries place ≡ Some result }
-        ensures next { place + 1 < 2 ^ 64 }
     {
-        journal.keeps_law();
         EntryRef { journal, place }
     }
 
@@ -59,7 +60,6 @@ impl<'a> EntryRef<'a> {
         ensures { result ≡ self.now.phase }
     {
         // A lawful journal is of one phase and one worker.
-        self.journal.keeps_law();
         self.journal.phase()
     }
 
@@ -76,7 +76,6 @@ impl<'a> EntryRef<'a> {
         ensures { result ≡ self.now.worker }
     {
         // A lawful journal is of one phase and one worker.
-        self.journal.keeps_law();
         self.journal.worker()
     }
 

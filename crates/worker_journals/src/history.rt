@@ -308,7 +308,7 @@ fn entry_of(here: &[Journal], place: usize) -> Option<EntryRef<'_>>
 {
     let journal = here.first()?;
     if place < journal.len() {
-        Some(EntryRef::of(journal, place))
+        Some(journal.entry(place))
     } else {
         None
     }

@@ -167,14 +167,8 @@ impl Journal {
         }
     }
 
-    /// Gives back the memory that no entry fills: there is no more room then.
-    pub fn close(&mut self)
-        ensures { self.new ≡ closed_journal self.old }
-    {
-        let _lists = self.close_kept();
-    }
-
-    /// As `close`, and gives memory that no entry fills for another journal.
+    /// Closes the journal: there is no more room. The memory that no entry fills is given back, or
+    /// to the caller for another journal.
     pub fn close_kept(&mut self) -> SpareLists
         ensures { self.new ≡ closed_journal self.old }
     {
@@ -199,22 +193,14 @@ impl Journal {
         }
     }
 
-    /// How many entries there are.
+    /// How many entries there are. They are lawful.
     #[inline(always)]
     pub fn len(&self) -> usize
         ensures len { result ≡ length self.now.entries }
         ensures lawful { IsLawfulJournal self.now }
-    {
-        self.heads.len()
-    }
-
-    // What the type keeps: the entries are lawful, and can be counted. The call does nothing.
-    #[inline(always)]
-    pub(crate) fn keeps_law(&self)
-        ensures lawful { IsLawfulJournal self.now }
         ensures fits { length self.now.entries < 2 ^ 64 }
     {
-        self.len();
+        self.heads.len()
     }
 
     /// Whether the journal has no entry.
@@ -235,11 +221,14 @@ impl Journal {
     }
 
     /// The entry at a place from 0, where it lies. The place after it is a `usize` too.
+    #[inline(always)]
     pub fn entry(&self, place: usize) -> EntryRef<'_>
         requires { place < length self.now.entries }
         ensures entry { slice_get self.now.entries place ≡ Some result }
         ensures next { place + 1 < 2 ^ 64 }
     {
+        let len = self.len();
+        prove!(place < len);
         EntryRef::of(self, place)
     }
 
@@ -304,7 +293,7 @@ impl<'a> Iterator for JournalEntries<'a> {
         if self.place >= self.journal.len() {
             return None;
         }
-        let entry = EntryRef::of(self.journal, self.place);
+        let entry = self.journal.entry(self.place);
         self.place += 1;
         Some(entry)
     }

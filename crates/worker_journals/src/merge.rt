@@ -69,7 +69,7 @@ impl<'a> Iterator for Merging<'a> {
         };
         let place = self.places[worker];
         let journal = &self.journals[worker];
-        let entry = EntryRef::of(journal, place);
+        let entry = journal.entry(place);
         self.places[worker] = place + 1;
         self.numbers[worker] = number_at(journal, place + 1);
         Some(entry)
@@ -96,7 +96,7 @@ pub fn merge_journals(alloc: Global, journals: Vec<Journal>) -> Result<Vec<Entry
     while let Some(worker) = least_of(&numbers) {
         let place = places[worker];
         let journal = &journals[worker];
-        EntryRef::of(journal, place).push_to(&mut entries)?;
+        journal.entry(place).push_to(&mut entries)?;
         places[worker] = place + 1;
         numbers[worker] = number_at(journal, place + 1);
     }
@@ -123,7 +123,7 @@ fn number_at(journal: &Journal, place: usize) -> Option<u64>
     if place >= journal.len() {
         return None;
     }
-    Some(EntryRef::of(journal, place).number())
+    Some(journal.entry(place).number())
 }
 
 // The place of the first of the least numbers, if there is a number.

@@ -36,17 +36,22 @@ abbrev pub step_of : List ShardState → ℕ → List BoxId → KeyState → Hom
 step_of initial workers boxes key homes =
     record { initial = initial; workers = workers; boxes = boxes; key = key; homes = homes }
 
--- A worker has taken the shards of a request's footprint, and there is a number after its clock and
--- theirs.
-pub record HasBegun {N : Type 0} (step : Step) (w : WorkerState) (request : Request)
-    (begun : Begun N) : Type 0 where
+-- A request may begin, in a phase with so many shards, over these homes.
+pub record MayBegin (shards : ℕ) (w : WorkerState) (request : Request)
+    (homes : Homes) : Type 0 where
   -- the request is one that the opening does not refuse, and not put off
   pub allowed : number_refusal w.opening request ≡ None
   pub goes : is_put_off (hot_objects w.slices) request ≡ false
   -- its objects have these homes, and the shards among them are its footprint
-  pub homes_are : AreHomesOf w (length step.initial) request step.homes
-  pub asked : (t : ℕ) →
-      asks (length step.initial) w request t ≡ is_one_of (footprint_of step.homes) t
+  pub homes_are : AreHomesOf w shards request homes
+  pub asked : (t : ℕ) → asks shards w request t ≡ is_one_of (footprint_of homes) t
+
+-- A worker has taken the shards of a request's footprint, and there is a number after its clock and
+-- theirs.
+pub record HasBegun {N : Type 0} (step : Step) (w : WorkerState) (request : Request)
+    (begun : Begun N) : Type 0 where
+  -- the request may begin over these homes
+  pub may : MayBegin (length step.initial) w request step.homes
   -- the shards were taken, and can go back
   pub taken : HasTakenAll step.initial step.workers step.key w.key
       (footprint_of step.homes) (held_in begun.taken)

@@ -9,6 +9,9 @@ use Rattle.phase_transactions.{proofs.KeyLemmas.{idle_put}, specs.Workers.{IsIdl
 use Rattle.phase_tests.proofs.permits.ClosedLemmas.{first_has}
 use Rattle.phase_tests.proofs.box_tests.put_by_hand.Goals as goal
 
+pub list-line-requires-clause-later : goal.list-line-requires-clause-later
+list-line-requires-clause-later g c = omega (arith, ap clock c.shard_mut.ensures.value, ap clock c.shard.ensures, c.clock-clock.ensures)
+
 pub list-line-requires-clause-here : goal.list-line-requires-clause-here
 list-line-requires-clause-here g c =
     let known = c.take-held.ensures.history in
@@ -26,7 +29,7 @@ put-requires-clause-may g c =
     let found = ap state_of c.shard_mut.ensures.value ∙ take.history.state_is ∙ ap (taken_at g.N.PhaseName.initial c.take-held.new.key) (sym take.number) in
     let clocks = ap (λ (s : ShardState). s.clock) found in (
       line.before ∙ clocks,
-      omega (arith, clocks, ap clock c.shard_mut.ensures.value, c.clock-clock.ensures, line.number),
+      omega (arith, clocks, ap clock c.shard_mut.ensures.value, ap clock c.shard.ensures, c.clock-clock.ensures, line.number),
       line.after ∙ ap (λ taken. after_line taken (seen_line taken c.list-line.result)) found,
     )
 

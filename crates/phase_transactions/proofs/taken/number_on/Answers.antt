@@ -1,4 +1,4 @@
-use Rattle.std.proofs.Common.{◌≡◌, max, refl, arith}
+use Rattle.std.proofs.Common.{◌≡◌, max, refl, ap, ◌∙◌, arith}
 use Rattle.item_shards.specs.ShardContents.{clock}
 use Rattle.phase_transactions.proofs.NumberLemmas.{some_number, some_within, none_full}
 use Rattle.phase_transactions.proofs.taken.number_on.Goals as goal
@@ -16,23 +16,26 @@ returns-in-Nothing g c =
 pub returns-in-One : goal.returns-in-One
 returns-in-One g c =
     let own = c.args.own in
-    let found = clock c.in-One.one.shard in
+    let found = c.clock.result in
     let next = c.next_number-in-One in
-    let greatest : max own found ≡ max own (max found 0) = omega arith in
+    let most = max own (max (clock c.in-One.one.shard) 0) in
+    let one : found ≡ clock c.in-One.one.shard = c.clock.ensures ∙ ap clock c.shard.ensures in
+    let greatest : max own found ≡ most = omega (arith, one) in
     record {
-      number = rw c.in-One.is (some_number own found (max own (max found 0)) greatest next.result next.ensures.number);
+      number = rw c.in-One.is (some_number own found most greatest next.result next.ensures.number);
       within = some_within own found next.result next.ensures.number next.ensures.none;
-      full = rw c.in-One.is (none_full own found (max own (max found 0)) greatest next.result next.ensures.none);
+      full = rw c.in-One.is (none_full own found most greatest next.result next.ensures.none);
     }
 
 pub returns-in-Two : goal.returns-in-Two
 returns-in-Two g c =
     let own = c.args.own in
-    let found = clock c.in-Two.item.shard in
-    let more = clock c.in-Two.other.shard in
+    let found = c.clock-in-Two-2.result in
     let next = c.next_number-in-Two in
-    let most = max own (max found (max more 0)) in
-    let greatest : max c.max.result found ≡ most = omega (arith, c.max.ensures, c.clock.ensures) in
+    let most = max own (max (clock c.in-Two.item.shard) (max (clock c.in-Two.other.shard) 0)) in
+    let other : c.clock-in-Two.result ≡ clock c.in-Two.other.shard = c.clock-in-Two.ensures ∙ ap clock c.shard-in-Two.ensures in
+    let item : found ≡ clock c.in-Two.item.shard = c.clock-in-Two-2.ensures ∙ ap clock c.shard-in-Two-2.ensures in
+    let greatest : max c.max.result found ≡ most = omega (arith, c.max.ensures, other, item) in
     record {
       number = rw c.in-Two.is (some_number c.max.result found most greatest next.result next.ensures.number);
       within = some_within c.max.result found next.result next.ensures.number next.ensures.none;

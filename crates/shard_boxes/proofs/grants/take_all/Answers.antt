@@ -9,8 +9,8 @@ use Rattle.shard_boxes.proofs.grants.take_all.Goals as goal
 
 pub loop-s-init : goal.loop-s-init
 loop-s-init g c = (
-  c.requires.answer.0,
-  c.requires.answer.1,
+  c.requires.closed_shards.0,
+  c.requires.closed_shards.1,
   c.requires.free.0,
   (λ s d low. absurd (omega arith)),
   ((λ k d low. absurd (omega arith)), λ k d from low e. at_itself c.args.grants.items k e d low),
@@ -44,13 +44,13 @@ loop-s-preserved g c =
     let is : (d : GrantState) → slice_index_or all s d ≡ grant = λ d. was.4.1 s grant (le_refl s) below d ∙ sym at in
     let free = subst (λ (l : GrantState). IsFree (state_at initial s) workers 0 l.knows) (is grant) (c.requires.free.1 s grant low) in
     let own : (d : GrantState) → own_at all s d ≡ grant.knows.own = λ d. ap (λ (l : GrantState). l.knows.own) (is d) in
-    let same : length (map state_of c.loop-s.answer.items) ≡ length c.loop-s.answer.items = simp length-map in
-    let many : length (map state_of c.loop-s.answer.items) ≡ s = same ∙ sym c.loop-s.answer.ok.0 ∙ was.0 in
-    let grown = ap (map state_of) p.items ∙ map_push state_of c.loop-s.answer.items shard in (
+    let same : length (map state_of c.loop-s.closed_shards.items) ≡ length c.loop-s.closed_shards.items = simp length-map in
+    let many : length (map state_of c.loop-s.closed_shards.items) ≡ s = same ∙ sym c.loop-s.closed_shards.ok.0 ∙ was.0 in
+    let grown = ap (map state_of) p.items ∙ map_push state_of c.loop-s.closed_shards.items shard in (
       p.len ∙ ap (λ n. n + 1) was.0,
       subst (λ n. length initial ≤ n) (sym p.capacity) was.1,
       same_places grants s grant after at c.take_last-shard.ensures.place ∙ was.2,
-      (λ k d lower. each_push (λ j state. IsTaken initial workers (own_at all j d) j state) (map state_of c.loop-s.answer.items) (map state_of c.push_reserved.new.self.items) (state_of shard) no_shard s many grown (λ j lo. was.3 j d lo)
+      (λ k d lower. each_push (λ j state. IsTaken initial workers (own_at all j d) j state) (map state_of c.loop-s.closed_shards.items) (map state_of c.push_reserved.new.self.items) (state_of shard) no_shard s many grown (λ j lo. was.3 j d lo)
           (taken_is initial workers s grant.knows (own_at all s d) after.knows.seen (state_of shard) here (c.requires.opened s here) free (own d) (c.requires.own s d low) took.kept took.state took.own) k lower),
       swept_more (λ k (x : GrantState). IsSpare x.knows) (λ k (x : GrantState). (d : GrantState) → slice_index_or all k d ≡ x) grants s (s + 1) after below was.4
           (taken_spare grant.knows after.knows (for_all (state_at initial s) workers grant.knows free (ap length (sym (own grant)) ∙ c.requires.own s grant low)) took.view) refl,
@@ -67,10 +67,10 @@ index_mut-requires g c =
 pub push_reserved-requires : goal.push_reserved-requires
 push_reserved-requires g c =
     let was = c.loop-s.invariant in
-    lt_of_lt_of_le (subst (λ n. n < length c.args.boxes.now) (sym was.0) c.loop-s-test.true) (subst (λ n. n ≤ vec_capacity c.loop-s.answer) (sym c.requires.boxes) was.1)
+    lt_of_lt_of_le (subst (λ n. n < length c.args.boxes.now) (sym was.0) c.loop-s-test.true) (subst (λ n. n ≤ vec_capacity c.loop-s.closed_shards) (sym c.requires.boxes) was.1)
 
 pub returns-clause-len : goal.returns-clause-len
-returns-clause-len g c = sym c.loop-s.answer.ok.0 ∙ c.loop-s.invariant.0 ∙ le_antisymm c.loop-s.auto.s-end c.loop-s-test.false ∙ c.requires.boxes
+returns-clause-len g c = sym c.loop-s.closed_shards.ok.0 ∙ c.loop-s.invariant.0 ∙ le_antisymm c.loop-s.auto.s-end c.loop-s-test.false ∙ c.requires.boxes
 
 pub returns-clause-each : goal.returns-clause-each
 returns-clause-each g c = λ s d low. c.loop-s.invariant.3 s d (lt_of_lt_of_le (subst (λ n. s < n) (sym c.requires.boxes) low) c.loop-s-test.false)

@@ -33,8 +33,8 @@ loop-worker-init c =
           ∙ ap merged (starts_before journals places numbers c.len.result none);
     }
 
-pub of-requires : goal.of-requires
-of-requires c =
+pub entry-requires : goal.entry-requires
+entry-requires c =
     let w = c.loop-worker in
     let least = subst (λ ns. IsLeastOf ns c.in-Some.worker) c.deref-in-loop-worker.ensures.value c.in-Some.ensures.least in
     place_within c.args.journals.items w.places.items w.numbers.items w.invariant.merging c.in-Some.worker c.index-journal.result.now
@@ -46,7 +46,7 @@ loop-worker-smaller c =
     let journals = c.args.journals.items in
     let least = subst (λ ns. IsLeastOf ns c.in-Some.worker) c.deref-in-loop-worker.ensures.value c.in-Some.ensures.least in
     let first = entry_listed journals w.places.items w.numbers.items w.invariant.merging c.in-Some.worker c.index-journal.result.now
-    c.index-place.result.now least c.index-journal.ensures c.index-place.ensures c.of.result c.of.ensures.entry in
+    c.index-place.result.now least c.index-journal.ensures c.index-place.ensures c.entry.result c.entry.ensures.entry in
     subst (λ (es : List Entry). length (merged (left_of journals (set w.places.items c.in-Some.worker (c.index-place.result.now + 1)))) < length es)
     (sym first) (omega arith)
 
@@ -56,11 +56,11 @@ loop-worker-preserved c =
     let journals = c.args.journals.items in
     let least = subst (λ ns. IsLeastOf ns c.in-Some.worker) c.deref-in-loop-worker.ensures.value c.in-Some.ensures.least in
     let first = entry_listed journals w.places.items w.numbers.items w.invariant.merging c.in-Some.worker c.index-journal.result.now
-    c.index-place.result.now least c.index-journal.ensures c.index-place.ensures c.of.result c.of.ensures.entry in
+    c.index-place.result.now least c.index-journal.ensures c.index-place.ensures c.entry.result c.entry.ensures.entry in
     record {
       merging = still_merging journals w.places.items w.numbers.items w.invariant.merging c.in-Some.worker c.index-journal.result.now
           c.index-place.result.now least c.index-journal.ensures c.index-place.ensures c.number_at.result c.number_at.ensures.number;
-      told = one_more (merged journals) (merged (left_of journals w.places.items)) w.entries.items c.push_to.new.entries.items c.of.result _ first
+      told = one_more (merged journals) (merged (left_of journals w.places.items)) w.entries.items c.push_to.new.entries.items c.entry.result _ first
           c.in_ok-push_to.ensures w.invariant.told;
     }
 

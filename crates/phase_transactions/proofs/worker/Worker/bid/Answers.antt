@@ -1,18 +1,20 @@
-use Rattle.std.proofs.Common.{◌≡◌, ℕ, true, Some, None, length, Option, refl, sym, ap, subst, ◌∙◌}
+use Rattle.std.proofs.Common.{◌≡◌, ◌<◌, ℕ, suc, max, true, Some, None, length, Option, refl, sym, ap, subst, ◌∙◌, arith}
 use Rattle.std.specs.Prelude.{Bool, IsSome, is_some, not}
 use Rattle.auction_rows.specs.{Refusals.{number_refusal}, StoreReplies.{reply_of}}
 use Rattle.auction_rows.specs.declared.requests.Request.{Request}
 use Rattle.item_shards.specs.Answering.{bid_request}
 use Rattle.shard_boxes.specs.{Helds.{MayPut, taken_at}, Keys.{holds_at, putting}}
 use Rattle.shard_boxes.specs.{Lines.{bid_acts, line_of}, States.{state_of}}
-use Rattle.phase_transactions.proofs.BidLemmas.{bid_commits, bid_counts, bid_held, bid_here, bid_own, bid_took_one}
+use Rattle.phase_transactions.proofs.BegunLemmas.{fault_performed, may_begin}
+use Rattle.phase_transactions.proofs.BidLemmas.{bid_commits, bid_counts, bid_entered, bid_held, bid_here, bid_took_one}
 use Rattle.phase_transactions.proofs.EmptyLemmas.{stored_performed, refused_untaken, hot_untaken}
 use Rattle.phase_transactions.proofs.PutAllLemmas.{acted_holder, acted_may, acted_put}
 use Rattle.phase_transactions.specs.Performing.{HasCommitted, HaveOpening}
-use Rattle.phase_transactions.specs.Workers.{WorkerState, after_commit, next_bid}
+use Rattle.phase_transactions.specs.Workers.{WorkerState, next_bid, with_entry}
 use Rattle.phase_transactions.specs.inner.{Begun.{step_of}, Deeds.{IsReplyUnless}}
+use Rattle.phase_transactions.specs.inner.Takens.{greatest_held, held_in}
 use Rattle.phase_transactions.proofs.worker.Worker.bid.Goals as goal
-use Rattle.worker_slices.specs.{Counting.{IsOwn}, Homes.{IsWrittenAt, shard_at}}
+use Rattle.worker_slices.specs.Homes.{shard_at}
 
 none_of : (o : Option ℕ) (b : Bool) → is_some o ≡ not b → b ≡ true → o ≡ None
 none_of None b is none = refl
@@ -41,29 +43,64 @@ returns-then-is_none g c =
     (λ answer stored. hot_untaken old c.store_hot.new.self (length initial) bid.index request homes answer allowed stored
     c.homes-homes.ensures.footprint item (ap shard_at c.homes-homes.ensures.homes.1)) c.requires.can.goes
 
+pub returns-in_err-begun : goal.returns-in_err-begun
+returns-in_err-begun g c =
+    let initial = g.N.PhaseName.initial in
+    let old = c.args.self.now in
+    let bid = c.args.bid.now in
+    let request : Request = bid_request bid.item bid.entry in
+    let homes = c.homes-homes.result in
+    fault_performed initial old c.begin.new.self request bid.index c.from_residual.result c.in_err-begun.field-0.0 c.from_residual.ensures.1
+    (c.in_err-begun.ensures.full request (may_begin (length initial) old _ request homes _ c.self.view_is c.number_refusal.ensures c.in_default.is c.requires.can.goes c.homes-homes.ensures.homes c.homes-homes.ensures.footprint))
+
 pub one-held-requires : goal.one-held-requires
 one-held-requires g c =
-    let step = step_of g.N.PhaseName.initial g.N.PhaseName.workers c.args.boxes.now c.args.self.now.key c.homes-homes.result in
-    bid_took_one step c.begin.new.self c.args.bid.now.item c.args.bid.now.entry c.in_ok-begun.begun c.in_ok-begun.ensures.begun
-    (subst IsSome c.shard.ensures (c.is_none.ensures ∙ ap not c.if-is_none.false))
+    let initial = g.N.PhaseName.initial in
+    let old = c.args.self.now in
+    let bid = c.args.bid.now in
+    let request : Request = bid_request bid.item bid.entry in
+    let homes = c.homes-homes.result in
+    let step = step_of initial g.N.PhaseName.workers c.args.boxes.now old.key homes in
+    let its = c.in_ok-begun.ensures.begun request (may_begin (length initial) old _ request homes _ c.self.view_is c.number_refusal.ensures c.in_default.is c.requires.can.goes c.homes-homes.ensures.homes c.homes-homes.ensures.footprint) in
+    bid_took_one step c.begin.new.self bid.item bid.entry c.in_ok-begun.begun its (subst IsSome c.shard.ensures (c.is_none.ensures ∙ ap not c.if-is_none.false))
 
 pub bid-trace-requires : goal.bid-trace-requires
 bid-trace-requires g c =
-    let step = step_of g.N.PhaseName.initial g.N.PhaseName.workers c.args.boxes.now c.args.self.now.key c.homes-homes.result in
+    let initial = g.N.PhaseName.initial in
+    let old = c.args.self.now in
     let bid = c.args.bid.now in
-    let held = bid_held step c.begin.new.self bid.item bid.entry c.in_ok-begun.begun c.in_ok-begun.ensures.begun c.one-held.result c.one-held.ensures in
+    let request : Request = bid_request bid.item bid.entry in
+    let homes = c.homes-homes.result in
+    let step = step_of initial g.N.PhaseName.workers c.args.boxes.now old.key homes in
+    let its = c.in_ok-begun.ensures.begun request (may_begin (length initial) old _ request homes _ c.self.view_is c.number_refusal.ensures c.in_default.is c.requires.can.goes c.homes-homes.ensures.homes c.homes-homes.ensures.footprint) in
+    let held = bid_held step c.begin.new.self bid.item bid.entry c.in_ok-begun.begun its c.one-held.result c.one-held.ensures in
     record {
       later = held.later;
       within = held.within;
-      here = bid_here step c.begin.new.self bid.item bid.entry c.in_ok-begun.begun c.in_ok-begun.ensures.begun c.one-held.result c.one-held.ensures;
-      count = bid_counts step c.begin.new.self bid.item bid.entry c.in_ok-begun.begun c.in_ok-begun.ensures.begun c.one-held.result c.one-held.ensures;
+      here = bid_here step c.begin.new.self bid.item bid.entry c.in_ok-begun.begun its c.one-held.result c.one-held.ensures;
+      count = bid_counts step c.begin.new.self bid.item bid.entry c.in_ok-begun.begun its c.one-held.result c.one-held.ensures;
     }
+
+pub put_acted-requires-clause-of : goal.put_acted-requires-clause-of
+put_acted-requires-clause-of g c =
+    let initial = g.N.PhaseName.initial in
+    let old = c.args.self.now in
+    let bid = c.args.bid.now in
+    let request : Request = bid_request bid.item bid.entry in
+    let homes = c.homes-homes.result in
+    let its = c.in_ok-begun.ensures.begun request (may_begin (length initial) old _ request homes _ c.self.view_is c.number_refusal.ensures c.in_default.is c.requires.can.goes c.homes-homes.ensures.homes c.homes-homes.ensures.footprint) in
+    subst (λ (s : WorkerState). s.key.boxes ≡ c.args.boxes.now) (sym c.self-2.view_is) its.held.boxes_are
 
 pub put_acted-requires-clause-holder : goal.put_acted-requires-clause-holder
 put_acted-requires-clause-holder g c =
-    let step = step_of g.N.PhaseName.initial g.N.PhaseName.workers c.args.boxes.now c.args.self.now.key c.homes-homes.result in
+    let initial = g.N.PhaseName.initial in
+    let old = c.args.self.now in
     let bid = c.args.bid.now in
-    let held = bid_held step c.begin.new.self bid.item bid.entry c.in_ok-begun.begun c.in_ok-begun.ensures.begun c.one-held.result c.one-held.ensures in
+    let request : Request = bid_request bid.item bid.entry in
+    let homes = c.homes-homes.result in
+    let step = step_of initial g.N.PhaseName.workers c.args.boxes.now old.key homes in
+    let its = c.in_ok-begun.ensures.begun request (may_begin (length initial) old _ request homes _ c.self.view_is c.number_refusal.ensures c.in_default.is c.requires.can.goes c.homes-homes.ensures.homes c.homes-homes.ensures.footprint) in
+    let held = bid_held step c.begin.new.self bid.item bid.entry c.in_ok-begun.begun its c.one-held.result c.one-held.ensures in
     let made = c.bid-trace.ensures in
     let new = c.bid-trace.new.self in
     subst (λ (s : WorkerState). holds_at s.key new.number ≡ true) (sym c.self-2.view_is) (acted_holder held new c.bid-trace.result.0 made.number made.follows made.after)
@@ -71,46 +108,48 @@ put_acted-requires-clause-holder g c =
 pub put_acted-requires-clause-may : goal.put_acted-requires-clause-may
 put_acted-requires-clause-may g c =
     let initial = g.N.PhaseName.initial in
-    let step = step_of initial g.N.PhaseName.workers c.args.boxes.now c.args.self.now.key c.homes-homes.result in
+    let old = c.args.self.now in
     let bid = c.args.bid.now in
-    let held = bid_held step c.begin.new.self bid.item bid.entry c.in_ok-begun.begun c.in_ok-begun.ensures.begun c.one-held.result c.one-held.ensures in
+    let request : Request = bid_request bid.item bid.entry in
+    let homes = c.homes-homes.result in
+    let step = step_of initial g.N.PhaseName.workers c.args.boxes.now old.key homes in
+    let its = c.in_ok-begun.ensures.begun request (may_begin (length initial) old _ request homes _ c.self.view_is c.number_refusal.ensures c.in_default.is c.requires.can.goes c.homes-homes.ensures.homes c.homes-homes.ensures.footprint) in
+    let held = bid_held step c.begin.new.self bid.item bid.entry c.in_ok-begun.begun its c.one-held.result c.one-held.ensures in
     let made = c.bid-trace.ensures in
     let new = c.bid-trace.new.self in
     let trace = c.bid-trace.result.0 in
     subst (λ (s : WorkerState). MayPut (taken_at initial s.key new.number) (state_of new.shard) (Some trace)) (sym c.self-2.view_is) (acted_may held new trace made.number made.follows made.after)
 
-pub add_store-requires-clause-home : goal.add_store-requires-clause-home
-add_store-requires-clause-home g c =
+pub add_entry-requires-clause-after : goal.add_entry-requires-clause-after
+add_entry-requires-clause-after g c =
+    let initial = g.N.PhaseName.initial in
+    let old = c.args.self.now in
     let bid = c.args.bid.now in
-    subst (λ (s : WorkerState). IsWrittenAt s.slices (bid_request bid.item bid.entry) c.homes-homes.result) (sym c.self-2.view_is) (length g.N.PhaseName.initial, c.in_ok-begun.ensures.begun.homes_are.0)
-
-pub add_store-requires-clause-own : goal.add_store-requires-clause-own
-add_store-requires-clause-own g c =
-    let step = step_of g.N.PhaseName.initial g.N.PhaseName.workers c.args.boxes.now c.args.self.now.key c.homes-homes.result in
-    let w = c.begin.new.self in
-    let bid = c.args.bid.now in
-    let refused = c.bid-trace.result.1 in
-    let reply = reply_of c.reply_to_bid.result in
-    let told = subst (λ (s : WorkerState). IsReplyUnless s refused (bid_request bid.item bid.entry) reply) c.self-2.view_is c.reply_to_bid.ensures in
-    subst (λ (s : WorkerState). IsOwn s.journal.worker reply) (sym c.self-2.view_is)
-    (bid_own step w bid.item bid.entry c.in_ok-begun.begun c.in_ok-begun.ensures.begun c.one-held.result c.one-held.ensures refused reply c.bid-trace.ensures.by told)
+    let request : Request = bid_request bid.item bid.entry in
+    let homes = c.homes-homes.result in
+    let its = c.in_ok-begun.ensures.begun request (may_begin (length initial) old _ request homes _ c.self.view_is c.number_refusal.ensures c.in_default.is c.requires.can.goes c.homes-homes.ensures.homes c.homes-homes.ensures.footprint) in
+    let begun = c.in_ok-begun.begun in
+    let numbered : begun.number ≡ suc (max c.begin.new.self.clock (greatest_held (held_in begun.taken))) = its.numbered in
+    let after : c.begin.new.self.clock < begun.number = omega (arith, numbered) in
+    subst (λ (s : WorkerState). s.clock < begun.number) (sym c.self-2.view_is) after
 
 pub returns : goal.returns
 returns g c =
     let initial = g.N.PhaseName.initial in
     let old = c.args.self.now in
-    let w = c.begin.new.self in
     let bid = c.args.bid.now in
     let request : Request = bid_request bid.item bid.entry in
-    let step = step_of initial g.N.PhaseName.workers c.args.boxes.now old.key c.homes-homes.result in
+    let homes = c.homes-homes.result in
+    let step = step_of initial g.N.PhaseName.workers c.args.boxes.now old.key homes in
+    let its = c.in_ok-begun.ensures.begun request (may_begin (length initial) old _ request homes _ c.self.view_is c.number_refusal.ensures c.in_default.is c.requires.can.goes c.homes-homes.ensures.homes c.homes-homes.ensures.footprint) in
+    let w = c.begin.new.self in
     let begun = c.in_ok-begun.begun in
-    let its = c.in_ok-begun.ensures.begun in
     let held = c.one-held.result in
     let made = c.bid-trace.ensures in
     let refused = c.bid-trace.result.1 in
     let reply = reply_of c.reply_to_bid.result in
-    let new = c.add_store.new.self in
-    let key_is : new.key ≡ c.put_acted.new.key = ap (λ (s : WorkerState). s.key) c.add_store.ensures in
+    let new = c.add_entry.new.self in
+    let key_is : new.key ≡ c.put_acted.new.key = ap (λ (s : WorkerState). s.key) c.add_entry.ensures.entry in
     let line = line_of begun.number bid.index (bid_acts bid.item bid.entry refused) held.shard in
     let put =
     acted_put (bid_held step w bid.item bid.entry begun its held c.one-held.ensures) c.bid-trace.new.self c.bid-trace.result.0 made.number made.follows made.after new.key line made.line
@@ -120,5 +159,6 @@ returns g c =
       reply,
       subst (λ (s : WorkerState). HasCommitted initial s new request bid.index reply) (λ i. record (c.begin.ensures.worker i) { key = old.key })
           (bid_commits step w bid.item bid.entry begun its held c.one-held.ensures refused reply made.by told (c.requires.id ∙ sym (ap next_bid c.begin.ensures.worker)) new bid.index opened put
-          (c.add_store.ensures ∙ (λ i. record (after_commit (c.self-2.view_is i) begun.number bid.index request reply) { key = sym key_is i }))),
+          (c.add_entry.ensures.entry ∙ (λ i. record (with_entry (c.self-2.view_is i) begun.number bid.index request reply) { key = sym key_is i })
+          ∙ (λ i. record (bid_entered step w bid.item bid.entry begun its held c.one-held.ensures bid.index reply i) { key = new.key }))),
     )

@@ -21,12 +21,12 @@ put_all-requires-clause-can g c =
     let step = step_of initial g.N.PhaseName.workers c.args.boxes.now c.requires.begun.0 store.homes.now in
     subst (λ (d : Written). CanBeDoneOnAll d.number (held_in took) (dealt took (written_acts d))) (sym c.written-written.ensures)
     (begun_can step w store.call.request.now c.args.begun begun c.requires.answered.seen c.requires.store c.requires.answered.saw reply c.of-deeds.result c.requires.room c.requires.answered.answered c.requires.opened
-    (λ held on. c.of-deeds.ensures.good c.requires.answered.seen initial g.N.PhaseName.workers c.args.boxes.now c.requires.begun.0 w held on) (c.of-deeds.ensures.footprint w (length initial) begun.homes_are))
+    (λ held on. c.of-deeds.ensures.good c.requires.answered.seen initial g.N.PhaseName.workers c.args.boxes.now c.requires.begun.0 w held on) (c.of-deeds.ensures.footprint w (length initial) begun.may.homes_are))
 
 pub add_store-requires-clause-home : goal.add_store-requires-clause-home
 add_store-requires-clause-home g c =
     let store = c.args.store.now in
-    subst (λ (w : WorkerState). IsWrittenAt w.slices store.call.request.now store.homes.now) (sym c.self.view_is) (written_at c.args.self.now store.call.request.now store.homes.now (length g.N.PhaseName.initial, c.requires.begun.1.homes_are))
+    subst (λ (w : WorkerState). IsWrittenAt w.slices store.call.request.now store.homes.now) (sym c.self.view_is) (written_at c.args.self.now store.call.request.now store.homes.now (length g.N.PhaseName.initial, c.requires.begun.1.may.homes_are))
 
 pub add_store-requires-clause-own : goal.add_store-requires-clause-own
 add_store-requires-clause-own g c =
@@ -50,8 +50,8 @@ returns g c key begun =
     let written = written_of c.of-deeds.result number store.call.index in
     let lines = line_among number store.call.index (held_in took) (dealt took (written_acts written)) in
     let put = subst (λ (d : Written). HasPutAll initial c.self.inside.key c.put_all.new.key (is_one_of (numbers_of (held_in took))) (line_among d.number d.index (held_in took) (dealt took (written_acts d)))) c.written-written.ensures c.put_all.ensures in
-    begun_commits step w request c.args.begun begun new store.call.index reply c.requires.answered.seen c.of-deeds.result (c.of-deeds.ensures.footprint w (length initial) begun.homes_are)
-    (c.of-deeds.ensures.owed c.requires.answered.seen w (length initial) begun.homes_are (own_reply w c.requires.answered.seen request reply c.requires.answered.answered c.requires.store) (next_reply w c.requires.answered.seen request reply c.requires.answered.answered c.requires.store))
+    begun_commits step w request c.args.begun begun new store.call.index reply c.requires.answered.seen c.of-deeds.result (c.of-deeds.ensures.footprint w (length initial) begun.may.homes_are)
+    (c.of-deeds.ensures.owed c.requires.answered.seen w (length initial) begun.may.homes_are (own_reply w c.requires.answered.seen request reply c.requires.answered.answered c.requires.store) (next_reply w c.requires.answered.seen request reply c.requires.answered.answered c.requires.store))
     (begun_good step w request c.args.begun begun c.requires.answered.seen c.requires.store c.requires.answered.saw reply c.of-deeds.result c.requires.room c.requires.answered.answered c.requires.opened
     (λ held on. c.of-deeds.ensures.good c.requires.answered.seen initial g.N.PhaseName.workers c.args.boxes.now key w held on))
     (seen_answered step w request c.args.begun begun c.requires.answered.seen c.requires.store c.requires.answered.saw store.call.index reply c.requires.answered.answered)

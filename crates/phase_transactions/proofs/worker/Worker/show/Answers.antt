@@ -1,5 +1,6 @@
 use Rattle.std.proofs.Common.{◌≡◌, Some, length, sym, ap, subst, ◌∙◌}
 use Rattle.auction_rows.specs.{Refusals.{number_refusal}, declared.requests.Request.{Request}}
+use Rattle.phase_transactions.proofs.BegunLemmas.{fault_performed, may_begin}
 use Rattle.phase_transactions.proofs.EmptyLemmas.{stored_performed, refused_untaken}
 use Rattle.phase_transactions.proofs.ViewLemmas.{on_one}
 use Rattle.phase_transactions.specs.Performing.{HasCommittedSome, HaveOpening}
@@ -15,31 +16,71 @@ returns-in-Some g c =
     stored_performed initial old c.refuse.new.self request c.args.index c.requires.can.idle c.refuse.result c.refuse.ensures
     (λ answer stored. refused_untaken old (length initial) c.args.index request c.in-Some.reason answer refused) c.requires.can.goes
 
+pub returns-in_err-begun : goal.returns-in_err-begun
+returns-in_err-begun g c =
+    let initial = g.N.PhaseName.initial in
+    let old = c.args.self.now in
+    let request = c.args.request.now in
+    let homes = c.homes-homes.result in
+    fault_performed initial old c.begin.new.self request c.args.index c.from_residual.result c.in_err-begun.field-0.0 c.from_residual.ensures.1
+    (c.in_err-begun.ensures.full request (may_begin (length initial) old _ request homes _ c.self.view_is c.number_refusal.ensures c.in_default.is c.requires.can.goes c.homes-homes.ensures.homes c.homes-homes.ensures.footprint))
+
 pub item_on-seen-requires : goal.item_on-seen-requires
 item_on-seen-requires g c =
-    let openings = subst (HaveOpening g.N.PhaseName.initial) (sym (ap (λ (s : WorkerState). s.opening) c.begin.ensures.worker)) c.requires.can.opened in
-    subst (λ (r : Request). IsOnOne r c.in_ok-begun.begun.taken) c.in-ViewItem.is
-    (on_one (step_of g.N.PhaseName.initial g.N.PhaseName.workers c.args.boxes.now c.args.self.now.key c.homes-homes.result) c.begin.new.self c.args.request.now c.in_ok-begun.begun c.in_ok-begun.ensures.begun c.requires.view openings)
+    let initial = g.N.PhaseName.initial in
+    let old = c.args.self.now in
+    let request = c.args.request.now in
+    let homes = c.homes-homes.result in
+    let step = step_of initial g.N.PhaseName.workers c.args.boxes.now old.key homes in
+    let its = c.in_ok-begun.ensures.begun request (may_begin (length initial) old _ request homes _ c.self.view_is c.number_refusal.ensures c.in_default.is c.requires.can.goes c.homes-homes.ensures.homes c.homes-homes.ensures.footprint) in
+    let openings = subst (HaveOpening initial) (sym (ap (λ (s : WorkerState). s.opening) c.begin.ensures.worker)) c.requires.can.opened in
+    subst (λ (r : Request). IsOnOne r c.in_ok-begun.begun.taken) c.in-ViewItem.is (on_one step c.begin.new.self request c.in_ok-begun.begun its c.requires.view openings)
 
 pub put_view-requires-clause-begun : goal.put_view-requires-clause-begun
-put_view-requires-clause-begun g c = (c.homes-homes.result, c.args.self.now.key, c.in_ok-begun.ensures.begun)
+put_view-requires-clause-begun g c =
+    let initial = g.N.PhaseName.initial in
+    let old = c.args.self.now in
+    let request = c.args.request.now in
+    let homes = c.homes-homes.result in
+    let its = c.in_ok-begun.ensures.begun request (may_begin (length initial) old _ request homes _ c.self.view_is c.number_refusal.ensures c.in_default.is c.requires.can.goes c.homes-homes.ensures.homes c.homes-homes.ensures.footprint) in
+    (homes, old.key, its)
 
 pub returns-in-ViewItem : goal.returns-in-ViewItem
 returns-in-ViewItem g c =
+    let initial = g.N.PhaseName.initial in
     let old = c.args.self.now in
-    subst (λ (s : WorkerState). HasCommittedSome g.N.PhaseName.initial s c.put_view.new.self c.args.request.now c.args.index) (λ i. record (c.begin.ensures.worker i) { key = old.key })
-    (c.put_view.ensures c.homes-homes.result old.key c.in_ok-begun.ensures.begun)
+    let request = c.args.request.now in
+    let homes = c.homes-homes.result in
+    let its = c.in_ok-begun.ensures.begun request (may_begin (length initial) old _ request homes _ c.self.view_is c.number_refusal.ensures c.in_default.is c.requires.can.goes c.homes-homes.ensures.homes c.homes-homes.ensures.footprint) in
+    subst (λ (s : WorkerState). HasCommittedSome initial s c.put_view.new.self request c.args.index) (λ i. record (c.begin.ensures.worker i) { key = old.key })
+    (c.put_view.ensures homes old.key its)
 
 pub show_whole-requires-clause-one : goal.show_whole-requires-clause-one
 show_whole-requires-clause-one g c =
-    let openings = subst (HaveOpening g.N.PhaseName.initial) (sym (ap (λ (s : WorkerState). s.opening) c.begin.ensures.worker)) c.requires.can.opened in
-    on_one (step_of g.N.PhaseName.initial g.N.PhaseName.workers c.args.boxes.now c.args.self.now.key c.homes-homes.result) c.begin.new.self c.args.request.now c.in_ok-begun.begun c.in_ok-begun.ensures.begun c.requires.view openings
+    let initial = g.N.PhaseName.initial in
+    let old = c.args.self.now in
+    let request = c.args.request.now in
+    let homes = c.homes-homes.result in
+    let step = step_of initial g.N.PhaseName.workers c.args.boxes.now old.key homes in
+    let its = c.in_ok-begun.ensures.begun request (may_begin (length initial) old _ request homes _ c.self.view_is c.number_refusal.ensures c.in_default.is c.requires.can.goes c.homes-homes.ensures.homes c.homes-homes.ensures.footprint) in
+    let openings = subst (HaveOpening initial) (sym (ap (λ (s : WorkerState). s.opening) c.begin.ensures.worker)) c.requires.can.opened in
+    on_one step c.begin.new.self request c.in_ok-begun.begun its c.requires.view openings
 
 pub show_whole-requires-clause-begun : goal.show_whole-requires-clause-begun
-show_whole-requires-clause-begun g c = (c.homes-homes.result, c.args.self.now.key, c.in_ok-begun.ensures.begun)
+show_whole-requires-clause-begun g c =
+    let initial = g.N.PhaseName.initial in
+    let old = c.args.self.now in
+    let request = c.args.request.now in
+    let homes = c.homes-homes.result in
+    let its = c.in_ok-begun.ensures.begun request (may_begin (length initial) old _ request homes _ c.self.view_is c.number_refusal.ensures c.in_default.is c.requires.can.goes c.homes-homes.ensures.homes c.homes-homes.ensures.footprint) in
+    (homes, old.key, its)
 
 pub returns : goal.returns
 returns g c =
+    let initial = g.N.PhaseName.initial in
     let old = c.args.self.now in
-    subst (λ (s : WorkerState). HasCommittedSome g.N.PhaseName.initial s c.show_whole.new.self c.args.request.now c.args.index) (λ i. record (c.begin.ensures.worker i) { key = old.key })
-    (c.show_whole.ensures c.homes-homes.result old.key c.in_ok-begun.ensures.begun)
+    let request = c.args.request.now in
+    let homes = c.homes-homes.result in
+    let its = c.in_ok-begun.ensures.begun request (may_begin (length initial) old _ request homes _ c.self.view_is c.number_refusal.ensures c.in_default.is c.requires.can.goes c.homes-homes.ensures.homes c.homes-homes.ensures.footprint) in
+    subst (λ (s : WorkerState). HasCommittedSome initial s c.show_whole.new.self request c.args.index) (λ i. record (c.begin.ensures.worker i) { key = old.key })
+    (c.show_whole.ensures homes old.key its)

@@ -2,13 +2,13 @@ use Rattle.std.proofs.Common.{◌≡◌, true, Some, None, length, Result, Ok, E
 use Rattle.std.specs.Prelude.{is_err, IfErr}
 use Rattle.auction_rows.specs.{Refusals.{number_refusal}, StoreReplies.{reply_of}}
 use Rattle.phase_transactions.proofs.AnswerLemmas.{reply_by}
-use Rattle.phase_transactions.proofs.BegunLemmas.{begun_fails, item_first, needed_first}
+use Rattle.phase_transactions.proofs.BegunLemmas.{begun_fails, fault_performed, item_first, may_begin, needed_first}
 use Rattle.phase_transactions.proofs.EmptyLemmas.{stored_performed, refused_untaken, hot_untaken}
 use Rattle.phase_transactions.proofs.FirstLemmas.{begun_before}
 use Rattle.phase_transactions.specs.{Performing.{HasCommitted, HasFailed}, WorkerFields.{state_in}}
 use Rattle.phase_transactions.specs.Workers.{WorkerState, IsLawfulWorker}
 use Rattle.phase_transactions.specs.declared.done.PermitFault.TheVariants.{Memory}
-use Rattle.phase_transactions.specs.inner.{Begun.{step_of}, Takens.{AreBack}}
+use Rattle.phase_transactions.specs.inner.{Begun.{step_of}, Takens.{AreBack, AreHeldAll, held_in}}
 use Rattle.phase_transactions.proofs.worker.Worker.store.Goals as goal
 
 of_err : {T E : Type 0} {P : Type 0} (result : Result T E) → is_err result ≡ true → IfErr result (λ _. P) → P
@@ -38,47 +38,87 @@ returns-in-None-None g c =
     c.homes-homes.ensures.footprint
     (sym c.shard.ensures ∙ c.in-None-None.is-0) (sym c.shard-2.ensures ∙ c.in-None-None.is-1)) can.goes
 
+pub returns-in_err-begun : goal.returns-in_err-begun
+returns-in_err-begun g c =
+    let initial = g.N.PhaseName.initial in
+    let old = c.args.self.now in
+    let request = c.args.request.now in
+    let homes = c.homes-homes.result in
+    fault_performed initial old c.begin.new.self request c.args.index c.from_residual.result c.in_err-begun.field-0.0 c.from_residual.ensures.1
+    (c.in_err-begun.ensures.full request (may_begin (length initial) old _ request homes _ c.self.view_is c.number_refusal.ensures c.in_default.is c.requires.can.goes c.homes-homes.ensures.homes c.homes-homes.ensures.footprint))
+
 pub prepare-requires : goal.prepare-requires
-prepare-requires g c = record {
-  begun = item_first (step_of g.N.PhaseName.initial g.N.PhaseName.workers c.args.boxes.now c.args.self.now.key c.homes-homes.result) c.begin.new.self c.args.request.now c.in_ok-begun.begun
-      c.in_ok-begun.ensures.begun (subst IsLawfulWorker c.self-2.view_is c.self-2.invariant.lawful);
-}
+prepare-requires g c =
+    let initial = g.N.PhaseName.initial in
+    let old = c.args.self.now in
+    let request = c.args.request.now in
+    let homes = c.homes-homes.result in
+    let step = step_of initial g.N.PhaseName.workers c.args.boxes.now old.key homes in
+    let its = c.in_ok-begun.ensures.begun request (may_begin (length initial) old _ request homes _ c.self.view_is c.number_refusal.ensures c.in_default.is c.requires.can.goes c.homes-homes.ensures.homes c.homes-homes.ensures.footprint) in
+    record { begun = item_first step c.begin.new.self request c.in_ok-begun.begun its (subst IsLawfulWorker c.self-2.view_is c.self-2.invariant.lawful) }
+
+pub put_back-requires : goal.put_back-requires
+put_back-requires g c =
+    let initial = g.N.PhaseName.initial in
+    let old = c.args.self.now in
+    let request = c.args.request.now in
+    let homes = c.homes-homes.result in
+    let its = c.in_ok-begun.ensures.begun request (may_begin (length initial) old _ request homes _ c.self.view_is c.number_refusal.ensures c.in_default.is c.requires.can.goes c.homes-homes.ensures.homes c.homes-homes.ensures.footprint) in
+    let begun = begun_before c.in_ok-begun.begun c.prepare.new.begun c.prepare.ensures.same c.prepare.ensures.number its in
+    subst (λ (s : WorkerState). AreHeldAll initial g.N.PhaseName.workers c.args.boxes.now s.key (held_in c.prepare.new.begun.taken)) (sym c.self-2.view_is) begun.held
 
 pub returns-then-is_err : goal.returns-then-is_err
 returns-then-is_err g c =
     let initial = g.N.PhaseName.initial in
     let old = c.args.self.now in
-    let w = c.begin.new.self in
     let request = c.args.request.now in
-    let begun = begun_before c.in_ok-begun.begun c.prepare.new.begun c.prepare.ensures.same c.prepare.ensures.number c.in_ok-begun.ensures.begun in
+    let homes = c.homes-homes.result in
+    let step = step_of initial g.N.PhaseName.workers c.args.boxes.now old.key homes in
+    let its = c.in_ok-begun.ensures.begun request (may_begin (length initial) old _ request homes _ c.self.view_is c.number_refusal.ensures c.in_default.is c.requires.can.goes c.homes-homes.ensures.homes c.homes-homes.ensures.footprint) in
+    let w = c.begin.new.self in
+    let begun = begun_before c.in_ok-begun.begun c.prepare.new.begun c.prepare.ensures.same c.prepare.ensures.number its in
     let back : WorkerState = record (state_in c.self-2.inside) { key = c.put_back.new.key } in
     subst (λ (s : WorkerState). HasFailed initial s back request Memory) (λ i. record (c.begin.ensures.worker i) { key = old.key })
-    (begun_fails (step_of initial g.N.PhaseName.workers c.args.boxes.now old.key c.homes-homes.result) w request c.prepare.new.begun begun back
+    (begun_fails step w request c.prepare.new.begun begun back
     (subst (λ (s : WorkerState). AreBack s.key c.put_back.new.key) c.self-2.view_is c.put_back.ensures)
     (of_err c.prepare.result (sym c.is_err.ensures.value ∙ c.if-is_err.true) c.prepare.ensures.refused)
     (λ i. record (c.self-2.view_is i) { key = c.put_back.new.key }))
 
 pub put_store-requires-clause-begun : goal.put_store-requires-clause-begun
-put_store-requires-clause-begun g c = (
-  c.args.self.now.key,
-  begun_before c.in_ok-begun.begun c.prepare.new.begun c.prepare.ensures.same c.prepare.ensures.number c.in_ok-begun.ensures.begun,
-)
+put_store-requires-clause-begun g c =
+    let initial = g.N.PhaseName.initial in
+    let old = c.args.self.now in
+    let request = c.args.request.now in
+    let homes = c.homes-homes.result in
+    let its = c.in_ok-begun.ensures.begun request (may_begin (length initial) old _ request homes _ c.self.view_is c.number_refusal.ensures c.in_default.is c.requires.can.goes c.homes-homes.ensures.homes c.homes-homes.ensures.footprint) in
+    (old.key, begun_before c.in_ok-begun.begun c.prepare.new.begun c.prepare.ensures.same c.prepare.ensures.number its)
 
 pub refusal-refused-requires : goal.refusal-refused-requires
 refusal-refused-requires g c =
-    let begun = begun_before c.in_ok-begun.begun c.prepare.new.begun c.prepare.ensures.same c.prepare.ensures.number c.in_ok-begun.ensures.begun in
+    let initial = g.N.PhaseName.initial in
+    let old = c.args.self.now in
+    let request = c.args.request.now in
+    let homes = c.homes-homes.result in
+    let step = step_of initial g.N.PhaseName.workers c.args.boxes.now old.key homes in
+    let its = c.in_ok-begun.ensures.begun request (may_begin (length initial) old _ request homes _ c.self.view_is c.number_refusal.ensures c.in_default.is c.requires.can.goes c.homes-homes.ensures.homes c.homes-homes.ensures.footprint) in
+    let begun = begun_before c.in_ok-begun.begun c.prepare.new.begun c.prepare.ensures.same c.prepare.ensures.number its in
     record {
-      homes = (length g.N.PhaseName.initial, begun.homes_are);
-      there = λ item t needs at. needed_first (step_of g.N.PhaseName.initial g.N.PhaseName.workers c.args.boxes.now c.args.self.now.key c.homes-homes.result) c.begin.new.self c.args.request.now c.prepare.new.begun begun item t needs at;
+      homes = (length initial, begun.may.homes_are);
+      there = λ item t needs at. needed_first step c.begin.new.self request c.prepare.new.begun begun item t needs at;
     }
 
 pub put_store-requires-clause-answered : goal.put_store-requires-clause-answered
 put_store-requires-clause-answered g c =
+    let initial = g.N.PhaseName.initial in
+    let old = c.args.self.now in
+    let request = c.args.request.now in
+    let homes = c.homes-homes.result in
+    let its = c.in_ok-begun.ensures.begun request (may_begin (length initial) old _ request homes _ c.self.view_is c.number_refusal.ensures c.in_default.is c.requires.can.goes c.homes-homes.ensures.homes c.homes-homes.ensures.footprint) in
     let refused = c.refusal-refused.ensures in
     record {
       seen = refused.seen;
       saw = refused.saw;
-      answered = reply_by c.begin.new.self refused.seen c.args.request.now c.refusal-refused.result (reply_of c.reply-reply.result) c.in_ok-begun.ensures.begun.allowed refused.by c.reply-reply.ensures;
+      answered = reply_by c.begin.new.self refused.seen request c.refusal-refused.result (reply_of c.reply-reply.result) its.may.allowed refused.by c.reply-reply.ensures;
     }
 
 pub returns : goal.returns
@@ -86,6 +126,8 @@ returns g c =
     let initial = g.N.PhaseName.initial in
     let old = c.args.self.now in
     let request = c.args.request.now in
+    let homes = c.homes-homes.result in
+    let its = c.in_ok-begun.ensures.begun request (may_begin (length initial) old _ request homes _ c.self.view_is c.number_refusal.ensures c.in_default.is c.requires.can.goes c.homes-homes.ensures.homes c.homes-homes.ensures.footprint) in
+    let begun = begun_before c.in_ok-begun.begun c.prepare.new.begun c.prepare.ensures.same c.prepare.ensures.number its in
     let reply = reply_of c.reply-reply.result in
-    let begun = begun_before c.in_ok-begun.begun c.prepare.new.begun c.prepare.ensures.same c.prepare.ensures.number c.in_ok-begun.ensures.begun in
     (reply, subst (λ (s : WorkerState). HasCommitted initial s c.put_store.new.self request c.args.index reply) (λ i. record (c.begin.ensures.worker i) { key = old.key }) (c.put_store.ensures old.key begun))

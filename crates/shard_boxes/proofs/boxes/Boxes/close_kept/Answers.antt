@@ -36,7 +36,7 @@ take_all-shards-requires g c =
       boxes = c.deref-2.ensures.len ∙ room.0;
       free = subst (λ (boxes : List BoxId). AreFree g.N.PhaseName.initial g.N.PhaseName.workers boxes 0 grants) (c.deref.ensures.value ∙ sym c.deref-2.ensures.value) made.free;
       own = λ s d low. let same : length (map (λ (k : KeyState). lines_at k s) keys) ≡ length keys = simp length-map in ap length (made.own s d low) ∙ same ∙ c.requires.0;
-      answer = (room.3, room.4);
+      closed_shards = (room.3, room.4);
     }
 
 pub invariant_of-result : goal.invariant_of-result

@@ -30,7 +30,7 @@ deal_all-keys-requires g c =
 pub invariant_of-result : goal.invariant_of-result
 invariant_of-result g c =
     let count : c.len-count.result ≡ length g.N.PhaseName.initial = c.len-count.ensures ∙ c.args.shards.ok.0 ∙ as_many_states c.args.shards.items g.N.PhaseName.initial c.requires.opening in
-    (c.in-Ok.ensures.len ∙ count, c.requires.few.1, c.requires.some.0, c.in-Ok-with_capacity-2.ensures.len, subst (λ n. n ≤ vec_capacity c.in-Ok-with_capacity-2.answer) count c.in-Ok-with_capacity-2.ensures.capacity, c.requires.few.0, c.requires.opened)
+    (c.in-Ok.ensures.len ∙ count, c.requires.few.1, c.requires.some.0, c.in-Ok-with_capacity-2.ensures.len, subst (λ n. n ≤ vec_capacity c.in-Ok-with_capacity-2.closed_shards) count c.in-Ok-with_capacity-2.ensures.capacity, c.requires.few.0, c.requires.opened)
 
 pub returns-clause-keys : goal.returns-clause-keys
 returns-clause-keys g c = subst (λ (boxes : List BoxId). AreNewKeys boxes g.N.PhaseName.workers c.deal_all-keys.result.items) c.deref-2.ensures.value c.deal_all-keys.ensures

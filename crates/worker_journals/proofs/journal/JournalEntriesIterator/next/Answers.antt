@@ -5,4 +5,4 @@ use Rattle.worker_journals.proofs.journal.JournalEntriesIterator.next.Goals as g
 pub returns-clause-steps : goal.returns-clause-steps
 returns-clause-steps c =
     let e = c.self.inside in
-    sym c.self.view_is ∙ get_some e.journal.now.entries e.place c.of-entry.result c.of-entry.ensures.entry
+    sym c.self.view_is ∙ get_some e.journal.now.entries e.place c.entry-entry.result c.entry-entry.ensures.entry

@@ -8,8 +8,8 @@ returns-in_default-clause-steps c =
     let told = sym c.self.view_is ∙ all_told 16 m.journals.now m.places m.numbers c.self.invariant c.in_default.ensures.none in
     (told, told)
 
-pub of-entry-requires : goal.of-entry-requires
-of-entry-requires c =
+pub entry-entry-requires : goal.entry-entry-requires
+entry-entry-requires c =
     let m = c.self.inside in
     let r = c.index-self-worker in
     has_entry 16 m.journals.now m.places m.numbers c.self.invariant _ (get_or m.journals.now c.in-Some.worker r.result) c.in-Some.ensures.least
@@ -28,7 +28,7 @@ returns-clause-steps c =
     let r = c.index-self-worker in
     sym c.self.view_is
     ∙ one_told 16 m.journals.now m.places m.numbers c.self.invariant _ (get_or m.journals.now c.in-Some.worker r.result) c.in-Some.ensures.least
-    (ap (get_or m.journals.now c.in-Some.worker) r.is) _ c.of-entry.ensures.entry
+    (ap (get_or m.journals.now c.in-Some.worker) r.is) _ c.entry-entry.ensures.entry
 
 pub returns-clause-goes : goal.returns-clause-goes
 returns-clause-goes c =
@@ -36,4 +36,4 @@ returns-clause-goes c =
     let r = c.index-self-worker in
     goes_on _ (λ _. tt) _ _ _ (sym c.self.view_is
     ∙ one_told 16 m.journals.now m.places m.numbers c.self.invariant _ (get_or m.journals.now c.in-Some.worker r.result) c.in-Some.ensures.least
-    (ap (get_or m.journals.now c.in-Some.worker) r.is) _ c.of-entry.ensures.entry)
+    (ap (get_or m.journals.now c.in-Some.worker) r.is) _ c.entry-entry.ensures.entry)

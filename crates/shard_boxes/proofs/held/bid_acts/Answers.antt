@@ -1,8 +1,8 @@
 use Rattle.std.proofs.Common.{[], ◌∷◌, ◌∙◌, ap, sym}
 use Rattle.item_shards.specs.declared.shard.acts.Act.TheVariants.{Look}
 use Rattle.item_shards.specs.declared.shard.acts.Look.TheVariants as look
-use Rattle.shard_boxes.{proofs.key.bid_acts.Goals.{in-Some, in-None}, specs.Lines.{bid_act}}
-use Rattle.shard_boxes.proofs.key.bid_acts.Goals as goal
+use Rattle.shard_boxes.{proofs.held.bid_acts.Goals.{in-Some, in-None}, specs.Lines.{bid_act}}
+use Rattle.shard_boxes.proofs.held.bid_acts.Goals as goal
 
 pub returns : goal.returns
 returns c =

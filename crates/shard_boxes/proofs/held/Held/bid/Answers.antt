@@ -5,7 +5,7 @@ use Rattle.item_shards.specs.{Contents.{Contents, after_acts, bid_unless}, Looki
 use Rattle.item_shards.specs.ShardContents.{clock, contents}
 use Rattle.shard_boxes.{proofs.EventLemmas.{line_done, line_follows}, specs.Helds.{HeldState}}
 use Rattle.shard_boxes.specs.{Lines.{after_line, bid_acts, line_of}, States.{state_of}}
-use Rattle.shard_boxes.proofs.key.Held.bid.Goals as goal
+use Rattle.shard_boxes.proofs.held.Held.bid.Goals as goal
 
 -- a bid that is refused or stored is its two acts
 bid_done : (shown : Contents) (item : ItemId) (bid : BidEntry) (refused : Option Refusal) → bid_unless refused item bid shown ≡ after_acts shown (events_of shown (bid_acts item bid refused))

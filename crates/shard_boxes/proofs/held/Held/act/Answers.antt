@@ -2,7 +2,7 @@ use Rattle.std.proofs.Common.{◌≡◌, ◌<◌, sym, ap, subst, ◌∙◌}
 use Rattle.item_shards.specs.{Acting.{CanDo}, ShardContents.{clock}}
 use Rattle.shard_boxes.{proofs.EventLemmas.{line_follows, line_done}, specs.Helds.{HeldState}}
 use Rattle.shard_boxes.specs.{Lines.{after_line, line_of}, States.{state_of}}
-use Rattle.shard_boxes.proofs.key.Held.act.Goals as goal
+use Rattle.shard_boxes.proofs.held.Held.act.Goals as goal
 
 pub returns-clause-after : goal.returns-clause-after
 returns-clause-after g c =
