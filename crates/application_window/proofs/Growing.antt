@@ -1,21 +1,13 @@
 -- One part more.
-use Rattle.std.proofs.Common.{◌≡◌, ℕ, suc, ◌+◌, ◌-◌, ◌*◌, ◌/◌, ◌<◌, ◌≤◌, List, [], ◌∷◌, ◌++◌, length, take, get_or, refl, ap, sym, ◌∙◌, subst, arith, length-append}
+use Rattle.std.proofs.Common.{◌≡◌, ℕ, suc, ◌+◌, ◌-◌, ◌*◌, ◌/◌, ◌<◌, ◌≤◌, List, [], ◌∷◌, ◌++◌, length, take, get_or, refl, ap, sym, ◌∙◌, subst, arith}
 use mathlib.Core.List.{IsPrefix}
-use Rattle.std.{proofs.lemmas.List.{Elements.{All-push}, take_more}, specs.List.{AllByRecursion}}
-use Rattle.std.specs.Prelude.{fold, All, Result, Ok, Err, OnOk, OnErr, MatchResult}
+use Rattle.std.{proofs.lemmas.List.{take_more}, specs.List.{AllByRecursion}}
 use Rattle.split_engine.specs.{Rules.{Rules, most_acts}, Serial.{acts_at, next, table_after}}
 use Rattle.split_engine.specs.{Serving.{total}, declared.entry.Entry.{Entry}}
 use Rattle.application_window.proofs.Elements.{length-acts}
-use Rattle.application_window.proofs.Prefixes.{prefix_shorter, prefix_whole}
 use Rattle.application_window.specs.Published.{table_of, AreWithin}
 use Rattle.application_window.specs.inner.Copies.{HasParts, IsLastPart}
-
--- a prefix with one part less is the parts before the last
-pub before_last : {E : Type 0} (old new before : List (List E)) (last : List E) → new ≡ before ++ last ∷ [] → IsPrefix old new → length new ≡ suc (length old) → before ≡ old
-before_last old new before last is begins len =
-    let long : length new ≡ length before + 1 = ap length is ∙ length-append before (last ∷ []) in
-    let same_length : length before ≡ length old = omega arith in
-    prefix_whole before old (prefix_shorter before old new (last ∷ [], sym is) begins (omega arith)) (omega arith)
+use Rattle.published_parts.proofs.Growing.{before_last}
 
 -- so many more commits
 pub total-snoc : {E : Type 0} (parts : List (List E)) (last : List E) → total (parts ++ last ∷ []) ≡ total parts + length last
@@ -80,22 +72,3 @@ module _ {Record Slice Look Request Reply Act : Type 0} (rules : Rules Record Sl
             fewer = omega (arith, held.fewer);
             count = let snoc = total-snoc old last in let all = ap total grown in omega (arith, held.count);
           }
-
--- a window more that has shown nothing
-pub none_more : {W : Type 0} (none window : W) (made more : List W) → more ≡ made ++ window ∷ [] → window ≡ none → All (λ (w : W). w ≡ none) made → All (λ (w : W). w ≡ none) more
-none_more none window made more pushed same all = subst (All (λ w. w ≡ none)) (sym pushed) (All-push (λ w. w ≡ none) made window all same)
-
--- what is taken in last is what is shown
-fold-last : {S : Type 0} (shown : S) (waiting : List S) (last : S) → fold (λ _ next. next) shown (waiting ++ last ∷ []) ≡ last
-fold-last shown [] last = refl
-fold-last shown (next ∷ waiting) last = fold-last next waiting last
-
-pub shown-last : {T E S : Type 0} (Q R : Type 0) (answered : Result T E) (old new : S) (waiting before : List S) (last : S) → MatchResult answered (λ _. (new ≡ fold (λ _ next. next) old waiting) × Q) (λ _. R)
-    → waiting ≡ before ++ last ∷ [] → OnOk answered (new ≡ last)
-shown-last Q R (Ok x) old new waiting before last shown is = shown.0 ∙ ap (fold (λ _ next. next) old) is ∙ fold-last old before last
-shown-last Q R (Err e) old new waiting before last shown is = tt
-
--- and where it can't be taken in, what was shown is shown
-pub shown-before : {T E S : Type 0} (Q R : Type 0) (answered : Result T E) (first old new : S) → MatchResult answered (λ _. Q) (λ _. (new ≡ old) × R) → old ≡ first → OnErr answered (new ≡ first)
-shown-before Q R (Ok x) first old new shown is = tt
-shown-before Q R (Err e) first old new shown is = shown.0 ∙ is

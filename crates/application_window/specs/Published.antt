@@ -1,7 +1,6 @@
 -- Published parts of a history, and what windows show of them.
 use Rattle.std.specs.List.{AllByRecursion}
-use Rattle.std.specs.Prelude.{◌≡◌, ◌⊎◌, ℕ, ◌-◌, ◌/◌, ◌<◌, Bool, true, List, length, fold}
-use mathlib.Core.List.{IsPrefix}
+use Rattle.std.specs.Prelude.{◌≡◌, ℕ, ◌-◌, ◌/◌, ◌<◌, Bool, true, List, length, fold}
 use Rattle.split_engine.specs.{Rules.{Rules, most_acts}, Serial.{IsWithin, table_after}}
 use Rattle.split_engine.specs.declared.{entry.Entry.{Entry}, few.TheConstants.{MOST_KEYS}}
 use Rattle.application_window.specs.declared.publisher.PublishFault.{PublishFault}
@@ -19,10 +18,6 @@ pub record Published (Commit : Type 0) : Type 0 where
 -- how many commits there can be after so many acts on a record: each may do one at each of its keys
 abbrev pub room_after : ℕ → ℕ
 room_after acts = (most_acts - acts) / MOST_KEYS
-
--- one of two lists of parts begins with the other
-abbrev pub AreComparable : {Commit : Type 0} → List (List Commit) → List (List Commit) → Type 0
-AreComparable one other = IsPrefix one other ⊎ IsPrefix other one
 
 module _ {Record Slice Look Request Reply Act : Type 0}
     (rules : Rules Record Slice Look Request Reply Act) where

@@ -1,8 +1,9 @@
 //! What publishes the parts of a history.
 ghost use Rattle.std.specs.List.{AllByRecursion};
 ghost use Rattle.std.specs.Prelude.{◌≡◌, ◌++◌, ◌∷◌, ◌-◌, ◌<◌, ◌≤◌, [], true, false, length, All, Err, IfOk, OnOk, IfErr, OnErr};
-ghost use Rattle.application_window.specs.Published.{room_after, AreComparable, AreWithin, IsRefused};
+ghost use Rattle.application_window.specs.Published.{room_after, AreWithin, IsRefused};
 ghost use Rattle.application_window.specs.declared.publisher.PublishFault.TheVariants.{Memory};
+ghost use Rattle.published_parts.specs.Parts.{AreComparable};
 
 use crate::parts::{Part, PartCount, PartLog, Prefix, WindowName};
 use crate::table_copy::{AddPart, MOST_ACTS, TableCopy, is_within};

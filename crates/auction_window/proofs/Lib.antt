@@ -1,4 +1,2 @@
-pub mod Prefixes
-pub mod Adding
 pub mod Growing
 pub mod RowLemmas

@@ -1,6 +1,5 @@
 -- Published phases, and what is made of them.
-use Rattle.std.specs.Prelude.{◌⊎◌, Bool, List, ◌++◌, fold}
-use mathlib.Core.List.{IsPrefix}
+use Rattle.std.specs.Prelude.{Bool, List, ◌++◌, fold}
 use Rattle.auction_rows.specs.{Book.{Book}, declared.rows.Row.{Row}}
 
 -- the book of these rows and of those of all phases, in order
@@ -13,7 +12,3 @@ pub record Published : Type 0 where
   pub phases : List (List Row)
   -- whether it was refused memory: then it publishes no more
   pub failed : Bool
-
--- one of two lists of phases begins with the other
-abbrev pub AreComparable : List (List Row) → List (List Row) → Type 0
-AreComparable one other = IsPrefix one other ⊎ IsPrefix other one

@@ -1,16 +1,13 @@
 //! The name of a publisher and its windows; the list of the phases that it was handed, with the
-//! prefixes of that list; and the rows of commits. The phases in the list stand in proofs alone; at
-//! run time there is one word, its length, and each phase is added by an exchange of that word.
-ghost use mathlib.Core.List.{IsPrefix};
-ghost use Rattle.std.specs.Prelude.{◌≡◌, [], ◌+◌, ◌==◌, ◌<◌, ◌++◌, ◌∷◌, ◌⊎◌, length, MatchBool, IfOk, OnOk, option_to_list};
+//! prefixes of that list; and the rows of commits.
+ghost use Rattle.std.specs.Prelude.{◌≡◌, ◌++◌, IfOk, OnOk, option_to_list};
 ghost use Rattle.auction_rows.specs.History.{rows_of};
 ghost use Rattle.worker_journals.specs.Merged.{merged};
-ghost use Rattle.auction_window.specs.{Published.{AreComparable}, inner.PhaseRule.{head_of}};
 
 use auction_rows::{Entry, Row, row_of};
-use logbook::{Gain, Offer, Plain, Play, Rule, Seen as Reached, Start, Word};
+use published_parts::{ListName, PartCount, PartList};
 use std::alloc::{AllocError, Global};
-use std::marker::{Brand, Model, PhantomData};
+use std::marker::{Brand, PhantomData};
 use worker_journals::History;
 
 /// Names the list of phases that a publisher and its windows share, and the book before the first
@@ -40,212 +37,24 @@ impl WindowName for Brand {
     ghost rows = { [] };
 }
 
-// The rows of a phase. A clause reads an array as a list of any length, and no value of this type
-// is made.
-pub(crate) type Rows = [Row; 0];
-
-// The rule of the list.
-pub(crate) struct PhaseRule;
-
-impl Rule<Rows, u64> for PhaseRule {
-    ghost use Rattle.std.specs.Prelude.{[]};
-    ghost use base.Fml.{ftrue};
-    ghost use Rattle.auction_window.specs.inner.PhaseRule.{IsKept};
-
-    ghost holds = { λ cells log. IsKept cells log };
-
-    ghost first = { [] };
-
-    ghost hinted = { λ n log. Unit {0} };
-
-    ghost shows = { λ log. [] };
-
-    ghost keeps = { λ names log. ftrue };
-
-    ghost moves = { λ ask before after answer. Unit {0} };
+// The list that a publisher's name names.
+pub(crate) struct ListOf<J> {
+    name: PhantomData<J>,
 }
 
-// A step gains its caller nothing but what it knows.
-pub(crate) struct NoGain;
-
-impl Gain<Rows, u64> for NoGain {
-    ghost use base.Fml.{ftrue};
-
-    ghost after = { λ names about answer. ftrue };
-}
-
-// The step that adds a phase.
-pub(crate) struct Add;
-
-impl Play<Rows, u64> for Add {
-    ghost use Rattle.auction_window.specs.inner.PhaseRule.{Adds};
-
-    ghost then = { Adds };
+impl<J: WindowName> ListName for ListOf<J> {
+    ghost log = { J.log };
 }
 
 /// The list of phases of a publisher that is yet to be made. It is empty. Contracts see which list
 /// it is.
-#[derive(Drop)]
-pub struct PhaseLog {
-    head: Word<Rows, u64, PhaseRule>,
-    seen: Reached<Rows, u64, PhaseRule>,
-}
-
-impl Model for PhaseLog {
-    ghost use Rattle.std.specs.Prelude.{◌≡◌, []};
-    ghost use Rattle.logbook.specs.Pages.{Book, book_coded};
-
-    ghost Value = { Book };
-
-    ghost coded = { book_coded };
-
-    ghost use Rattle.auction_window.specs.inner.PhaseRule.{head_of};
-
-    ghost view = { λ l. l.seen.book };
-
-    ghost invariant = { λ l. (l.seen.log ≡ []) × (l.head ≡ head_of l.seen.book) };
-}
-
-impl PhaseLog {
-    /// A new list. It takes no memory.
-    pub fn new() -> PhaseLog {
-        let (seen, mut first, _second) = Reached::open(Start::alone(), 0, 0);
-        PhaseLog {
-            head: Word::tracked(0, &mut first),
-            seen,
-        }
-    }
-
-    // The list's length under a name, and its empty prefix.
-    pub(crate) fn named<J: WindowName>(self) -> (PhaseCount<J>, Prefix<J>)
-        requires { self ≡ J.log }
-        ensures { result.1 ≡ [] }
-    {
-        let PhaseLog { head, seen } = self;
-        let count = PhaseCount {
-            head,
-            name: PhantomData,
-        };
-        (count, Prefix::empty(seen))
-    }
-}
+pub type PhaseLog = PartList<Row>;
 
 // The length of the list. Its publisher alone has it, so that nobody else adds a phase.
-#[derive(Drop)]
-pub(crate) struct PhaseCount<J: WindowName> {
-    pub(crate) head: Word<Rows, u64, PhaseRule>,
-    name: PhantomData<J>,
-    ghost head_is: { head ≡ head_of J.log },
-}
+pub(crate) type PhaseCount<J> = PartCount<Row, ListOf<J>>;
 
-// What the step that adds a phase asks for: its rows.
-impl Plain<Vec<Row>, Rows, u64> for Add {
-    ghost use Rattle.std.specs.Prelude.{None};
-
-    ghost ask = { λ rows. rows.items };
-
-    ghost state = { λ rows. None };
-}
-
-/// A prefix of the list of phases: how many they are, and, only for proofs, which. Contracts see it
-/// as its phases.
-#[derive(Drop)]
-pub struct Prefix<J: WindowName> {
-    count: u64,
-    seen: Reached<Rows, u64, PhaseRule>,
-    name: PhantomData<J>,
-}
-
-impl<J: WindowName> Model for Prefix<J> {
-    ghost use Rattle.std.specs.Prelude.{◌≡◌, List, length};
-    ghost use Rattle.auction_rows.specs.declared.rows.Row.{Row};
-
-    ghost Value = { List (List Row) };
-
-    ghost view = { λ p. p.seen.log };
-
-    ghost invariant = { λ p. (p.count ≡ length p.seen.log) × (p.seen.book ≡ J.log) };
-}
-
-impl<J: WindowName> Prefix<J> {
-    // The prefix without a phase.
-    pub(crate) fn empty(seen: Reached<Rows, u64, PhaseRule>) -> Prefix<J>
-        requires empty { seen.log ≡ [] }
-        requires name { seen.book ≡ J.log }
-        ensures { result ≡ [] }
-    {
-        Prefix {
-            count: 0,
-            seen,
-            name: PhantomData,
-        }
-    }
-
-    pub(crate) fn len(&self) -> u64
-        ensures { result ≡ length self.now }
-    {
-        self.count
-    }
-
-    // A copy.
-    pub(crate) fn again(&self) -> Prefix<J>
-        ensures { result ≡ self.now }
-    {
-        Prefix {
-            count: self.count,
-            seen: self.seen.again(),
-            name: PhantomData,
-        }
-    }
-
-    // The longer of two, which begins with the other.
-    pub(crate) fn longer(&self, other: &Prefix<J>) -> Prefix<J>
-        ensures one { (result ≡ self.now) ⊎ (result ≡ other.now) }
-        ensures this { IsPrefix self.now result }
-        ensures that { IsPrefix other.now result }
-    {
-        let mut both = self.seen.again();
-        both.learn(&other.seen);
-        if self.count < other.count {
-            other.again()
-        } else {
-            self.again()
-        }
-    }
-
-    // Of two one begins with the other. It does nothing else than to say so.
-    pub(crate) fn agrees(&self, other: &Prefix<J>)
-        ensures { AreComparable self.now other.now }
-    {
-        self.longer(other);
-    }
-
-    // Adds a phase to the list, if this is all of it, and says whether it did. Else it becomes all
-    // of the list.
-    pub(crate) fn add(&mut self, count: &PhaseCount<J>, rows: &Vec<Row>) -> bool
-        requires { length self.old < u64.MAX }
-        ensures { MatchBool result
-            (self.new ≡ self.old ++ rows.now.items ∷ [])
-            (IsPrefix self.old self.new) }
-    {
-        let mut offer: Offer<Rows, u64, PhaseRule, NoGain> = self
-            .seen
-            .plain::<NoGain, Vec<Row>, Add>(rows);
-        let mut pen = self.seen.no_pen();
-        let known = self.count;
-        let found = count
-            .head
-            .compare_exchange::<Add, NoGain>(
-                known,
-                known + 1,
-                &mut self.seen,
-                &mut offer,
-                &mut pen,
-            );
-        self.count = if found == known { known + 1 } else { found };
-        found == known
-    }
-}
+// A prefix of the list. Contracts see it as its phases.
+pub(crate) type Prefix<J> = published_parts::Prefix<Row, ListOf<J>>;
 
 /// The rows of the accepted stores of these entries, in order.
 pub fn rows_of(alloc: Global, entries: &[Entry]) -> Result<Vec<Row>, AllocError>

@@ -1,10 +1,11 @@
 //! What publishes the rows of phases.
 ghost use Rattle.std.specs.Prelude.{◌≡◌, ◌++◌, ◌∷◌, ◌<◌, ◌≤◌, [], true, false, length, All, alloc_error, Err, IfOk, OnOk, OnErr};
 ghost use Rattle.item_shards.specs.{OpeningBooks.{opening_of, rows_of_book}, Serial.{CanFollow}};
-ghost use Rattle.auction_window.specs.Published.{book_of, AreComparable};
+ghost use Rattle.auction_window.specs.Published.{book_of};
+ghost use Rattle.published_parts.specs.Parts.{AreComparable};
 
 use crate::auction_copy::{AddPhase, AuctionCopy};
-use crate::phases::{PhaseCount, PhaseLog, Prefix, WindowName};
+use crate::phases::{ListOf, PhaseCount, PhaseLog, Prefix, WindowName};
 use crate::window::{Told, Window};
 use auction_rows::{MOST_WORKERS, Row};
 use core::mem::replace_with;
@@ -90,7 +91,7 @@ impl<J: WindowName> Publisher<J> {
         ensures windows { IfOk result (λ made. length made.1.items ≡ windows) }
         ensures nothing { IfOk result (λ made. All (λ window. window ≡ []) made.1.items) }
     {
-        let (count, phases) = log.named::<J>();
+        let (count, phases) = log.named::<ListOf<J>>();
         let first = AuctionCopy::new(alloc, book, phases.again())?;
         let second = AuctionCopy::new(alloc, book, phases.again())?;
         let writer: CopyWriter<J> = Writer::new(alloc, first, second, windows as usize)?;

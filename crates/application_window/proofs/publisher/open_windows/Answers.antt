@@ -1,7 +1,7 @@
 use Rattle.std.proofs.Common.{◌≡◌, ◌+◌, true, false, length, refl, sym, ap, ◌∙◌, arith}
 use Rattle.std.proofs.lemmas.{Bool.{false≢true}, List.{length_push}}
 use Rattle.std.specs.{Prelude.{Result, Ok, Err}, Result.{is_err, is_ok}}
-use Rattle.application_window.proofs.Growing.{none_more}
+use Rattle.published_parts.proofs.Growing.{none_more}
 use Rattle.application_window.proofs.publisher.open_windows.Goals as goal
 
 ok_of : {T E : Type 0} (result : Result T E) → is_err result ≡ false → is_ok result ≡ true

@@ -1,5 +1,5 @@
 use Rattle.std.proofs.Common.{ap}
-use Rattle.auction_window.proofs.Growing.{shown-last, shown-before}
+use Rattle.published_parts.proofs.Growing.{shown-last, shown-before}
 use Rattle.auction_window.proofs.publisher.show.Goals as goal
 
 pub returns-in-Ok-clause-shown : goal.returns-in-Ok-clause-shown

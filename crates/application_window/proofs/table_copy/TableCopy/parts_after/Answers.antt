@@ -1,5 +1,5 @@
 use Rattle.std.proofs.Common.{◌≤◌, length, arith}
-use Rattle.application_window.proofs.Prefixes.{comparable_shorter}
+use Rattle.published_parts.proofs.Prefixes.{comparable_shorter}
 use Rattle.application_window.proofs.table_copy.TableCopy.parts_after.Goals as goal
 
 pub returns-clause-onward : goal.returns-clause-onward

@@ -2,7 +2,8 @@ use Rattle.std.proofs.Common.{◌≡◌, ◌∙◌, ◌+◌, ◌*◌, suc, lengt
 use Rattle.std.specs.List.{AllByRecursion}
 use Rattle.split_engine.specs.{Serial.{table_after}, declared.few.TheConstants.{MOST_KEYS}}
 use Rattle.application_window.proofs.Growing.{is_within, has_next, room_for}
-use Rattle.application_window.{proofs.Prefixes.{comparable_shorter}, specs.Published.{AreWithin}}
+use Rattle.application_window.specs.Published.{AreWithin}
+use Rattle.published_parts.proofs.Prefixes.{comparable_shorter}
 use Rattle.application_window.proofs.table_copy.TableCopyAbsorbAddPart.absorb_first.Goals as goal
 
 pub perform_part-requires-clause-within : goal.perform_part-requires-clause-within

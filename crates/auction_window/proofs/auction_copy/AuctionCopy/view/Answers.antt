@@ -1,5 +1,5 @@
 use Rattle.std.proofs.Common.{◌≤◌, length, arith}
-use Rattle.auction_window.proofs.Prefixes.{comparable_shorter}
+use Rattle.published_parts.proofs.Prefixes.{comparable_shorter}
 use Rattle.auction_window.proofs.auction_copy.AuctionCopy.view.Goals as goal
 
 pub returns-clause-onward : goal.returns-clause-onward

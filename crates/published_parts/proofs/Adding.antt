@@ -1,19 +1,18 @@
--- The exchange that adds a phase keeps the rule.
+-- The exchange that adds a part keeps the rule.
 use Rattle.std.proofs.Common.{◌≡◌, ℕ, ◌+◌, ◌<◌, ◌==◌, Bool, true, false, List, [], ◌∷◌, ◌++◌, length, refl, ap, sym, subst, arith, inl, length-append, None}
 use Rattle.std.proofs.lemmas.{Bool.Decides.{nat_tests}, List.{append-nil}}
 use mathlib.Core.List.{IsPrefix}
 use prog.Atomic.{either}
 use Rattle.logbook.specs.Pages.{Cell, cell, keeps, no_nib, step, Moves, Goes}
-use Rattle.auction_rows.specs.declared.rows.Row.{Row}
-use Rattle.auction_window.{proofs.Prefixes.{prefix_whole}, specs.inner.PhaseRule.{IsKept, Adds}}
+use Rattle.published_parts.{proofs.Prefixes.{prefix_whole}, specs.inner.PartRule.{IsKept, Adds}}
 
-abbrev pub shown : List (List Row) → List (List Row)
+abbrev pub shown : {E : Type 0} → List E → List E
 shown log = []
 
-abbrev pub moved : List (List Row) → List (List Row) → ℕ → Type 0
+abbrev pub moved : {E : Type 0} → List E → List E → ℕ → Type 0
 moved xs ys n = Unit {0}
 
-pub adds_goes : (log v : List (List Row)) (e : List Row) (old : ℕ) → length v ≡ old → IsPrefix v log → (b : Bool) → (length log == old) ≡ b
+pub adds_goes : {E : Type 0} (log v : List E) (e : E) (old : ℕ) → length v ≡ old → IsPrefix v log → (b : Bool) → (length log == old) ≡ b
     → Goes IsKept shown moved 0 (v, (no_nib, None)) (λ n. either (n == old) (old + 1) n) (Adds (step 0 old (old + 1) e) (v, (no_nib, None))) ((length log, true) ∷ (0, true) ∷ []) log
 adds_goes log v e old len pre true is =
     let here : length log ≡ old = grind (arith, nat_tests) in
@@ -39,8 +38,8 @@ adds_goes log v e old len pre false is =
       rw is (ap length all),
     )
 
--- whatever the book is, the exchange adds the phase to all that was seen, or finds that the list is longer
-pub adds_moves : (v : List (List Row)) (e : List Row) (old : ℕ) → length v ≡ old → Moves IsKept shown moved 0 (v, (no_nib, None)) (λ n. either (n == old) (old + 1) n) (Adds (step 0 old (old + 1) e) (v, (no_nib, None)))
+-- whatever the book is, the exchange adds the part to all that was seen, or finds that the list is longer
+pub adds_moves : {E : Type 0} (v : List E) (e : E) (old : ℕ) → length v ≡ old → Moves IsKept shown moved 0 (v, (no_nib, None)) (λ n. either (n == old) (old + 1) n) (Adds (step 0 old (old + 1) e) (v, (no_nib, None)))
 adds_moves v e old len cs log kept pre away =
     let P : List Cell → Type 0 = λ c. (0 < length c) × ((cell c 0).1 ≡ true) × Goes IsKept shown moved 0 (v, (no_nib, None)) (λ n. either (n == old) (old + 1) n) (Adds (step 0 old (old + 1) e) (v, (no_nib, None))) c log in
     subst P (sym kept.words) (omega arith, refl, adds_goes log v e old len pre (length log == old) refl)

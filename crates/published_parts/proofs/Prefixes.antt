@@ -2,7 +2,7 @@
 use Rattle.std.proofs.Common.{◌≡◌, ◌≤◌, List, [], ◌∷◌, length, inl, inr, refl, arith}
 use Rattle.std.proofs.lemmas.List.{append-nil}
 use mathlib.Core.List.{IsPrefix}
-use Rattle.application_window.specs.Published.{AreComparable}
+use Rattle.published_parts.specs.Parts.{AreComparable}
 
 -- of two prefixes of one list the longer begins with the shorter
 pub prefix_shorter : {A : Type 0} (xs ys zs : List A) → IsPrefix xs zs → IsPrefix ys zs → length xs ≤ length ys → IsPrefix xs ys

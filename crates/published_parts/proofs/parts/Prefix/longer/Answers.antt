@@ -1,7 +1,7 @@
 use Rattle.std.proofs.Common.{◌≤◌, ap, subst, arith, length}
 use mathlib.Core.List.{IsPrefix}
-use Rattle.application_window.proofs.Prefixes.{prefix_shorter}
-use Rattle.application_window.proofs.parts.Prefix.longer.Goals as goal
+use Rattle.published_parts.proofs.Prefixes.{prefix_shorter}
+use Rattle.published_parts.proofs.parts.Prefix.longer.Goals as goal
 
 pub returns-then-self-other-clause-this : goal.returns-then-self-other-clause-this
 returns-then-self-other-clause-this g c =

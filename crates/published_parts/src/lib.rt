@@ -1,0 +1,8 @@
+//! The list of the parts that a publisher hands to its windows, for parts of any kind: its length,
+//! by which the publisher alone adds parts, and its prefixes, which windows know. Of two prefixes
+//! one begins with the other, so whoever compares their lengths never goes back.
+#![tactic(auto)]
+
+mod parts;
+
+pub use parts::{ListName, PartCount, PartList, Prefix};
