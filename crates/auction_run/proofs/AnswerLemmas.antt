@@ -22,6 +22,11 @@ both p q = ((λ _. q), λ _. p)
 neither : {P Q : Type 0} → ¬ P → ¬ Q → P ↔ Q
 neither first second = ((λ p. absurd (first p)), λ q. absurd (second q))
 
+-- nothing is said of an outcome where there is none
+pub no_outcome : {T E : Type 0} (result : Result T E) (Q : E → Type 0) (P : T → Type 0) → IsErrAnd result Q → IfOk result P
+no_outcome (Ok done) Q P is = absurd is
+no_outcome (Err fault) Q P is = tt
+
 on_ok : {T : Type 0} (result : Result T RunFault) {P : Type 0} → P → OnOk result P
 on_ok (Ok done) p = p
 on_ok (Err fault) p = tt

@@ -1,3 +1,4 @@
+pub mod inner
 pub mod Checks
 pub mod Runs
 pub mod GoingOn

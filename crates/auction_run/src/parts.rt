@@ -7,6 +7,7 @@ ghost use Rattle.auction_rows.specs.declared.{rows.Entry.{Entry}, values.Opening
 ghost use Rattle.phase_floor.specs.States.{IsBookOf, JoinedState};
 ghost use Rattle.run_phases.specs.Boards.{IsUpToDate};
 ghost use Rattle.auction_run.specs.GoingOn.{AnswersNextRun, GivesBack, HasShownFirstNext, HasShownNext, IsReadyFor};
+ghost use Rattle.auction_run.specs.inner.Shown.{AnswersShownNext};
 ghost use Rattle.auction_run.specs.Parts.{ArePartsFrom, HaveLeft, book_after_parts, history_of};
 
 use crate::checks::{Stopped, check_on};
@@ -86,12 +87,8 @@ fn run_on_checked<R: Threads + Wait + Sync, G: Gate + Sync, B: Board>(
     requires ready { IsReadyFor state work.policy work.scripts.now }
     requires few { length work.scripts.now ≤ MOST_WORKERS }
     requires board { B.can_be_watched → IsUpToDate B.has board.old state }
-    ensures answer { AnswersNextRun state work.entry.policy work.entry.scripts.now result }
-    ensures board { IfOk result (HasShownNext B.has state board.old board.new) }
-    ensures up_to_date { IfOk result (λ outcome.
-        IsUpToDate B.has board.old state → IsUpToDate B.has board.new outcome.state) }
-    ensures board_after_fault { IfErr result (HasShownFirstNext B.has B.has_refused state
-        work.entry.policy work.entry.scripts.now board.old board.new) }
+    ensures { AnswersShownNext B.has B.has_refused state work.entry.policy work.entry.scripts.now
+        board.old board.new result }
 {
     let state = state.for_next_run();
     let outcome = run_from(rt, alloc, state, work, board)?;

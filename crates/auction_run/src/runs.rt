@@ -5,6 +5,7 @@ ghost use Rattle.run_phases.specs.Beginning.{AreShort, HasShards, HasQuotas, Hav
 ghost use Rattle.run_phases.specs.Boards.{IsUpToDate};
 ghost use Rattle.auction_run.specs.Checks.{IsFoundFirst};
 ghost use Rattle.auction_run.specs.Runs.{AnswersRun, HasShownAll, HasShownFirst};
+ghost use Rattle.auction_run.specs.inner.Shown.{AnswersShown};
 
 use crate::checks::check;
 use crate::scripts::{Scripts, share};
@@ -91,14 +92,8 @@ fn run_checked<R: Threads + Wait + Sync, G: Gate + Sync, B: Board>(
     requires quotas { HasQuotas work.policy }
     requires short { AreShort (rows_of_book book.now) work.scripts.now }
     requires board { B.has board.old (opening_of book.now) (rows_of_book book.now) [] }
-    ensures answer { AnswersRun (opening_of book.now) (rows_of_book book.now) work.entry.policy
-        work.entry.scripts.now result }
-    ensures board { IfOk result
-        (HasShownAll B.has (opening_of book.now) (rows_of_book book.now) board.new) }
-    ensures up_to_date { IfOk result (λ outcome. IsUpToDate B.has board.new outcome.state) }
-    ensures board_after_fault { IfErr result (HasShownFirst B.has B.has_refused
-        (opening_of book.now) (rows_of_book book.now) work.entry.policy
-        work.entry.scripts.now board.new) }
+    ensures { AnswersShown B.has B.has_refused (opening_of book.now) (rows_of_book book.now)
+        work.entry.policy work.entry.scripts.now board.new result }
 {
     let workers = work.scripts.as_slice().len() as u32;
     let state = Joined::resume(alloc, book, workers, work.policy.shards)?;

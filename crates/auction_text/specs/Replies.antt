@@ -1,20 +1,11 @@
 -- The texts of replies and of histories.
 use Rattle.std.specs.{Fmt.{signed_decimal}, List.{flat_map}}
 use Rattle.std.specs.Prelude.{ℕ, ℤ, List, ◌++◌, codes, decimal, Option}
-use Rattle.auction_rows.specs.declared.{replies.Refusal.Refusal, replies.Reply.Reply, replies.BidShown.BidShown, replies.ItemShown.ItemShown, rows.Entry.Entry}
-use Rattle.auction_rows.specs.declared.replies.Refusal.TheVariants as refusal
+use Rattle.auction_rows.specs.Refusals.{refusal_text}
+use Rattle.auction_rows.specs.declared.{replies.Reply.Reply, replies.BidShown.BidShown, replies.ItemShown.ItemShown, rows.Entry.Entry}
 use Rattle.auction_rows.specs.declared.replies.Reply.TheVariants as reply
 use Rattle.byte_texts.specs.Labels.{labelled, labelled_id, labelled_optional}
 use Rattle.auction_text.specs.Order.{in_order}
-
-abbrev pub refusal_text : Refusal → List ℕ
-refusal_text refusal.NoSuchUser = codes "refused 1 NoSuchUser"
-refusal_text refusal.NoSuchCategory = codes "refused 2 NoSuchCategory"
-refusal_text refusal.NoSuchItem = codes "refused 3 NoSuchItem"
-refusal_text refusal.BelowStart = codes "refused 4 BelowStart"
-refusal_text refusal.Closed = codes "refused 5 Closed"
-refusal_text refusal.SoldOut = codes "refused 6 SoldOut"
-refusal_text refusal.NotEnough = codes "refused 7 NotEnough"
 
 -- what is fixed of an item, but for its name
 abbrev pub facts_text : ℕ → ℕ → ℕ → ℕ → List ℕ

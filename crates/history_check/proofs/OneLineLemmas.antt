@@ -8,7 +8,8 @@ use Rattle.auction_rows.specs.Name.{IsPrinting}
 use Rattle.auction_rows.specs.declared.replies.Refusal.TheVariants.{NoSuchUser, NoSuchCategory, NoSuchItem, BelowStart, Closed, SoldOut, NotEnough}
 use Rattle.auction_rows.specs.declared.replies.Reply.TheVariants.{ItemStored, BidStored, CommentStored, Bought, ItemSeen, BidsSeen, CategorySeen, UserSeen, Refused}
 use Rattle.auction_rows.specs.declared.replies.{Refusal.Refusal, Reply.Reply, BidShown.BidShown, ItemShown.ItemShown}
-use Rattle.auction_text.specs.Replies.{refusal_text, facts_text, state_text, bid_text, item_text, score_text, reply_text}
+use Rattle.auction_rows.specs.Refusals.{refusal_text}
+use Rattle.auction_text.specs.Replies.{facts_text, state_text, bid_text, item_text, score_text, reply_text}
 use Rattle.byte_texts.specs.Labels.{id_text, optional_text, labelled, labelled_optional, labelled_id}
 use Rattle.history_check.specs.Texts.{ShowsName}
 

@@ -10,7 +10,7 @@ use Rattle.auction_rows.proofs.RefusalLemmas.{refusal-split}
 use Rattle.auction_rows.specs.Book.{Book, as_item, as_bid, as_comment, as_buy, facts_of, item_entry}
 use Rattle.auction_rows.specs.History.{commit, commit_of, after_entry, GoOn, IsBook}
 use Rattle.auction_rows.specs.Refusals.{number_refusal, item_refusal, refusal, facts_for, left_for}
-use Rattle.auction_rows.specs.Replies.{answer, answer_unless, reply, row_of}
+use Rattle.auction_rows.specs.Replies.{reply, row_of}
 use Rattle.auction_rows.specs.Requests.{is_view, item_of, shard_of}
 use Rattle.auction_rows.specs.declared.requests.Object.TheVariants.{Item, User, Category}
 use Rattle.auction_rows.specs.declared.requests.Request.TheVariants.{StoreItem, StoreBid, StoreComment, BuyNow, ViewItem, ViewBids, ViewCategory, ViewUser}
@@ -206,14 +206,6 @@ none_counted = record { items = 0; bids = 0; comments = 0; buys = 0 }
 -- a worker's counts are those of the book
 pub counted_in : (auction : SerialAuction) (b : Book) (worker : ℕ) → HoldsBook auction b → worker < 16 → get_or auction.stored worker none_counted ≡ stored_by b worker
 counted_in auction b worker holds below = get_or_from_slice_get auction.stored worker (stored_by b worker) none_counted (holds.counts worker below)
-
--- a store that is not refused is answered by the count of its worker's stores of its kind
-pub stored_reply : (auction : SerialAuction) (worker : ℕ) (request : Request) (answered : StoreCounts → Reply) (result : Reply) → worker < 16
-    → ((b : Book) → HoldsBook auction b → result ≡ answer_unless (refusal (serial_opening auction) b request) (answered (get_or auction.stored worker none_counted)))
-    → ((b : Book) → answer b worker request ≡ answered (stored_by b worker))
-    → (b : Book) → HoldsBook auction b → result ≡ reply (serial_opening auction) b worker request
-stored_reply auction worker request answered result below is told b holds =
-    is b holds ∙ ap (answer_unless (refusal (serial_opening auction) b request)) (ap answered (counted_in auction b worker holds below) ∙ sym (told b))
 
 -- a view adds no row
 pub view_adds_none : (worker : ℕ) (request : Request) (answered : Reply) → is_view request ≡ true → row_of worker request answered ≡ None

@@ -14,7 +14,7 @@ pub use laws::{
     opening_books, values_of_books, views_are_replies,
 };
 pub use openings::{OpeningBook, ResumeFault};
-pub use serial::SerialAuction;
+pub use serial::{SerialAuction, StoreCounts};
 pub use shard::acts::{Act, Look, writes_of};
 pub use shard::items::refusal_with;
 pub use shard::slices::{CategorySlice, ItemSlice, Slice, UserSlice};

@@ -21,17 +21,45 @@ pub struct SerialAuction {
     ghost has_all: { (object : Thing) → LiesIn shard object },
 }
 
-// How many stores of each kind a worker has had accepted.
+/// How many stores of each kind a worker has had accepted.
 #[derive(Clone, Copy)]
-struct StoreCounts {
-    items: u32,
-    bids: u32,
-    comments: u32,
-    buys: u32,
+pub struct StoreCounts {
+    pub items: u32,
+    pub bids: u32,
+    pub comments: u32,
+    pub buys: u32,
 }
 
 impl StoreCounts {
-    ghost use Rattle.item_shards.specs.Counting.{counted, AreFew};
+    ghost use Rattle.auction_rows.specs.{Book.{Book}, Replies.{answer}};
+    ghost use Rattle.item_shards.specs.Counting.{counted, stored_by, AreFew};
+
+    /// What the worker's next store is answered, if it is not refused: the next id of its kind.
+    pub fn next_reply(self, worker: u32, request: &Request) -> StoreReply
+        requires { is_view request.now ≡ false }
+        ensures { (book : Book) → stored_by book worker ≡ self →
+            reply_of result ≡ answer book worker request.now }
+    {
+        match *request {
+            Request::StoreItem { .. } => StoreReply::ItemStored(ItemId {
+                worker,
+                serial: self.items,
+            }),
+            Request::StoreBid { .. } => StoreReply::BidStored(BidId {
+                worker,
+                serial: self.bids,
+            }),
+            Request::StoreComment { .. } => StoreReply::CommentStored(CommentId {
+                worker,
+                serial: self.comments,
+            }),
+            Request::BuyNow { .. } => StoreReply::Bought(BuyId {
+                worker,
+                serial: self.buys,
+            }),
+            _ => unreachable!(),
+        }
+    }
 
     // Counts one more store of the row's kind.
     fn count(&mut self, row: &Row)
@@ -143,25 +171,7 @@ impl SerialAuction {
             return StoreReply::Refused(reason);
         }
         let stored = self.stored[worker as usize];
-        match *request {
-            Request::StoreItem { .. } => StoreReply::ItemStored(ItemId {
-                worker,
-                serial: stored.items,
-            }),
-            Request::StoreBid { .. } => StoreReply::BidStored(BidId {
-                worker,
-                serial: stored.bids,
-            }),
-            Request::StoreComment { .. } => StoreReply::CommentStored(CommentId {
-                worker,
-                serial: stored.comments,
-            }),
-            Request::BuyNow { .. } => StoreReply::Bought(BuyId {
-                worker,
-                serial: stored.buys,
-            }),
-            _ => unreachable!(),
-        }
+        stored.next_reply(worker, request)
     }
 
     // Stores a row. Without memory the auction holds the books that it held.

@@ -1,10 +1,10 @@
-//! Jobs done side by side by threads.
+//! Jobs done side by side by threads, or in turn by one.
 ghost use Rattle.std.specs.List.{AllByRecursion, AllZip};
 ghost use Rattle.std.specs.Prelude.{◌≡◌, ◌≤◌, ◌+◌, ◌++◌, List, length, map, vec_len, vec_capacity, IfOk, IfErr};
 ghost use Rattle.job_threads.specs.{Threads.{IsUnstarted}, inner.Handles.{job_of}};
 
 use crate::fault::JobFault;
-use std::alloc::Global;
+use std::alloc::{AllocError, Global};
 use std::snapshot::Snapshot;
 use std::sync::Wait;
 use std::thread;
@@ -62,6 +62,21 @@ where
             ensures fault { IfErr result (IsUnstarted (length jobs.items)) }
         { work_in(scope, rt, alloc, jobs, room) },
     )
+}
+
+/// Does the jobs on the thread that calls, one after the other. All memory is asked for before the
+/// first is done.
+pub fn work_in_turn<J: Job>(alloc: Global, jobs: Vec<J>) -> Result<Vec<J::Answer>, AllocError>
+where
+    J::Answer: Drop,
+    requires { AllByRecursion J.can_work jobs.items }
+    ensures { IfOk result (λ answers. AllZip J.keeps jobs.items answers.items) }
+{
+    let mut answers = Vec::with_capacity(alloc, jobs.len())?;
+    for job in jobs {
+        answers.push_reserved(job.work());
+    }
+    Ok(answers)
 }
 
 // The first job, with a thread in a scope for each other.

@@ -13,10 +13,9 @@ ghost use Rattle.phase_floor.specs.{States.{IsBookOf, StandsFor}, inner.Rows.{Ca
 use crate::joined::Joined;
 use crate::resumption::count_row;
 use auction_rows::{
-    BidId, BuyId, CommentId, ItemId, Object, Refusal, Request, Row, StoreReply, item_of,
-    number_refusal, row_of_store,
+    Object, Refusal, Request, Row, StoreReply, is_view, item_of, number_refusal, row_of_store,
 };
-use item_shards::{Opened, refusal_with};
+use item_shards::{Opened, StoreCounts, refusal_with};
 use phase_permits::Counters;
 use std::alloc::AllocError;
 use thiserror::Error;
@@ -28,7 +27,7 @@ pub enum AddFault {
     #[error("more requests than its worker may commit")]
     TooLong,
     /// Its request is refused at its place, for this reason.
-    #[error("refused {words}", words = words_of(*.0))]
+    #[error("{text}", text = Refusal::text(*.0))]
     Refused(Refusal),
     /// Its request is a view or is of none of the auction's workers.
     #[error("not a store of a worker")]
@@ -36,19 +35,6 @@ pub enum AddFault {
     /// No memory was left.
     #[error("no memory")]
     Memory,
-}
-
-// The number and the name of a reason, as a reply has them.
-fn words_of(reason: Refusal) -> &'static str {
-    match reason {
-        Refusal::NoSuchUser => "1 NoSuchUser",
-        Refusal::NoSuchCategory => "2 NoSuchCategory",
-        Refusal::NoSuchItem => "3 NoSuchItem",
-        Refusal::BelowStart => "4 BelowStart",
-        Refusal::Closed => "5 Closed",
-        Refusal::SoldOut => "6 SoldOut",
-        Refusal::NotEnough => "7 NotEnough",
-    }
 }
 
 impl From<AllocError> for AddFault {
@@ -161,23 +147,14 @@ fn answer_to_store(worker: u32, counters: &Counters, request: &Request) -> Optio
         MatchOption result (is_view request.now ≡ true)
         (λ told. (is_view request.now ≡ false) × (reply_of told ≡ answer book worker request.now)) }
 {
-    match *request {
-        Request::StoreItem { .. } => Some(StoreReply::ItemStored(ItemId {
-            worker,
-            serial: counters.items,
-        })),
-        Request::StoreBid { .. } => Some(StoreReply::BidStored(BidId {
-            worker,
-            serial: counters.bids,
-        })),
-        Request::StoreComment { .. } => Some(StoreReply::CommentStored(CommentId {
-            worker,
-            serial: counters.comments,
-        })),
-        Request::BuyNow { .. } => Some(StoreReply::Bought(BuyId {
-            worker,
-            serial: counters.buys,
-        })),
-        _ => None,
+    if is_view(*request) {
+        return None;
     }
+    let stored = StoreCounts {
+        items: counters.items,
+        bids: counters.bids,
+        comments: counters.comments,
+        buys: counters.buys,
+    };
+    Some(stored.next_reply(worker, request))
 }

@@ -133,14 +133,3 @@ pub fault_first : {T : Type 0} (receipts : List T) (each : WorkerAnswer T) (left
     each.done ≡ Err fault → left ≡ each ∷ next → map without_fault receipts ++ left ≡ all → first_fault all ≡ Some fault
 fault_first receipts each left next all fault is here whole =
     ap first_fault (sym whole) ∙ ap (λ es. first_fault (map without_fault receipts ++ es)) here ∙ fault_at receipts each next fault is
-
--- where the tasks before are done, this one's fault is the first
-pub first_fault_after : (takes : Bool) (initial : List ShardState) (done : List Task) (receipts : List WorkerState) (t : Task) (next left all : List Task) (receipt : WorkerState) (fault : PermitFault) →
-    left ≡ t ∷ next → done ++ left ≡ all → AllZip (HasDoneTask takes) done receipts → HasMetFault takes initial t receipt fault → IsFirstFault takes initial all fault
-first_fault_after takes initial done receipts t next left all receipt fault first whole so_far met =
-    subst (λ ts. IsFirstFault takes initial ts fault) whole (subst (λ ts. IsFirstFault takes initial (done ++ ts) fault) (sym first) (behind done receipts so_far))
-  where
-    behind : (done : List Task) (receipts : List WorkerState) → AllZip (HasDoneTask takes) done receipts → IsFirstFault takes initial (done ++ t ∷ next) fault
-    behind [] receipts so_far = inl (receipt, met)
-    behind (d ∷ done) [] so_far = absurd so_far
-    behind (d ∷ done) (r ∷ receipts) so_far = inr ((r, so_far.0), behind done receipts so_far.1)

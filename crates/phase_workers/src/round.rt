@@ -2,6 +2,7 @@
 //! and why they are not done.
 ghost use Rattle.std.specs.List.{AllByRecursion, AllZip};
 ghost use Rattle.std.specs.Prelude.{◌≡◌, ◌≤◌, Some, length, map, vec_len, vec_capacity, IfOk, IfErr, OnOk};
+ghost use Rattle.job_threads.specs.Threads.{IsUnstarted};
 ghost use Rattle.phase_workers.specs.Tasks.{task, tasks, CanBeDone, HasDoneTask, HasMetFault, IsFirstFault, IsFaultBy};
 ghost use Rattle.phase_workers.specs.Working.{IsPermitOf, ArePermitsOf};
 ghost use Rattle.phase_workers.specs.inner.Answers.{without_fault, first_fault};
@@ -9,7 +10,7 @@ ghost use Rattle.phase_workers.specs.inner.Answers.{without_fault, first_fault};
 use crate::meeting::is_for_one_thread;
 use crate::worker::{Gate, Post, perform_task};
 use auction_rows::MOST_WORKERS;
-use job_threads::{Job, JobFault, work_all};
+use job_threads::{Job, JobFault, work_all, work_in_turn};
 use phase_permits::{Kind, Permit, PermitFault, Receipt};
 use shard_boxes::{Boxes, PhaseName};
 use std::alloc::{AllocError, AllocFailed, Global};
@@ -176,69 +177,31 @@ where
         (IsFirstFault K.IS_JOINED N.initial
         (tasks permits.items round.entry.scripts.now round.entry.first))) }
 {
-    if !round.gate.needs_threads() && is_for_one_thread(&permits, &round, boxes.shards()) {
-        return serve_in_turn(rt, alloc, boxes, permits, round);
-    }
+    let in_turn = !round.gate.needs_threads()
+        && is_for_one_thread(&permits, &round, boxes.shards());
     let own_tasks = own_tasks(rt, alloc, boxes, permits, round)?;
     let room = Vec::with_capacity(alloc, own_tasks.len())?;
-    let answers = work_all(rt, alloc, own_tasks)?;
+    let answers = answers_of(rt, alloc, own_tasks, in_turn)?;
     Ok(receipts_of(answers, room)?)
 }
 
-// The same on the thread that calls, one worker after the other up to the first fault. All memory
-// is asked for before the first request is performed.
-fn serve_in_turn<N: PhaseName, K: Kind, R: Wait, G: Gate>(
+// What jobs give that are done in turn, or else side by side.
+fn answers_of<J: Job + Send, R: Threads + Wait + Sync>(
     rt: &R,
     alloc: Global,
-    boxes: &Boxes<N>,
-    permits: Vec<Permit<N, K>>,
-    round: Round<'_, G>,
-) -> Result<Vec<Receipt<N, K>>, ServingFault>
-    requires workers { vec_len permits ≡ length round.scripts.now }
-    requires few { length round.scripts.now ≤ MOST_WORKERS }
-    requires can { AllByRecursion (CanBeDone N.initial boxes.now)
-        (tasks permits.items round.scripts.now round.first) }
-    requires of { ArePermitsOf round.phase 0 permits.items }
-    ensures done { IfOk result (λ receipts.
-        AllZip (HasDoneTask K.IS_JOINED)
-        (tasks permits.items round.entry.scripts.now round.entry.first)
-        receipts.items) }
-    ensures fault { IfErr result (IsFaultBy (length round.entry.scripts.now)
-        (IsFirstFault K.IS_JOINED N.initial
-        (tasks permits.items round.entry.scripts.now round.entry.first))) }
+    jobs: Vec<J>,
+    in_turn: bool,
+) -> Result<Vec<J::Answer>, JobFault>
+where
+    J::Answer: Send + Drop,
+    requires { AllByRecursion J.can_work jobs.items }
+    ensures answers { IfOk result (λ answers. AllZip J.keeps jobs.items answers.items) }
+    ensures fault { IfErr result (IsUnstarted (length jobs.items)) }
 {
-    let mut permits = permits.into_iter();
-    let Ok(mut receipts) = Vec::with_capacity(alloc, round.scripts.len()) else {
-        spend_all(permits);
-        return Err(ServingFault::Memory);
-    };
-    while let Some(permit) = permits.next() {
-        let worker = receipts.len();
-        let script = &round.scripts[worker];
-        let own = WorkerTask {
-            rt,
-            post: Post {
-                boxes,
-                gate: round.gate,
-                phase: round.phase,
-                worker: worker as u32,
-            },
-            permit,
-            script,
-            first: round.first as usize,
-        };
-        let WorkerAnswer { receipt, done } = own.work();
-        match done {
-            Ok(()) => receipts.push_reserved(receipt),
-            Err(fault) => {
-                drop(receipt);
-                spend_all(permits);
-                return Err(ServingFault::Worker(fault));
-            }
-        }
+    if in_turn {
+        return Ok(work_in_turn(alloc, jobs)?);
     }
-    permits.destroy_empty();
-    Ok(receipts)
+    work_all(rt, alloc, jobs)
 }
 
 // The task of each worker.

@@ -1,18 +1,18 @@
 //! The course of a run: its phases, one after the other.
-ghost use Rattle.std.specs.Prelude.{◌≡◌, ◌⊎◌, ◌↔◌, ℕ, suc, ◌<◌, ◌≤◌, ◌+◌, ◌^◌, ◌++◌, ◌∷◌, true, false, List, [], length, IfOk, OnOk, IfErr, OnErr, IsTrue};
-ghost use Rattle.run_laws.specs.{Phases.{is_split}, Run.{HasLeft}, Serving.{script_of}};
+ghost use Rattle.std.specs.Prelude.{◌≡◌, ◌⊎◌, ◌↔◌, ℕ, ◌<◌, ◌++◌, ◌∷◌, true, false, List, [], length, IfOk, OnOk, IfErr, OnErr, IsTrue};
+ghost use Rattle.run_laws.specs.Phases.{is_split};
 ghost use Rattle.auction_rows.specs.{Book.{Book}, Choosing.{choose}};
 ghost use Rattle.auction_rows.specs.declared.limits.Policy.{Policy as Rule};
 ghost use Rattle.auction_rows.specs.declared.values.Opening.{Opening as Numbers};
 ghost use Rattle.auction_rows.specs.declared.rows.Row.{Row as Stored};
-ghost use Rattle.auction_rows.specs.History.{IsBook, rows_of as stored_rows};
+ghost use Rattle.auction_rows.specs.History.{rows_of as stored_rows};
 ghost use Rattle.worker_journals.specs.Merged.{merged};
 ghost use Rattle.auction_window.specs.Published.{book_of};
 ghost use Rattle.run_phases.specs.Beginning.{BeginsWith, CannotBegin, CanShowRun, HasShards, HasQuotas};
 ghost use Rattle.run_phases.specs.Boards.{CanShow, HasShownAfter};
 ghost use Rattle.run_phases.specs.{Outcomes.{HasShownFirstAfter, IsOutcome}, Phases.{IsMet}};
-ghost use Rattle.run_phases.specs.inner.Plans.{waiting_in, AreAsked, IsPlanOf};
-ghost use Rattle.run_phases.specs.inner.Running.{IsRunning, CanGoOn};
+ghost use Rattle.run_phases.specs.inner.Plans.{waiting_in, AreAsked, IsNoneLeft, IsPlanOf, IsSomeLeft};
+ghost use Rattle.run_phases.specs.inner.Running.{CanPerformNext, HasPerformedNext, IsRunning};
 
 use crate::board::Board;
 use crate::faults::RunFault;
@@ -130,12 +130,8 @@ fn no_stashes(alloc: Global, workers: usize) -> Result<Vec<Stash>, AllocError>
 // Whether a worker has a request or a stash left.
 fn is_left(scripts: &SharedScripts, stashes: &[Stash], first: u64) -> bool
     requires { length stashes.now ≡ length scripts.now }
-    ensures some { IsTrue result → (worker : ℕ)
-        × ((first < length (script_of scripts.now worker))
-        ⊎ (0 < length (waiting_in stashes.now worker))) }
-    ensures none { ¬ IsTrue result → (worker : ℕ) →
-        (length (script_of scripts.now worker) ≤ first)
-        × (length (waiting_in stashes.now worker) ≡ 0) }
+    ensures some { IsTrue result → IsSomeLeft scripts.now stashes.now first }
+    ensures none { ¬ IsTrue result → IsNoneLeft scripts.now stashes.now first }
 {
     is_left_of(scripts.as_slice(), stashes, first)
 }
@@ -143,12 +139,8 @@ fn is_left(scripts: &SharedScripts, stashes: &[Stash], first: u64) -> bool
 // The same of scripts that are lent.
 fn is_left_of(scripts: &[Script], stashes: &[Stash], first: u64) -> bool
     requires { length stashes.now ≡ length scripts.now }
-    ensures some { IsTrue result → (worker : ℕ)
-        × ((first < length (script_of scripts.now worker))
-        ⊎ (0 < length (waiting_in stashes.now worker))) }
-    ensures none { ¬ IsTrue result → (worker : ℕ) →
-        (length (script_of scripts.now worker) ≤ first)
-        × (length (waiting_in stashes.now worker) ≡ 0) }
+    ensures some { IsTrue result → IsSomeLeft scripts.now stashes.now first }
+    ensures none { ¬ IsTrue result → IsNoneLeft scripts.now stashes.now first }
 {
     for worker in 0..scripts.len() {
         if has_left(&scripts[worker], &stashes[worker], first) {
@@ -173,24 +165,10 @@ fn next_phase<R: Threads + Wait + Sync, G: Gate + Sync>(
     running: Running,
     plan: PhasePlan<'_, G>,
 ) -> Result<Running, RunFault>
-    requires shards { HasShards plan.policy }
-    requires quotas { 0 < plan.policy.joined_quota + plan.policy.split_quota }
-    requires counted { running.state.phase + 1 < 2 ^ 64 }
     requires plan { IsPlanOf plan running.state.phase }
-    requires running { ¬ ¬ CanGoOn plan.policy plan.round.scripts.now running }
-    requires asked { AreAsked plan.round.scripts.now running.stashes.items }
-    requires left { (worker : ℕ) × HasLeft plan.policy plan.round.scripts.now
-        running.state.phase (waiting_in running.stashes.items) worker }
-    ensures running { IfOk result (λ next. (opening : Numbers) (rows : Book) → IsBook opening rows →
-        IsRunning opening rows plan.entry.policy plan.entry.round.scripts.now
-        running.state.phase running →
-        IsRunning opening rows plan.entry.policy plan.entry.round.scripts.now
-        (suc running.state.phase) next) }
-    ensures grown { IfOk result (λ next. next.history.entries
-        ≡ running.history.entries ++ merged next.history.last) }
-    ensures asked { IfOk result (λ next.
-        AreAsked plan.entry.round.scripts.now next.stashes.items) }
-    ensures limit { IfOk result (λ next. next.state.limit ≡ running.state.limit) }
+    requires can { CanPerformNext plan.policy plan.round.scripts.now running }
+    ensures performed { IfOk result (HasPerformedNext plan.entry.policy
+        plan.entry.round.scripts.now running) }
     ensures fault { IfErr result (IsMet plan.entry.round.scripts.now) }
 {
     let hot_now = next_hot(alloc, &running, plan.policy)?;

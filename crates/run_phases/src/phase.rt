@@ -1,7 +1,6 @@
-//! One phase of a run, joined or split: how the run goes on with its scripts in it, and what it
-//! gives each worker.
-ghost use Rattle.std.specs.Prelude.{◌≡◌, ◌++◌, ◌-◌, ◌<◌, ◌^◌, ℕ, length, min, slice_index, not, IfOk, OnOk, IfErr};
-ghost use Rattle.run_laws.specs.{Phases.{is_split}, Run.{first_index}, Serving.{script_of}};
+//! One phase of a run, joined or split: what it gives each worker, its begin and its close.
+ghost use Rattle.std.specs.Prelude.{◌≡◌, ◌++◌, ◌-◌, ◌<◌, ℕ, length, min, slice_index, not, IfOk, OnOk, IfErr};
+ghost use Rattle.run_laws.specs.{Phases.{is_split}, Serving.{script_of}};
 ghost use Rattle.worker_journals.specs.Merged.{added, merged};
 ghost use Rattle.phase_floor.specs.States.{states_of};
 ghost use Rattle.phase_floor.specs.declared.floor.BeginFault.TheVariants.{Memory};
@@ -16,7 +15,7 @@ use auction_rows::{Object, Policy};
 use indexmap::IndexSet;
 use phase_floor::{BeginFault, Floor, Joined, JoinedFloor, SplitFloor};
 use phase_permits::{JoinedPermit, JoinedPhase, Kind, Permit, SplitPermit, SplitPhase, Stash};
-use phase_workers::{Gate, Round, serve_all};
+use phase_workers::{Gate, serve_all};
 use shard_boxes::PhaseName;
 use std::alloc::{AllocError, Global};
 use std::marker::Brand;
@@ -42,44 +41,6 @@ pub(crate) struct Running {
     pub(crate) history: History,
     pub(crate) hot: Vec<IndexSet<Object>>,
     pub(crate) stashes: Vec<Stash>,
-}
-
-impl<'a, G> PhasePlan<'a, G> {
-    ghost use Rattle.run_phases.specs.inner.Plans.{IsPlanOf};
-
-    /// The plan of a phase.
-    pub(crate) fn new(work: &Workload<'a, G>, phase: u64) -> PhasePlan<'a, G>
-        requires { phase < 2 ^ 31 }
-        ensures scripts { result.round.scripts.now ≡ work.entry.now.scripts.now }
-        ensures policy { result.policy ≡ work.entry.now.policy }
-        ensures plan { IsPlanOf result phase }
-    {
-        let round = Round {
-            scripts: work.scripts.as_slice(),
-            first: first_index(work.policy, phase),
-            phase,
-            gate: work.gate,
-        };
-        PhasePlan {
-            policy: work.policy,
-            scripts: work.scripts,
-            round,
-        }
-    }
-}
-
-// The first index that reaches a phase: each two phases before it took both quotas.
-fn first_index(policy: Policy, phase: u64) -> u64
-    requires { phase < 2 ^ 31 }
-    ensures { result ≡ first_index policy phase }
-{
-    let joined = u64::from(policy.joined_quota);
-    let split = u64::from(policy.split_quota);
-    let before = phase / 2 * (joined + split);
-    if phase % 2 == 0 {
-        return before;
-    }
-    before + joined
 }
 
 /// How many requests each worker is given: the quota, or what is left of its script from its

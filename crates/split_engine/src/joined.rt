@@ -4,7 +4,7 @@ ghost use Rattle.std.specs.Prelude.{◌≡◌, ◌++◌, ◌∷◌, [], ℕ, suc
 ghost use Rattle.split_engine.specs.Rules.{most_acts, most_before, index_end};
 ghost use Rattle.split_engine.specs.Serial.{IsWithin, after_act, after_acts, next, reply};
 ghost use Rattle.split_engine.specs.{Serving.{lists, total, IsScript}, inner.Commits.{commit}};
-ghost use Rattle.split_engine.specs.inner.Phases.{HasPerformed, HasServed, HasStashed, HasTurned, IsRunState, AllFinished};
+ghost use Rattle.split_engine.specs.inner.Phases.{HasPerformed, HasServed, HasStashed, HasTurned, StandsSo, HasGoneOn, AllFinished};
 ghost use Rattle.split_engine.specs.declared.entry.Entry.{Entry as Commit};
 
 use crate::application::Application;
@@ -176,17 +176,12 @@ pub(crate) fn joined_phase<A: Application>(
 ) -> Result<(), AllocError>
     requires few { length scripts.now < index_end }
     requires total { total (lists scripts.now) ≤ MOST_COMMITS }
-    requires state { (n : ℕ) × (opened : List A.Record) × (n < most_before)
-        × AllByRecursion (IsScript A.rules (length opened)) (lists scripts.now)
-        × IsRunState A.rules A.fits n opened (lists scripts.now)
+    requires state { StandsSo A.rules A.fits (lists scripts.now)
         state.old.so_far.table.items state.old.so_far.history state.old.cursors.items }
     ensures ends { OnOk result (most_acts ≤ quota →
         AllFinished (lists scripts.now) state.new.cursors.items) }
-    ensures state { (n : ℕ) (opened : List A.Record) → n < most_before →
-        AllByRecursion (IsScript A.rules (length opened)) (lists scripts.now) →
-        IsRunState A.rules A.fits n opened (lists scripts.now)
-        state.old.so_far.table.items state.old.so_far.history state.old.cursors.items →
-        OnOk result (IsRunState A.rules A.fits n opened (lists scripts.now)
+    ensures state { OnOk result (HasGoneOn A.rules A.fits (lists scripts.now)
+        state.old.so_far.table.items state.old.so_far.history state.old.cursors.items
         state.new.so_far.table.items state.new.so_far.history state.new.cursors.items) }
 {
     let calls = count_calls(scripts, quota, &state.cursors);

@@ -5,9 +5,8 @@ ghost use Rattle.split_engine.specs.Faults.{IsRunFault};
 ghost use Rattle.split_engine.specs.Rules.{most_acts, most_before, index_end};
 ghost use Rattle.split_engine.specs.{Serving.{lists, total, IsScript}, Splitting.{merged_all}};
 ghost use Rattle.split_engine.specs.inner.Assignments.{Assignment, assignment, assignments, all_left, CanDo, HasDone, HasClosed};
-ghost use Rattle.split_engine.specs.inner.Phases.{HaveServed, IsRunState};
+ghost use Rattle.split_engine.specs.inner.Phases.{HaveServed, StandsSo, HasGoneOn};
 ghost use Rattle.split_engine.specs.declared.entry.Entry.{Entry as Commit};
-ghost use Rattle.split_engine.specs.declared.state.Cursor.{Cursor as CursorValue};
 
 use crate::application::Application;
 use crate::fault::RunFault;
@@ -159,37 +158,6 @@ fn take_in_all<A: Application>(
     Ok(state)
 }
 
-// Closes a split phase in which the workers did their parts.
-fn close<A: Application>(
-    alloc: Global,
-    scripts: &[Vec<A::Request>],
-    plan: SplitPlan<'_>,
-    so_far: Outcome<A>,
-    answers: Vec<Result<SplitData<A>, AllocError>>,
-) -> Result<RunState<A>, AllocError>
-    requires total { total (lists scripts.now) ≤ MOST_COMMITS }
-    requires done { (n : ℕ) × (opened : List A.Record) × (cursors : List (CursorValue A.Request))
-        × (n < most_before) × IsRunState A.rules A.fits n opened (lists scripts.now)
-        so_far.table.items so_far.history cursors
-        × AllZip (λ a answer. IfOk answer (λ own.
-        HasDone A.rules A.is_small a own.cursor own.journal.items own.slices))
-        (assignments so_far.table.items plan.hot.now plan.quota 0 (lists scripts.now) cursors)
-        answers.items }
-    ensures { (n : ℕ) (opened : List A.Record) (cursors : List (CursorValue A.Request)) →
-        AllByRecursion (IsScript A.rules (length opened)) (lists scripts.now) →
-        IsRunState A.rules A.fits n opened (lists scripts.now)
-        so_far.table.items so_far.history cursors →
-        AllZip (λ a answer. IfOk answer (λ own.
-        HasDone A.rules A.is_small a own.cursor own.journal.items own.slices))
-        (assignments so_far.table.items plan.entry.hot.now plan.entry.quota 0
-        (lists scripts.now) cursors)
-        answers.items →
-        IfOk result (λ new. IsRunState A.rules A.fits n opened (lists scripts.now)
-        new.so_far.table.items new.so_far.history new.cursors.items) }
-{
-    take_in_all::<A>(alloc, so_far, answers)
-}
-
 /// Performs a split phase: each worker's part on a thread of its own, but the first worker's.
 pub(crate) fn split_phase<A: Application + Send + Sync, R: Threads + Wait + Sync>(
     rt: &R,
@@ -209,16 +177,11 @@ where
     requires quota { MOST_KEYS * plan.quota < most_acts }
     requires hot { length plan.hot.now ≡ length state.so_far.table.items }
     requires total { total (lists scripts.now) ≤ MOST_COMMITS }
-    requires state { (n : ℕ) × (opened : List A.Record) × (n < most_before)
-        × AllByRecursion (IsScript A.rules (length opened)) (lists scripts.now)
-        × IsRunState A.rules A.fits n opened (lists scripts.now)
+    requires state { StandsSo A.rules A.fits (lists scripts.now)
         state.so_far.table.items state.so_far.history state.cursors.items }
     ensures fault { IfErr result (IsRunFault (length scripts.now)) }
-    ensures state { (n : ℕ) (opened : List A.Record) → n < most_before →
-        AllByRecursion (IsScript A.rules (length opened)) (lists scripts.now) →
-        IsRunState A.rules A.fits n opened (lists scripts.now)
-        state.so_far.table.items state.so_far.history state.cursors.items →
-        IfOk result (λ new. IsRunState A.rules A.fits n opened (lists scripts.now)
+    ensures state { IfOk result (λ new. HasGoneOn A.rules A.fits (lists scripts.now)
+        state.so_far.table.items state.so_far.history state.cursors.items
         new.so_far.table.items new.so_far.history new.cursors.items) }
 {
     let RunState {
@@ -232,5 +195,5 @@ where
     };
     let tasks = tasks::<A>(alloc, phase, scripts, cursors, hints)?;
     let answers = work_all(rt, alloc, tasks)?;
-    Ok(close::<A>(alloc, scripts, plan, so_far, answers)?)
+    Ok(take_in_all::<A>(alloc, so_far, answers)?)
 }

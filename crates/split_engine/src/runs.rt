@@ -2,8 +2,8 @@
 ghost use Rattle.std.specs.List.{AllByRecursion};
 ghost use Rattle.std.specs.Prelude.{◌≡◌, ℕ, true, ◌+◌, ◌*◌, ◌<◌, ◌≤◌, List, length, IfOk, IfErr};
 ghost use Rattle.split_engine.specs.{Faults.{IsRunFault}, Rules.{most_before, index_end}};
-ghost use Rattle.split_engine.specs.Serving.{lists, total, IsScript, AreScripts, IsOutcome};
-ghost use Rattle.split_engine.specs.inner.Phases.{IsRunState, AreFresh, AllFinished};
+ghost use Rattle.split_engine.specs.Serving.{lists, total, AreScripts, IsOutcome};
+ghost use Rattle.split_engine.specs.inner.Phases.{IsRunState, StandsSo, HasEnded, HasGoneOn, AreFresh, AllFinished};
 
 use crate::application::Application;
 use crate::fault::RunFault;
@@ -83,17 +83,12 @@ where
     requires few { length scripts.now < index_end }
     requires total { total (lists scripts.now) ≤ MOST_COMMITS }
     requires hot { length phasing.old.hot.items ≡ length state.so_far.table.items }
-    requires state { (n : ℕ) × (opened : List A.Record) × (n < most_before)
-        × AllByRecursion (IsScript A.rules (length opened)) (lists scripts.now)
-        × IsRunState A.rules A.fits n opened (lists scripts.now)
+    requires state { StandsSo A.rules A.fits (lists scripts.now)
         state.so_far.table.items state.so_far.history state.cursors.items }
     ensures hot { length phasing.new.hot.items ≡ length phasing.old.hot.items }
     ensures fault { IfErr result (IsRunFault (length scripts.now)) }
-    ensures state { (n : ℕ) (opened : List A.Record) → n < most_before →
-        AllByRecursion (IsScript A.rules (length opened)) (lists scripts.now) →
-        IsRunState A.rules A.fits n opened (lists scripts.now)
-        state.so_far.table.items state.so_far.history state.cursors.items →
-        IfOk result (λ new. IsRunState A.rules A.fits n opened (lists scripts.now)
+    ensures state { IfOk result (λ new. HasGoneOn A.rules A.fits (lists scripts.now)
+        state.so_far.table.items state.so_far.history state.cursors.items
         new.so_far.table.items new.so_far.history new.cursors.items) }
 {
     let mut state = state;
@@ -109,22 +104,10 @@ where
 // What the run gives, once all scripts are performed.
 fn finish<A: Application>(scripts: &[Vec<A::Request>], state: RunState<A>) -> Outcome<A>
     requires { AllFinished (lists scripts.now) state.cursors.items }
-    ensures outcome { (n : ℕ) (opened : List A.Record) →
+    ensures { (n : ℕ) (opened : List A.Record) →
         IsRunState A.rules A.fits n opened (lists scripts.now)
         state.so_far.table.items state.so_far.history state.cursors.items →
-        IsOutcome A.rules opened (lists scripts.now) result.history result.table.items }
-    ensures fits { (n : ℕ) (opened : List A.Record) →
-        IsRunState A.rules A.fits n opened (lists scripts.now)
-        state.so_far.table.items state.so_far.history state.cursors.items →
-        AllByRecursion (A.fits (n + MOST_KEYS * length result.history)) result.table.items }
-    ensures count { (n : ℕ) (opened : List A.Record) →
-        IsRunState A.rules A.fits n opened (lists scripts.now)
-        state.so_far.table.items state.so_far.history state.cursors.items →
-        length result.history ≡ total (lists scripts.now) }
-    ensures len { (n : ℕ) (opened : List A.Record) →
-        IsRunState A.rules A.fits n opened (lists scripts.now)
-        state.so_far.table.items state.so_far.history state.cursors.items →
-        length result.table.items ≡ length opened }
+        HasEnded A.rules A.fits n opened (lists scripts.now) result.history result.table.items }
 {
     let RunState {
         so_far,

@@ -1,18 +1,19 @@
 //! The texts of replies, and their lines.
 ghost use Rattle.std.specs.List.{flat_map};
 ghost use Rattle.std.specs.Prelude.{◌≡◌, ◌↔◌, ◌+◌, ◌≤◌, ◌++◌, [], IsTrue, OnOk, codes, length};
-ghost use Rattle.auction_rows.specs.{ItemViews.{item_reply}, StoreReplies.{reply_of}};
-ghost use Rattle.auction_text.specs.Replies.{bid_text, facts_text, history_line, item_text, place_text, refusal_text, reply_line, reply_text, score_text, state_text};
+ghost use Rattle.auction_rows.specs.{ItemViews.{item_reply}, Refusals.{refusal_text}};
+ghost use Rattle.auction_rows.specs.StoreReplies.{reply_of};
+ghost use Rattle.auction_text.specs.Replies.{bid_text, facts_text, history_line, item_text, place_text, reply_line, reply_text, score_text, state_text};
 
-use auction_rows::{BidShown, ItemShown, ItemView, Refusal, Reply, StoreReply, Ten};
+use auction_rows::{
+    BidShown, ItemShown, ItemView, MOST_OF_A_REFUSAL, Refusal, Reply, StoreReply, Ten,
+};
 use byte_texts::{Block, Numeral, push_text};
 use std::alloc::AllocError;
 use std::marker::Model;
 use worker_journals::EntryRef;
 
 // The bytes that each part of a reply or of its line takes at most, with 20 for each number.
-const MOST_OF_A_REFUSAL: usize = 24;
-
 const MOST_OF_A_STORE_REPLY: usize = 49;
 
 const MOST_OF_FACTS: usize = 121;
@@ -105,15 +106,7 @@ fn text_of_refusal(refusal: Refusal) -> &'static [u8]
     ensures text { result.now ≡ refusal_text refusal }
     ensures short { length result.now ≤ MOST_OF_A_REFUSAL }
 {
-    match refusal {
-        Refusal::NoSuchUser => b"refused 1 NoSuchUser",
-        Refusal::NoSuchCategory => b"refused 2 NoSuchCategory",
-        Refusal::NoSuchItem => b"refused 3 NoSuchItem",
-        Refusal::BelowStart => b"refused 4 BelowStart",
-        Refusal::Closed => b"refused 5 Closed",
-        Refusal::SoldOut => b"refused 6 SoldOut",
-        Refusal::NotEnough => b"refused 7 NotEnough",
-    }
+    refusal.text().as_bytes()
 }
 
 fn put_facts<const N: usize>(

@@ -1,6 +1,6 @@
 -- What the next phase of a run is given, and when a run may perform it.
 use Rattle.std.specs.List.{AllByRecursion}
-use Rattle.std.specs.Prelude.{ℕ, ◌≡◌, ◌+◌, ◌<◌, ◌≤◌, ◌^◌, true, false, List, [], Some, length, slice_get}
+use Rattle.std.specs.Prelude.{ℕ, ◌≡◌, ◌+◌, ◌<◌, ◌≤◌, ◌^◌, ◌⊎◌, true, false, List, [], Some, length, slice_get}
 use Rattle.auction_rows.specs.declared.limits.TheConstants.{MOST_OF_A_WORKER}
 use Rattle.auction_rows.specs.declared.{limits.Policy.Policy, requests.Object.Object, requests.Request.Request}
 use Rattle.worker_slices.specs.Stashes.{StashState}
@@ -21,6 +21,16 @@ IsCallOf script call = slice_get script call.0 ≡ Some call.1
 abbrev pub AreAsked : List (List Request) → List StashState → Type 0
 AreAsked scripts stashes = (worker : ℕ) →
     AllByRecursion (IsCallOf (script_of scripts worker)) (waiting_in stashes worker)
+
+-- from this index on a worker has a request of its script left, or calls in its stash
+abbrev pub IsSomeLeft : List (List Request) → List StashState → ℕ → Type 0
+IsSomeLeft scripts stashes first = (worker : ℕ) ×
+    ((first < length (script_of scripts worker)) ⊎ (0 < length (waiting_in stashes worker)))
+
+-- and none has
+abbrev pub IsNoneLeft : List (List Request) → List StashState → ℕ → Type 0
+IsNoneLeft scripts stashes first = (worker : ℕ) →
+    (length (script_of scripts worker) ≤ first) × (length (waiting_in stashes worker) ≡ 0)
 
 -- how many requests of its script a phase gives a worker
 abbrev pub quota_of : Policy → ℕ → List Request → ℕ

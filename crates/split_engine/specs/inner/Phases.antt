@@ -2,8 +2,10 @@
 use Rattle.std.specs.List.{filter, list_all, AllByRecursion}
 use Rattle.std.specs.Prelude.{◌≡◌, ℕ, suc, Bool, true, false, not, ◌&&◌, List, [], ◌∷◌, ◌++◌, ◌<◌, ◌≤◌, ◌+◌, ◌*◌, map, length, replicate, slice_index_or, ⊤, ◌⊎◌}
 use Rattle.phase_laws.specs.Order.{IsOrderedBy}
-use Rattle.split_engine.specs.{Rules.{Rules}, Serial.{ReplaysFrom, table_after, IsWithin}}
-use Rattle.split_engine.specs.Serving.{calls_before, call_of, calls_of, entries_of, count, IsInTurn}
+use Rattle.split_engine.specs.Rules.{Rules, most_before}
+use Rattle.split_engine.specs.Serial.{ReplaysFrom, table_after, IsWithin}
+use Rattle.split_engine.specs.Serving.{calls_before, call_of, calls_of, entries_of, count, total, IsInTurn}
+use Rattle.split_engine.specs.Serving.{IsOutcome, IsScript}
 use Rattle.split_engine.specs.{Splitting.{IsSplitEntry, slices_of}, declared.entry.Entry.{Entry}}
 use Rattle.split_engine.specs.declared.{few.TheConstants.{MOST_KEYS}, state.Cursor.{Cursor}}
 
@@ -126,3 +128,31 @@ module _ {Record Slice Look Request Reply Act : Type 0}
     pub fits : AllByRecursion (Fits (n + MOST_KEYS * length history)) table
     pub served : HaveServed (length opened) 0 scripts cursors history
     pub no_others : AllByRecursion (λ e. e.worker < length scripts) history
+
+  -- a run of these scripts stands so: its records had few acts before it, and its scripts name keys
+  -- of the table with which it opened
+  abbrev pub StandsSo : (ℕ → Record → Type 0) → List (List Request) → List Record →
+      List (Entry Request Reply) → List (Cursor Request) → Type 0
+  StandsSo Fits scripts table history cursors =
+      (n : ℕ) × (opened : List Record) × (n < most_before)
+      × AllByRecursion (IsScript rules (length opened)) scripts
+      × IsRunState Fits n opened scripts table history cursors
+
+  -- a run of these scripts that stood so has come to where it stands now
+  abbrev pub HasGoneOn : (ℕ → Record → Type 0) → List (List Request) →
+      List Record → List (Entry Request Reply) → List (Cursor Request) →
+      List Record → List (Entry Request Reply) → List (Cursor Request) → Type 0
+  HasGoneOn Fits scripts table history cursors after later moved =
+      (n : ℕ) (opened : List Record) → n < most_before →
+      AllByRecursion (IsScript rules (length opened)) scripts →
+      IsRunState Fits n opened scripts table history cursors →
+      IsRunState Fits n opened scripts after later moved
+
+  -- What a run leaves that has come to the end of its scripts.
+  pub record HasEnded (Fits : ℕ → Record → Type 0) (n : ℕ) (opened : List Record)
+      (scripts : List (List Request)) (history : List (Entry Request Reply))
+      (left : List Record) : Type 0 where
+    pub outcome : IsOutcome rules opened scripts history left
+    pub fits : AllByRecursion (Fits (n + MOST_KEYS * length history)) left
+    pub as_many : length history ≡ total scripts
+    pub size_is : length left ≡ length opened

@@ -30,6 +30,12 @@ returns-clause-board_after_fault g c =
     subst (λ scripts. IfErr c.run_on_checked.result (HasShownFirstNext B.has B.has_refused state c.args.policy scripts c.args.board.now c.run_on_checked.new.board))
     c.in_ok-compact.ensures c.run_on_checked.ensures.board_after_fault
 
+pub returns-clause-board : goal.returns-clause-board
+returns-clause-board g c = c.run_on_checked.ensures.board
+
+pub returns-clause-up_to_date : goal.returns-clause-up_to_date
+returns-clause-up_to_date g c = c.run_on_checked.ensures.up_to_date
+
 pub returns-in_err-compact-clause-answer : goal.returns-in_err-compact-clause-answer
 returns-in_err-compact-clause-answer g c =
     answered_stopped c.args.state c.args.policy (g.S.Scripts.asked c.args.scripts) c.from_residual.result (Failed Memory) c.from_residual.ensures.1 (c.in_default.ensures.checked, tt)

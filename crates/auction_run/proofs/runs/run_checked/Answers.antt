@@ -4,12 +4,12 @@ use Rattle.auction_rows.specs.{Book.{worker_of}, declared.limits.TheConstants.{M
 use Rattle.job_threads.proofs.ThreadLemmas.{err_as}
 use Rattle.item_shards.specs.OpeningBooks.{opening_of, rows_of_book}
 use Rattle.run_phases.{proofs.BoardLemmas.{none_shown, up_to_date}, specs.Beginning.{BeginsWith}}
-use Rattle.run_phases.specs.{Outcomes.{IsOutcome}, declared.course.Outcome.{Outcome}}
+use Rattle.run_phases.specs.{Boards.{IsUpToDate}, Outcomes.{IsOutcome}, declared.course.Outcome.{Outcome}}
 use Rattle.run_phases.specs.declared.faults.RunFault.TheVariants.{Memory}
-use Rattle.auction_run.proofs.AnswerLemmas.{answered, answered_memory}
+use Rattle.auction_run.proofs.AnswerLemmas.{answered, answered_memory, no_outcome}
 use Rattle.auction_run.proofs.GoingOnLemmas.{begins_resumed, left_book, of_both}
 use Rattle.auction_run.proofs.runs.run_checked.Goals.{After-run_from}
-use Rattle.auction_run.specs.Runs.{HasShownAll, HasShownFirst}
+use Rattle.auction_run.specs.Runs.{AnswersRun, HasShownAll, HasShownFirst}
 use Rattle.auction_run.proofs.runs.run_checked.Given as given
 use Rattle.auction_run.proofs.runs.run_checked.Goals as goal
 
@@ -61,45 +61,48 @@ module _ (g : given.Over) (c : After-run_from g) where
   limit_is : IfOk c.run_from.result (λ outcome. outcome.state.limit ≡ MOST_OF_A_WORKER)
   limit_is = IfOk-weaker c.run_from.result _ _ (λ outcome same. same ∙ c.in_ok-state.ensures.limit) c.run_from.ensures.limit
 
-pub returns-clause-answer : goal.returns-clause-answer
-returns-clause-answer g c =
-    let book = c.args.book.now in
-    answered (opening_of book) (rows_of_book book) c.args.work.policy c.args.work.scripts.now book.is_book
-    (c.requires.workers, (c.requires.shards, (c.requires.quotas, c.requires.short))) c.run_from.result (outcome_is g c) (limit_is g c) c.run_from.ensures.fault
+  answer_is : AnswersRun (opening_of c.args.book.now) (rows_of_book c.args.book.now) c.args.work.policy c.args.work.scripts.now c.run_from.result
+  answer_is =
+      let book = c.args.book.now in
+      answered (opening_of book) (rows_of_book book) c.args.work.policy c.args.work.scripts.now book.is_book
+      (c.requires.workers, (c.requires.shards, (c.requires.quotas, c.requires.short))) c.run_from.result outcome_is limit_is c.run_from.ensures.fault
 
-pub returns-clause-board : goal.returns-clause-board
-returns-clause-board g c =
-    let rows = rows_of_book c.args.book.now in
-    IfOk-weaker c.run_from.result _ (HasShownAll g.B.Board.has (opening_of c.args.book.now) rows c.run_from.new.board)
-    (λ outcome each. subst (λ o. HasShownAll g.B.Board.has o rows c.run_from.new.board outcome) c.in_ok-state.ensures.opening (each rows [] (begins g c) (has_none g c))) c.run_from.ensures.board
+  board_is : IfOk c.run_from.result (HasShownAll g.B.Board.has (opening_of c.args.book.now) (rows_of_book c.args.book.now) c.run_from.new.board)
+  board_is =
+      let rows = rows_of_book c.args.book.now in
+      IfOk-weaker c.run_from.result _ (HasShownAll g.B.Board.has (opening_of c.args.book.now) rows c.run_from.new.board)
+      (λ outcome each. subst (λ o. HasShownAll g.B.Board.has o rows c.run_from.new.board outcome) c.in_ok-state.ensures.opening (each rows [] begins has_none)) c.run_from.ensures.board
 
-pub returns-clause-up_to_date : goal.returns-clause-up_to_date
-returns-clause-up_to_date g c =
-    let book = c.args.book.now in
-    let Shown : Outcome → Type 0 = HasShownAll g.B.Board.has (opening_of book) (rows_of_book book) c.run_from.new.board in
-    let Limited : Outcome → Type 0 = λ outcome. outcome.state.limit ≡ MOST_OF_A_WORKER in
-    of_both c.run_from.result _ (λ outcome. Shown outcome × Limited outcome) _
-    (λ outcome is rest. up_to_date g.B.Board.has (opening_of book) (rows_of_book book) [] _ outcome.history.entries c.run_from.new.board outcome.state rest.0 is.replays is.opening_is
-    (omega (arith, rest.1)) (left_book (opening_of book) (rows_of_book book) c.args.work.policy c.args.work.scripts.now book.is_book c.requires.workers.own outcome is))
-    (outcome_is g c) (of_both c.run_from.result Shown Limited (λ outcome. Shown outcome × Limited outcome) (λ outcome shown limit. (shown, limit)) (returns-clause-board g c) (limit_is g c))
+  up_to_date_is : IfOk c.run_from.result (λ outcome. IsUpToDate g.B.Board.has c.run_from.new.board outcome.state)
+  up_to_date_is =
+      let book = c.args.book.now in
+      let Shown : Outcome → Type 0 = HasShownAll g.B.Board.has (opening_of book) (rows_of_book book) c.run_from.new.board in
+      let Limited : Outcome → Type 0 = λ outcome. outcome.state.limit ≡ MOST_OF_A_WORKER in
+      of_both c.run_from.result _ (λ outcome. Shown outcome × Limited outcome) _
+      (λ outcome is rest. up_to_date g.B.Board.has (opening_of book) (rows_of_book book) [] _ outcome.history.entries c.run_from.new.board outcome.state rest.0 is.replays is.opening_is
+      (omega (arith, rest.1)) (left_book (opening_of book) (rows_of_book book) c.args.work.policy c.args.work.scripts.now book.is_book c.requires.workers.own outcome is))
+      outcome_is (of_both c.run_from.result Shown Limited (λ outcome. Shown outcome × Limited outcome) (λ outcome shown limit. (shown, limit)) board_is limit_is)
 
-pub returns-clause-board_after_fault : goal.returns-clause-board_after_fault
-returns-clause-board_after_fault g c =
-    let rows = rows_of_book c.args.book.now in let opening = opening_of c.args.book.now in
-    IfErr-weaker c.run_from.result _ (HasShownFirst g.B.Board.has g.B.Board.has_refused opening rows c.args.work.policy c.args.work.scripts.now c.run_from.new.board)
-    (λ fault each. subst (λ o. HasShownFirst g.B.Board.has g.B.Board.has_refused o rows c.args.work.policy c.args.work.scripts.now c.run_from.new.board fault) c.in_ok-state.ensures.opening
-    (each rows [] (begins g c) (has_none g c))) c.run_from.ensures.board_after_fault
+pub returns : goal.returns
+returns g c =
+    let rows = rows_of_book c.args.book.now in let opening = opening_of c.args.book.now in record {
+      answer = answer_is g c;
+      board = board_is g c;
+      up_to_date = up_to_date_is g c;
+      board_after_fault = IfErr-weaker c.run_from.result _ (HasShownFirst g.B.Board.has g.B.Board.has_refused opening rows c.args.work.policy c.args.work.scripts.now c.run_from.new.board)
+          (λ fault each. subst (λ o. HasShownFirst g.B.Board.has g.B.Board.has_refused o rows c.args.work.policy c.args.work.scripts.now c.run_from.new.board fault) c.in_ok-state.ensures.opening
+          (each rows [] (begins g c) (has_none g c))) c.run_from.ensures.board_after_fault;
+    }
 
-pub returns-in_err-state-clause-answer : goal.returns-in_err-state-clause-answer
-returns-in_err-state-clause-answer g c =
-    let book = c.args.book.now in
-    answered_memory (opening_of book) (rows_of_book book) c.args.work.policy c.args.work.scripts.now book.is_book
-    (c.requires.workers, (c.requires.shards, (c.requires.quotas, c.requires.short))) c.from_residual.result c.from_residual.ensures.1
-
-pub returns-in_err-state-clause-board_after_fault : goal.returns-in_err-state-clause-board_after_fault
-returns-in_err-state-clause-board_after_fault g c =
-    let B = g.B.Board in
-    let book = c.args.book.now in
-    err_as c.from_residual.result Memory (HasShownFirst B.has B.has_refused (opening_of book) (rows_of_book book) c.args.work.policy c.args.work.scripts.now c.args.board.now)
-    c.from_residual.ensures.1
-    (none_shown B.has B.has_refused (opening_of book) (rows_of_book book) [] c.args.work.policy c.args.work.scripts.now c.args.board.now c.requires.board Memory)
+pub returns-in_err-state : goal.returns-in_err-state
+returns-in_err-state g c =
+    let B = g.B.Board in let book = c.args.book.now in
+    let rows = rows_of_book book in let opening = opening_of book in let kept = c.args.board.now in
+    let told = c.from_residual.ensures.1 in record {
+      answer = answered_memory opening rows c.args.work.policy c.args.work.scripts.now book.is_book
+          (c.requires.workers, (c.requires.shards, (c.requires.quotas, c.requires.short))) c.from_residual.result told;
+      board = no_outcome c.from_residual.result _ (HasShownAll B.has opening rows kept) told;
+      up_to_date = no_outcome c.from_residual.result _ (λ outcome. IsUpToDate B.has kept outcome.state) told;
+      board_after_fault = err_as c.from_residual.result Memory (HasShownFirst B.has B.has_refused opening rows c.args.work.policy c.args.work.scripts.now kept) told
+          (none_shown B.has B.has_refused opening rows [] c.args.work.policy c.args.work.scripts.now kept c.requires.board Memory);
+    }

@@ -37,6 +37,12 @@ returns-clause-board_after_fault g c =
     subst (λ scripts. IfErr c.run_checked.result (HasShownFirst B.has B.has_refused (opening_of book) (rows_of_book book) c.args.policy scripts c.run_checked.new.board))
     c.in_ok-compact.ensures c.run_checked.ensures.board_after_fault
 
+pub returns-clause-board : goal.returns-clause-board
+returns-clause-board g c = c.run_checked.ensures.board
+
+pub returns-clause-up_to_date : goal.returns-clause-up_to_date
+returns-clause-up_to_date g c = c.run_checked.ensures.up_to_date
+
 pub returns-in_err-check-clause-answer : goal.returns-in_err-check-clause-answer
 returns-in_err-check-clause-answer g c =
     let book = c.args.book.now in

@@ -1,9 +1,14 @@
-use Rattle.std.proofs.Common.{sym, ap, ◌∙◌}
-use Rattle.auction_rows.specs.{Replies.{answer}, Requests.{is_view}}
-use Rattle.auction_rows.specs.declared.replies.Reply.TheVariants.{BidStored}
+use Rattle.std.proofs.Common.{sym, ◌∙◌}
 use Rattle.phase_floor.proofs.adding.answer_to_store.Goals as goal
 
-pub returns-in-StoreBid : goal.returns-in-StoreBid
-returns-in-StoreBid c = λ book counts.
-    let w = c.args.worker in
-    (ap is_view c.in-StoreBid.is, ap (λ n. BidStored (record { worker = w; serial = n })) (sym counts.bids) ∙ ap (answer book w) (sym c.in-StoreBid.is))
+pub returns-then-is_view : goal.returns-then-is_view
+returns-then-is_view c = λ book counts. sym c.is_view.ensures ∙ c.if-is_view.true
+
+pub returns : goal.returns
+returns c = λ book counts. (
+  sym c.is_view.ensures ∙ c.if-is_view.false,
+  c.next_reply.ensures book (λ i. record { items = counts.items i; bids = counts.bids i; comments = counts.comments i; buys = counts.buys i }),
+)
+
+pub next_reply-requires : goal.next_reply-requires
+next_reply-requires c = sym c.is_view.ensures ∙ c.if-is_view.false

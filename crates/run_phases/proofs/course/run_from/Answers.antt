@@ -1,4 +1,4 @@
-use Rattle.std.proofs.Common.{rules, arith, ◌≡◌, ◌≤◌, ◌+◌, ℕ, List, suc, length, refl, inl, subst, sym, ap, ◌∙◌}
+use Rattle.std.proofs.Common.{rules, arith, ◌≡◌, ◌<◌, ◌⊎◌, ◌+◌, ℕ, List, suc, length, refl, inl, subst, sym, ap, ◌∙◌}
 use Rattle.auction_rows.specs.{Book.{Book}, declared.rows.Row.{Row}}
 use Rattle.auction_window.specs.Published.{book_of}
 use Rattle.job_threads.proofs.ThreadLemmas.{err_as}
@@ -9,7 +9,7 @@ use Rattle.run_phases.proofs.RunLemmas.{some_given, few_of, left_over, ended, ph
 use Rattle.run_phases.specs.{Beginning.{HasShards, HasQuotas, BeginsWith}, Boards.{HasShownAfter}}
 use Rattle.run_phases.specs.{Outcomes.{HasShownFirstAfter}, Phases.{IsMet}}
 use Rattle.run_phases.specs.declared.faults.RunFault.TheVariants.{Memory}
-use Rattle.run_phases.specs.inner.{Plans.{waiting_in, AreAsked}, Running.{IsRunning}}
+use Rattle.run_phases.specs.inner.{Plans.{waiting_in, AreAsked, IsNoneLeft}, Running.{IsRunning}}
 use Rattle.run_phases.proofs.course.run_from.Goals as goal
 
 pub returns-then-not-is_left-clause-outcome : goal.returns-then-not-is_left-clause-outcome
@@ -18,7 +18,7 @@ returns-then-not-is_left-clause-outcome g c = λ rows begins.
     (c.loop-phase.invariant.running rows begins) c.new-plan.result.round.first
     (c.new-plan.ensures.plan.1 ∙ ap (first_index c.new-plan.result.policy) (c.phase.ensures ∙ (c.loop-phase.invariant.running rows begins).phase_is)
     ∙ ap (λ policy. first_index policy c.loop-phase._phase) c.new-plan.ensures.policy)
-    (subst (λ stashes. (worker : ℕ) → (length (script_of c.args.work.scripts.now worker) ≤ c.new-plan.result.round.first) × (length (waiting_in stashes worker) ≡ 0)) c.deref.ensures.value
+    (subst (λ stashes. IsNoneLeft c.args.work.scripts.now stashes c.new-plan.result.round.first) c.deref.ensures.value
     (c.is_left.ensures.none (search rules)))
 
 pub returns-then-not-is_left-clause-board : goal.returns-then-not-is_left-clause-board
@@ -40,40 +40,30 @@ pub is_left-requires : goal.is_left-requires
 is_left-requires g c =
     ap length c.deref.ensures.value ∙ stashes_now c.args.state c.args.work.policy c.args.work.scripts.now c.requires.begins c.loop-phase._phase c.loop-phase.running c.loop-phase.invariant.running
 
-pub next_phase-requires-clause-shards : goal.next_phase-requires-clause-shards
-next_phase-requires-clause-shards g c κs within = subst HasShards (sym c.new-plan.ensures.policy) c.requires.shards
-
-pub next_phase-requires-clause-quotas : goal.next_phase-requires-clause-quotas
-next_phase-requires-clause-quotas g c κs within = some_given (subst HasQuotas (sym c.new-plan.ensures.policy) c.requires.quotas)
-
-pub next_phase-requires-clause-counted : goal.next_phase-requires-clause-counted
-next_phase-requires-clause-counted g c κs within =
-    (few_of (phase_now c.args.state c.args.work.policy c.args.work.scripts.now c.requires.begins c.loop-phase._phase c.loop-phase.running c.loop-phase.invariant.running) c.loop-phase-test.true).1
-
 pub next_phase-requires-clause-plan : goal.next_phase-requires-clause-plan
 next_phase-requires-clause-plan g c κs within =
     let plan = c.new-plan.ensures.plan in
     (plan.0 ∙ c.phase.ensures, plan.1 ∙ ap (first_index c.new-plan.result.policy) c.phase.ensures)
 
-pub next_phase-requires-clause-running : goal.next_phase-requires-clause-running
-next_phase-requires-clause-running g c κs within =
-    let same = c.new-plan.ensures in
-    still_goes_on c.args.state c.args.work.policy c.args.work.scripts.now c.requires.begins c.loop-phase._phase c.loop-phase.running c.loop-phase.invariant.running c.loop-phase.invariant.limit same.policy same.scripts
-
-pub next_phase-requires-clause-asked : goal.next_phase-requires-clause-asked
-next_phase-requires-clause-asked g c κs within = subst (λ scripts. AreAsked scripts c.loop-phase.running.stashes.items) (sym c.new-plan.ensures.scripts) c.loop-phase.invariant.asked
-
-pub next_phase-requires-clause-left : goal.next_phase-requires-clause-left
-next_phase-requires-clause-left g c κs within =
+pub next_phase-requires-clause-can : goal.next_phase-requires-clause-can
+next_phase-requires-clause-can g c κs within =
     let some = c.is_left.ensures.some (search rules) in
     let same = c.new-plan.ensures in
-    let plan = c.new-plan.ensures.plan in (
-      some.0,
-      subst (λ policy. HasLeft policy c.new-plan.result.round.scripts.now c.loop-phase.running.state.phase (waiting_in c.loop-phase.running.stashes.items) some.0) (sym same.policy)
-          (subst (λ scripts. HasLeft c.args.work.policy scripts c.loop-phase.running.state.phase (waiting_in c.loop-phase.running.stashes.items) some.0) (sym same.scripts)
-          (left_over c.args.work.policy c.args.work.scripts.now c.loop-phase.running.state.phase c.loop-phase.running c.new-plan.result.round.first some.0
-          (plan.1 ∙ ap (first_index c.new-plan.result.policy) c.phase.ensures ∙ ap (λ policy. first_index policy c.loop-phase.running.state.phase) same.policy) (search rules))),
-    )
+    let plan = c.new-plan.ensures.plan in record {
+      shards = subst HasShards (sym same.policy) c.requires.shards;
+      quotas = some_given (subst HasQuotas (sym same.policy) c.requires.quotas);
+      counted = (few_of (phase_now c.args.state c.args.work.policy c.args.work.scripts.now c.requires.begins c.loop-phase._phase c.loop-phase.running c.loop-phase.invariant.running) c.loop-phase-test.true).1;
+      goes_on = still_goes_on c.args.state c.args.work.policy c.args.work.scripts.now c.requires.begins c.loop-phase._phase c.loop-phase.running c.loop-phase.invariant.running c.loop-phase.invariant.limit same.policy same.scripts;
+      asked = subst (λ scripts. AreAsked scripts c.loop-phase.running.stashes.items) (sym same.scripts) c.loop-phase.invariant.asked;
+      left = (
+        some.0,
+        subst (λ policy. HasLeft policy c.new-plan.result.round.scripts.now c.loop-phase.running.state.phase (waiting_in c.loop-phase.running.stashes.items) some.0) (sym same.policy)
+            (subst (λ scripts. HasLeft c.args.work.policy scripts c.loop-phase.running.state.phase (waiting_in c.loop-phase.running.stashes.items) some.0) (sym same.scripts)
+            (left_over c.args.work.policy c.args.work.scripts.now c.loop-phase.running.state.phase c.loop-phase.running c.new-plan.result.round.first some.0
+            (plan.1 ∙ ap (first_index c.new-plan.result.policy) c.phase.ensures ∙ ap (λ policy. first_index policy c.loop-phase.running.state.phase) same.policy)
+            (subst (λ stashes. (c.new-plan.result.round.first < length (script_of c.args.work.scripts.now some.0)) ⊎ (0 < length (waiting_in stashes some.0))) c.deref.ensures.value some.1))),
+      );
+    }
 
 pub loop-phase-init : goal.loop-phase-init
 loop-phase-init g c = record {
@@ -90,9 +80,9 @@ show_phase-requires g c = λ watched.
     let same = c.new-plan.ensures in
     let rows = book_of can.rows can.before in
     let next = next_runs c.args.state.opening rows can.begins.is_book c.args.work.policy c.new-plan.result.policy c.args.work.scripts.now c.new-plan.result.round.scripts.now c.loop-phase._phase
-    c.loop-phase.running c.in_ok-running-2.running same.policy same.scripts (c.loop-phase.invariant.running rows can.begins) c.in_ok-running-2.ensures.running in
+    c.loop-phase.running c.in_ok-running-2.running same.policy same.scripts (c.loop-phase.invariant.running rows can.begins) c.in_ok-running-2.ensures.performed.runs in
     can_show c.args.state.opening rows can.begins.is_book c.args.work.policy c.args.work.scripts.now can.begins.few can.begins.own c.loop-phase._phase c.in_ok-running-2.running next
-    c.loop-phase.running.history.entries c.in_ok-running-2.ensures.grown g.B.Board.has c.loop-phase.board can.rows can.before refl (c.loop-phase.invariant.shown can.rows can.before can.begins can.has_them)
+    c.loop-phase.running.history.entries c.in_ok-running-2.ensures.performed.grown g.B.Board.has c.loop-phase.board can.rows can.before refl (c.loop-phase.invariant.shown can.rows can.before can.begins can.has_them)
     c.args.state.limit can.few can.begins.short
 
 pub loop-phase-preserved : goal.loop-phase-preserved
@@ -102,14 +92,14 @@ loop-phase-preserved g c =
     let one_more : suc c.loop-phase._phase ≡ c.loop-phase._phase + 1 = omega arith in
     let next : (rows : Book) → BeginsWith c.args.state rows c.args.work.policy scripts → IsRunning c.args.state.opening rows c.args.work.policy scripts (suc c.loop-phase._phase) c.in_ok-running-2.running =
     λ rows begins. next_runs c.args.state.opening rows begins.is_book c.args.work.policy c.new-plan.result.policy scripts c.new-plan.result.round.scripts.now c.loop-phase._phase c.loop-phase.running
-    c.in_ok-running-2.running same.policy same.scripts (c.loop-phase.invariant.running rows begins) c.in_ok-running-2.ensures.running in
+    c.in_ok-running-2.running same.policy same.scripts (c.loop-phase.invariant.running rows begins) c.in_ok-running-2.ensures.performed.runs in
     record {
-      limit = c.in_ok-running-2.ensures.limit ∙ c.loop-phase.invariant.limit;
-      asked = subst (λ scripts. AreAsked scripts c.in_ok-running-2.running.stashes.items) same.scripts c.in_ok-running-2.ensures.asked;
+      limit = c.in_ok-running-2.ensures.performed.limit ∙ c.loop-phase.invariant.limit;
+      asked = subst (λ scripts. AreAsked scripts c.in_ok-running-2.running.stashes.items) same.scripts c.in_ok-running-2.ensures.performed.asked;
       running = λ rows begins. subst (λ n. IsRunning c.args.state.opening rows c.args.work.policy scripts n c.in_ok-running-2.running) one_more (next rows begins);
       shown = λ rows before begins has. subst (λ n. HasShownAfter g.B.Board.has c.args.state.opening rows before n c.in_ok-running-2.running.history.entries c.show_phase.new.board) one_more
           (has_shown c.args.state.opening (book_of rows before) begins.is_book c.args.work.policy scripts begins.few begins.own c.loop-phase._phase c.in_ok-running-2.running
-          (next (book_of rows before) begins) c.loop-phase.running.history.entries c.in_ok-running-2.ensures.grown g.B.Board.has c.loop-phase.board rows before refl
+          (next (book_of rows before) begins) c.loop-phase.running.history.entries c.in_ok-running-2.ensures.performed.grown g.B.Board.has c.loop-phase.board rows before refl
           (c.loop-phase.invariant.shown rows before begins has) c.show_phase.new.board c.in_ok-show_phase.ensures.shown);
     }
 

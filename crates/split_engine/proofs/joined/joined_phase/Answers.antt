@@ -79,3 +79,6 @@ returns-clause-ends g c = λ large.
     (omega (arith, c.loop-worker-test.false, length-map c.args.scripts.now (λ v. v.items)))
     (have_length s.rules (length given.1) 0 (lists c.args.scripts.now) c.loop-worker.state.cursors.items c.loop-worker.state.so_far.history f.served)
     (c.loop-worker.invariant.ends large)
+
+pub returns-clause-state : goal.returns-clause-state
+returns-clause-state g c = λ n opened few all f. c.loop-worker.invariant.state n opened few all f

@@ -1,4 +1,5 @@
 use Rattle.std.proofs.Common.{sym, ap, length, ◌∙◌}
+use Rattle.split_engine.proofs.States.{if_ok_so}
 use Rattle.split_engine.proofs.runs.perform_round.Goals as goal
 
 -- the table has as many records after the joined phase
@@ -13,4 +14,6 @@ split_phase-requires-clause-state g c =
     λ sent lives. (given.0, given.1, given.2, given.3, c.in_ok-joined_phase.ensures.state given.0 given.1 given.2 given.3 given.4)
 
 pub returns-clause-state : goal.returns-clause-state
-returns-clause-state g c n opened few all f = c.split_phase.ensures.state n opened few all (c.in_ok-joined_phase.ensures.state n opened few all f)
+returns-clause-state g c =
+    if_ok_so _ _ c.split_phase.result
+    (λ new gone n opened few all f. gone n opened few all (c.in_ok-joined_phase.ensures.state n opened few all f)) c.split_phase.ensures.state

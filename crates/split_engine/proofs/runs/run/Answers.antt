@@ -24,7 +24,7 @@ finish-requires g c = subst (λ ds. AllFinished (lists c.args.scripts.now) ds) c
 pub returns-then-is_finished-clause-outcome : goal.returns-then-is_finished-clause-outcome
 returns-then-is_finished-clause-outcome g c =
     let fits = c.requires.fits in
-    c.finish.ensures.outcome fits.0 c.args.table.items (c.loop-round.invariant.state fits.0 fits.1 fits.2)
+    (c.finish.ensures fits.0 c.args.table.items (c.loop-round.invariant.state fits.0 fits.1 fits.2)).outcome
 
 pub perform_round-requires-clause-state : goal.perform_round-requires-clause-state
 perform_round-requires-clause-state g c =
@@ -53,8 +53,8 @@ finish-requires-2 g c = c.in_ok-joined_phase.ensures.ends (omega arith)
 pub returns-clause-outcome : goal.returns-clause-outcome
 returns-clause-outcome g c =
     let fits = c.requires.fits in
-    c.finish-2.ensures.outcome fits.0 c.args.table.items
-    (c.in_ok-joined_phase.ensures.state fits.0 c.args.table.items fits.1 (are_scripts g.A.Application.rules (length c.args.table.items) (lists c.args.scripts.now) c.requires.scripts) (c.loop-round.invariant.state fits.0 fits.1 fits.2))
+    (c.finish-2.ensures fits.0 c.args.table.items
+    (c.in_ok-joined_phase.ensures.state fits.0 c.args.table.items fits.1 (are_scripts g.A.Application.rules (length c.args.table.items) (lists c.args.scripts.now) c.requires.scripts) (c.loop-round.invariant.state fits.0 fits.1 fits.2))).outcome
 
 pub perform_round-requires-clause-few : goal.perform_round-requires-clause-few
 perform_round-requires-clause-few g c = λ sent lives. let few = c.requires.scripts.few in omega (arith, few, length-map c.args.scripts.now (λ v. v.items))
@@ -69,31 +69,31 @@ pub joined_phase-requires-clause-total : goal.joined_phase-requires-clause-total
 joined_phase-requires-clause-total g c = let few = c.requires.scripts.few in omega (arith, few)
 
 pub returns-then-is_finished-clause-fits : goal.returns-then-is_finished-clause-fits
-returns-then-is_finished-clause-fits g c n few fits = c.finish.ensures.fits n c.args.table.items (c.loop-round.invariant.state n few fits)
+returns-then-is_finished-clause-fits g c n few fits = (c.finish.ensures n c.args.table.items (c.loop-round.invariant.state n few fits)).fits
 
 pub returns-clause-fits : goal.returns-clause-fits
 returns-clause-fits g c n few fits =
-    c.finish-2.ensures.fits n c.args.table.items
-    (c.in_ok-joined_phase.ensures.state n c.args.table.items few (are_scripts g.A.Application.rules (length c.args.table.items) (lists c.args.scripts.now) c.requires.scripts) (c.loop-round.invariant.state n few fits))
+    (c.finish-2.ensures n c.args.table.items
+    (c.in_ok-joined_phase.ensures.state n c.args.table.items few (are_scripts g.A.Application.rules (length c.args.table.items) (lists c.args.scripts.now) c.requires.scripts) (c.loop-round.invariant.state n few fits))).fits
 
 pub returns-then-is_finished-clause-count : goal.returns-then-is_finished-clause-count
 returns-then-is_finished-clause-count g c =
     let fits = c.requires.fits in
-    c.finish.ensures.count fits.0 c.args.table.items (c.loop-round.invariant.state fits.0 fits.1 fits.2)
+    (c.finish.ensures fits.0 c.args.table.items (c.loop-round.invariant.state fits.0 fits.1 fits.2)).as_many
 
 pub returns-clause-count : goal.returns-clause-count
 returns-clause-count g c =
     let fits = c.requires.fits in
-    c.finish-2.ensures.count fits.0 c.args.table.items
-    (c.in_ok-joined_phase.ensures.state fits.0 c.args.table.items fits.1 (are_scripts g.A.Application.rules (length c.args.table.items) (lists c.args.scripts.now) c.requires.scripts) (c.loop-round.invariant.state fits.0 fits.1 fits.2))
+    (c.finish-2.ensures fits.0 c.args.table.items
+    (c.in_ok-joined_phase.ensures.state fits.0 c.args.table.items fits.1 (are_scripts g.A.Application.rules (length c.args.table.items) (lists c.args.scripts.now) c.requires.scripts) (c.loop-round.invariant.state fits.0 fits.1 fits.2))).as_many
 
 pub returns-then-is_finished-clause-len : goal.returns-then-is_finished-clause-len
 returns-then-is_finished-clause-len g c =
     let fits = c.requires.fits in
-    c.finish.ensures.len fits.0 c.args.table.items (c.loop-round.invariant.state fits.0 fits.1 fits.2)
+    (c.finish.ensures fits.0 c.args.table.items (c.loop-round.invariant.state fits.0 fits.1 fits.2)).size_is
 
 pub returns-clause-len : goal.returns-clause-len
 returns-clause-len g c =
     let fits = c.requires.fits in
-    c.finish-2.ensures.len fits.0 c.args.table.items
-    (c.in_ok-joined_phase.ensures.state fits.0 c.args.table.items fits.1 (are_scripts g.A.Application.rules (length c.args.table.items) (lists c.args.scripts.now) c.requires.scripts) (c.loop-round.invariant.state fits.0 fits.1 fits.2))
+    (c.finish-2.ensures fits.0 c.args.table.items
+    (c.in_ok-joined_phase.ensures.state fits.0 c.args.table.items fits.1 (are_scripts g.A.Application.rules (length c.args.table.items) (lists c.args.scripts.now) c.requires.scripts) (c.loop-round.invariant.state fits.0 fits.1 fits.2))).size_is
