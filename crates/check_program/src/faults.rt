@@ -35,16 +35,6 @@ pub enum Fault {
     Write(WriteFault),
 }
 
-impl From<UsageFault> for Fault {
-    ghost use Rattle.check_program.specs.declared.faults.Fault.TheVariants.{Usage};
-
-    ghost from_gives = { λ cause fault. fault ≡ Usage cause };
-
-    fn from(cause: UsageFault) -> Fault {
-        Fault::Usage(cause)
-    }
-}
-
 impl From<ReadFault> for Fault {
     ghost use Rattle.check_program.specs.declared.faults.Fault.TheVariants.{Read};
 

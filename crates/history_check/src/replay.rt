@@ -162,7 +162,7 @@ pub struct Replay {
     pub(crate) order: Order,
     pub(crate) marks: Marks,
     pub(crate) turns: Turns,
-    // How many rows it was opened with, and how many lines it has performed.
+    // How many rows it was opened with and lines it has performed, in all.
     pub(crate) rows: usize,
     // The text of the last reply that was due.
     due: ReplyText,

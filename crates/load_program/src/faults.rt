@@ -38,16 +38,6 @@ pub enum Fault {
     Write(WriteFault),
 }
 
-impl From<PlanFault> for Fault {
-    ghost use Rattle.load_program.specs.declared.faults.Fault.TheVariants.{Plan};
-
-    ghost from_gives = { λ cause fault. fault ≡ Plan cause };
-
-    fn from(cause: PlanFault) -> Fault {
-        Fault::Plan(cause)
-    }
-}
-
 impl From<AllocError> for Fault {
     ghost use Rattle.load_program.specs.declared.faults.Fault.TheVariants.{Memory};
 

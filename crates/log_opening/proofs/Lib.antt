@@ -12,3 +12,4 @@ pub mod RecoveryLemmas
 pub mod RowLineLemmas
 pub mod SameRowsLemmas
 pub mod TailLemmas
+pub mod WholeLines

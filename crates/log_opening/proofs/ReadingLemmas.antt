@@ -18,7 +18,7 @@ use Rattle.log_opening.specs.Opening.{AreNotRows, HasRowsAndTail, IsRefused, IsR
 use Rattle.log_opening.specs.{Parts.{HasAdded, HasNoEnd}, ReadBack.{IsInRange, IsWritten}}
 use Rattle.log_opening.specs.declared.opening.{LoggedAuction.{LoggedAuction}, OpenFault.{OpenFault}}
 use Rattle.log_opening.specs.declared.parts.ReadRows.{ReadRows}
-use Rattle.log_opening.specs.inner.Reading.{HasRead, IsReadTo, ReadsRows, TellsRows, TellsSome}
+use Rattle.log_opening.specs.inner.Reading.{HasRead, IsReadTo, OpensReading, ReadsRows, TellsRows, TellsSome}
 use Rattle.log_opening.specs.declared.opening.OpenFault.TheVariants as fault
 
 -- what holds of an error
@@ -310,10 +310,9 @@ any_error (Ok x) P holds = tt
 any_error (Err x) P holds = holds
 
 module _ (text remaining told now : Option (List ℕ)) (reading : ReadRows) (held : List ℕ) (was : IsReadTo text remaining told now reading held) (end : IsAtEnd remaining) where
-  pub end_opens : (result : Result LoggedAuction OpenFault) → HasNoEnd held → IfOk result (λ o. o.auction ≡ reading.auction) → IfOk result (λ o. o.rows ≡ reading.rows) → IfOk result (λ o. o.kept ≡ reading.kept)
-      → IfOk result (λ o. o.tail.items ≡ held) → IfOk result (λ o. is_cut_row o.tail.items ≡ true) → IfOk result (Opens text told now)
-  end_opens (Ok o) no_end auction_is rows_are kept_is tail_is cut = opens text remaining told now reading held o was end no_end auction_is rows_are kept_is tail_is cut
-  end_opens (Err e) no_end auction_is rows_are kept_is tail_is cut = tt
+  pub end_opens : (result : Result LoggedAuction OpenFault) → HasNoEnd held → IfOk result (OpensReading reading) → IfOk result (λ o. o.tail.items ≡ held) → IfOk result (λ o. is_cut_row o.tail.items ≡ true) → IfOk result (Opens text told now)
+  end_opens (Ok o) no_end same tail_is cut = opens text remaining told now reading held o was end no_end same.auction same.rows same.kept tail_is cut
+  end_opens (Err e) no_end same tail_is cut = tt
 
   pub end_refused : (first : JoinedState) (result : Result LoggedAuction OpenFault) → IsSameAuction first reading.auction
       → IfErr result (λ why. (book : Book) → HasRead reading book → IsRefusedIn why reading.auction.limit (length reading.auction.counters) reading.auction.opening book held)
@@ -324,7 +323,7 @@ module _ (text remaining told now : Option (List ℕ)) (reading : ReadRows) (hel
       subst (λ (all : List ℕ). IsRefusedIn why reading.auction.limit (length reading.auction.counters) reading.auction.opening was.book all)
       (sym (append-nil held) ∙ ap (λ (rest : List ℕ). held ++ rest) (sym none)) (refused was.book was.has))
 
-pub end_same : (first : JoinedState) (reading : ReadRows) (result : Result LoggedAuction OpenFault) → IsSameAuction first reading.auction → IfOk result (λ o. o.auction ≡ reading.auction)
+pub end_same : (first : JoinedState) (reading : ReadRows) (result : Result LoggedAuction OpenFault) → IsSameAuction first reading.auction → IfOk result (OpensReading reading)
     → IfOk result (λ o. IsSameAuction first o.auction)
-end_same first reading (Ok o) same is = subst (IsSameAuction first) (sym is) same
+end_same first reading (Ok o) same is = subst (IsSameAuction first) (sym is.auction) same
 end_same first reading (Err e) same is = tt

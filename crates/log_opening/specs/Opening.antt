@@ -2,7 +2,8 @@
 use Rattle.std.specs.Io.KnownBytes.{Appends}
 use Rattle.std.specs.Prelude.{◌≡◌, ◌≤◌, ◌<◌, ◌+◌, ◌++◌, ℕ, true, false, List, [], All, Option, Ok, Err, IfSome, drop, length, take}
 use Rattle.auction_rows.specs.{Book.{Book}, History.{IsBook}, declared.values.Opening.{Opening}}
-use Rattle.phase_floor.specs.{Adding.{IsStartOf}, declared.adding.AddFault.{AddFault}}
+use Rattle.phase_floor.specs.{Adding.{IsStartOf}, States.{JoinedState}}
+use Rattle.phase_floor.specs.declared.adding.AddFault.{AddFault}
 use Rattle.phase_floor.specs.declared.adding.AddFault.TheVariants as add
 use Rattle.auction_text.specs.{ReadFault.{ReadFault}, Reading.{IsInputFault}, RowLines.{rows_text}}
 use Rattle.auction_text.specs.Scripts.{Asked, input_of}
@@ -122,6 +123,11 @@ pub record IsRefused (told : OpenFault) (limit workers : ℕ) (opening : Opening
   pub rest : List ℕ
   pub text_is : text ≡ rows_text book [] ++ rest
   pub refused : IsRefusedIn told limit workers opening book rest
+
+-- a text is refused by this fault, where its rows were to be added to this auction
+abbrev pub IsRefusedBy : OpenFault → JoinedState → List ℕ → Type 0
+IsRefusedBy told auction =
+    IsRefused told auction.limit (length auction.counters) auction.opening
 
 -- At a fault a prefix of the text of rows was told. They are the first of the text, if it is known.
 pub record TellsFirst (text told now : Option (List ℕ)) : Type 0 where

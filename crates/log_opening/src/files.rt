@@ -1,9 +1,9 @@
 //! The file of a log: how it is read, and how it goes on as a log.
-ghost use Rattle.std.specs.Prelude.{◌≡◌, false, [], Some, IfErr, IfOk, IfSome, length};
+ghost use Rattle.std.specs.Prelude.{◌≡◌, false, [], Some, IfErr, IfOk, IfSome};
 ghost use Rattle.auction_rows.specs.Book.{Book};
 ghost use Rattle.phase_floor.specs.Adding.{IsSameAuction, IsStartOf};
 ghost use Rattle.auction_text.specs.RowLines.{rows_text};
-ghost use Rattle.log_opening.specs.Opening.{IsRefused, Opens, OpensWith, TellsFirst};
+ghost use Rattle.log_opening.specs.Opening.{IsRefusedBy, Opens, OpensWith, TellsFirst};
 ghost use Rattle.log_opening.specs.inner.Files.{bytes_from};
 
 use crate::opening::{LoggedAuction, OpenFault, open_parts};
@@ -46,8 +46,7 @@ pub fn read_log<F: AppendFile, W: Write>(
     ensures opens { IfOk result (Opens (F.held file.now)
         (W.contents told.old) (W.contents told.new)) }
     ensures same { IfOk result (λ opened. IsSameAuction auction opened.auction) }
-    ensures refused { IfErr result (λ fault. IfSome (F.held file.now)
-        (IsRefused fault auction.limit (length auction.counters) auction.opening)) }
+    ensures refused { IfErr result (λ fault. IfSome (F.held file.now) (IsRefusedBy fault auction)) }
     ensures told { IfErr result (λ _. TellsFirst (F.held file.now)
         (W.contents told.old) (W.contents told.new)) }
 {

@@ -2,6 +2,7 @@
 //! being written, and which are neither.
 #![tactic(auto)]
 
+mod adding;
 mod files;
 mod laws;
 mod lines;
@@ -10,12 +11,11 @@ mod parts;
 mod row_texts;
 mod tails;
 
+pub use adding::{Refused, add_rows};
 pub use files::{cut_log, read_log};
 pub use laws::{
     a_log_has_its_book, a_prefix_is_never_refused, a_prefix_opens, a_prefix_opens_its_rows,
     a_tail_is_a_cut_row, rows_are_read_back,
 };
-pub use lines::{LINE_END, whole_lines};
 pub use opening::{LoggedAuction, OpenFault, open_parts};
-pub use parts::{Refused, add_rows};
 pub use tails::{LONGEST_ROW, is_cut_row};

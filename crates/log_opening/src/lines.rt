@@ -1,18 +1,9 @@
 //! The lines of a text.
 ghost use Rattle.std.specs.Prelude.{◌≡◌, ◌≤◌, length};
-ghost use Rattle.log_opening.specs.Lines.{AreWholeLines, line_at};
+ghost use Rattle.log_opening.specs.Lines.{line_at};
 
-use record_reading::lines_end;
-
-/// The byte that ends a line.
-pub const LINE_END: u8 = b'\n';
-
-/// How many bytes of a text are whole lines: those up to its last line end, and with it.
-pub fn whole_lines(text: &[u8]) -> usize
-    ensures { AreWholeLines text.now result }
-{
-    lines_end(text)
-}
+// The byte that ends a line.
+const LINE_END: u8 = b'\n';
 
 /// The number, from 1, of the line in which a place of a text is.
 pub(crate) fn line_at(text: &[u8], at: usize) -> u64

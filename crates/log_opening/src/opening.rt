@@ -1,7 +1,7 @@
 //! What the text of a log opens, and which text is refused.
-ghost use Rattle.std.specs.Prelude.{◌≡◌, [], IfErr, IfOk, IfSome, length};
+ghost use Rattle.std.specs.Prelude.{◌≡◌, [], IfErr, IfOk, IfSome};
 ghost use Rattle.phase_floor.specs.Adding.{IsSameAuction, IsStartOf};
-ghost use Rattle.log_opening.specs.Opening.{IsRefused, Opens, TellsFirst};
+ghost use Rattle.log_opening.specs.Opening.{IsRefusedBy, Opens, TellsFirst};
 
 use crate::parts::{PART_LEN, ReadRows};
 use auction_text::ReadFault;
@@ -64,7 +64,7 @@ pub fn open_parts<R: Read, W: Write>(
         (W.contents told.old) (W.contents told.new)) }
     ensures same { IfOk result (λ opened. IsSameAuction auction opened.auction) }
     ensures refused { IfErr result (λ fault. IfSome (R.remaining reader.old)
-        (IsRefused fault auction.limit (length auction.counters) auction.opening)) }
+        (IsRefusedBy fault auction)) }
     ensures told { IfErr result (λ _. TellsFirst (R.remaining reader.old)
         (W.contents told.old) (W.contents told.new)) }
 {

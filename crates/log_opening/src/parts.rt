@@ -1,25 +1,22 @@
 //! How the text of a log is read part by part: each row is added to an auction as it is read, and
 //! then forgotten.
-ghost use Rattle.std.specs.Io.KnownBytes.{IsAtEnd};
-ghost use Rattle.std.specs.Prelude.{◌≡◌, ◌≤◌, ◌<◌, ◌+◌, ◌^◌, ◌++◌, ◌∷◌, ℕ, true, List, [], length, vec_capacity, vec_len, take, IfErr, IfOk, IfSome, OnOk};
+ghost use Rattle.std.specs.Prelude.{◌≡◌, ◌≤◌, ◌<◌, ◌+◌, ◌^◌, ◌++◌, ℕ, true, List, [], length, take, IfErr, IfOk, IfSome, OnOk};
 ghost use Rattle.auction_rows.specs.Book.{Book};
-ghost use Rattle.phase_floor.specs.Adding.{HasBook, IsSameAuction, IsStartOf};
+ghost use Rattle.phase_floor.specs.Adding.{IsSameAuction};
 ghost use Rattle.log_opening.specs.{CutRows.{is_cut_row}, Lines.{AreLines}};
-ghost use Rattle.log_opening.specs.Opening.{AreNotRows, IsRefused, IsRefusedIn, TellsFirst, counted_after};
-ghost use Rattle.log_opening.specs.Parts.{HasAdded, HasAddedFirst, HasNoEnd, IsFirstRefused};
-ghost use Rattle.log_opening.specs.ReadBack.{IsInRange};
-ghost use Rattle.log_opening.specs.inner.Reading.{CanReadOn, HasRead, IsReadTo, ReadsRows, TellsRows, TellsSome, place_of};
+ghost use Rattle.log_opening.specs.Opening.{IsRefusedBy, TellsFirst, counted_after};
+ghost use Rattle.log_opening.specs.Parts.{HasNoEnd};
+ghost use Rattle.log_opening.specs.inner.Reading.{AreNotRowsOf, CanReadOn, HasRead, HasReadAll, IsReadTo, IsRefusedBehind, LeavesRest, OpensReading, ReadsRows, TellsRows, TellsSome, place_of};
 
-use crate::lines::{line_at, whole_lines};
+use crate::adding::{Refused, add_rows};
+use crate::lines::line_at;
 use crate::opening::{LoggedAuction, OpenFault};
 use crate::row_texts::difference_from;
 use crate::tails::{LONGEST_ROW, is_cut_row};
-use auction_rows::Row;
 use auction_text::{CompactInput, ReadFault, read_compact_scripts};
 use byte_texts::write_last;
-use item_shards::Opened;
-use phase_floor::{AddFault, Joined};
-use record_reading::read_more;
+use phase_floor::Joined;
+use record_reading::{lines_end, read_more};
 use std::alloc::Global;
 use std::io::{Read, Write};
 
@@ -38,53 +35,6 @@ pub(crate) struct ReadRows {
     pub(crate) rows: u64,
     /// How many bytes of the text they are.
     pub(crate) kept: u64,
-}
-
-/// Why requests were not added.
-#[derive(Clone, Copy, Debug, PartialEq, Eq, Drop)]
-pub struct Refused {
-    /// The place, from 0, of the first that is not taken.
-    pub place: usize,
-    /// Why it is not.
-    pub fault: AddFault,
-}
-
-/// Adds the rows of requests to an auction, and gives them. After a fault just those before it are
-/// added.
-pub fn add_rows(alloc: Global, auction: &mut Joined, opened: &[Opened]) -> Result<Vec<Row>, Refused>
-    requires { HasBook auction.old }
-    ensures rows { IfOk result (λ rows. (book : Book) → IsStartOf auction.old book →
-        HasAdded auction.old auction.new book opened.now rows.items) }
-    ensures same { IsSameAuction auction.old auction.new }
-    ensures refused { IfErr result (λ refused. (book : Book) → IsStartOf auction.old book →
-        IsFirstRefused auction.old.limit refused.fault (length auction.old.counters)
-        auction.old.opening book opened.now refused.place) }
-    ensures first { IfErr result (λ refused. (book : Book) → IsStartOf auction.old book →
-        HasAddedFirst auction.old auction.new book opened.now refused.place) }
-{
-    let mut rows = Vec::new(alloc);
-    for (place, opened) in opened.iter().enumerate() {
-        let Ok(()) = rows.reserve(1) else {
-            let fault = AddFault::Memory;
-            return Err(Refused { place, fault });
-        };
-        let row = match auction.add(opened) {
-            Ok(row) => row,
-            Err(fault) => return Err(Refused { place, fault }),
-        };
-        put_row(&mut rows, row);
-    }
-    Ok(rows)
-}
-
-// Puts a row behind others, for which there is room. The types of its fields give their ranges:
-// contracts see numbers.
-fn put_row(rows: &mut Vec<Row>, row: Row)
-    requires { vec_len rows.old < vec_capacity rows.old }
-    ensures rows { rows.new.items ≡ rows.old.items ++ row ∷ [] }
-    ensures in_range { IsInRange row }
-{
-    rows.push_reserved(row);
 }
 
 // The fault of a record that is counted after so many others.
@@ -109,8 +59,7 @@ impl ReadRows {
         ensures kept { OnOk result (self.new.kept ≡ self.old.kept + length lines.now) }
         ensures same { IsSameAuction self.old.auction self.new.auction }
         ensures refused { IfErr result (λ fault. (book : Book) → HasRead self.old book →
-            (behind : List ℕ) → AreNotRows fault self.old.auction.limit
-            (length self.old.auction.counters) self.old.auction.opening book lines.now behind) }
+            (behind : List ℕ) → AreNotRowsOf fault self.old.auction book lines.now behind) }
     {
         let input = match read_compact_scripts(alloc, lines, self.auction.workers()) {
             Ok(input) => input,
@@ -145,22 +94,18 @@ impl ReadRows {
         requires filled { filled ≤ length buffer.old }
         requires part { length buffer.old ≡ PART_LEN }
         requires can { CanReadOn self.old filled }
-        ensures within { IfOk result (λ left. left ≤ filled) }
         ensures len { length buffer.new ≡ length buffer.old }
+        ensures leaves { IfOk result (λ left. LeavesRest self.old self.new filled left buffer.new) }
         ensures reads { IfOk result (λ left. (book : Book) → HasRead self.old book →
             TellsRows self.new book (take filled buffer.old) (take left buffer.new)
             (W.contents told.old) (W.contents told.new)) }
-        ensures no_end { IfOk result (λ left. HasNoEnd (take left buffer.new)) }
-        ensures kept { IfOk result (λ left. self.new.kept + left ≡ self.old.kept + filled) }
-        ensures same { IsSameAuction self.old.auction self.new.auction }
         ensures refused { IfErr result (λ fault. (book : Book) → HasRead self.old book →
-            (behind : List ℕ) → IsRefusedIn fault self.old.auction.limit
-            (length self.old.auction.counters) self.old.auction.opening book
+            (behind : List ℕ) → IsRefusedBehind fault self.old.auction book
             (take filled buffer.old ++ behind)) }
         ensures told { IfErr result (λ _. TellsSome (take filled buffer.old)
             (W.contents told.old) (W.contents told.new)) }
     {
-        let whole = whole_lines(&buffer[..filled]);
+        let whole = lines_end(&buffer[..filled]);
         self.add_lines(alloc, &buffer[..whole])?;
         match write_last(told, &buffer[..whole]) {
             Ok(()) => {}
@@ -183,16 +128,13 @@ impl ReadRows {
         requires start { HasRead self.old [] }
         ensures len { length buffer.new ≡ length buffer.old }
         ensures few { IfOk result (λ filled. filled ≤ LONGEST_ROW) }
-        ensures no_end { IfOk result (λ filled. HasNoEnd (take filled buffer.new)) }
-        ensures can { OnOk result (CanReadOn self.new 1) }
+        ensures all { IfOk result (λ filled.
+            HasReadAll self.old self.new filled buffer.new (R.remaining reader.new)) }
         ensures read { IfOk result (λ filled.
             IsReadTo (R.remaining reader.old) (R.remaining reader.new)
             (W.contents told.old) (W.contents told.new) self.new (take filled buffer.new)) }
-        ensures end { OnOk result (IsAtEnd (R.remaining reader.new)) }
-        ensures same { OnOk result (IsSameAuction self.old.auction self.new.auction) }
         ensures refused { IfErr result (λ fault. IfSome (R.remaining reader.old)
-            (IsRefused fault self.old.auction.limit (length self.old.auction.counters)
-            self.old.auction.opening)) }
+            (IsRefusedBy fault self.old.auction)) }
         ensures told { IfErr result (λ _. TellsFirst (R.remaining reader.old)
             (W.contents told.old) (W.contents told.new)) }
     {
@@ -218,14 +160,11 @@ impl ReadRows {
         requires few { filled ≤ PART_LEN }
         requires no_end { HasNoEnd (take filled buffer.items) }
         requires can { CanReadOn self 1 }
-        ensures auction { IfOk result (λ opened. opened.auction ≡ self.auction) }
-        ensures rows { IfOk result (λ opened. opened.rows ≡ self.rows) }
-        ensures kept { IfOk result (λ opened. opened.kept ≡ self.kept) }
+        ensures opens { IfOk result (OpensReading self) }
         ensures tail { IfOk result (λ opened. opened.tail.items ≡ take filled buffer.items) }
         ensures cut { IfOk result (λ opened. is_cut_row opened.tail.items ≡ true) }
         ensures refused { IfErr result (λ fault. (book : Book) → HasRead self book →
-            IsRefusedIn fault self.auction.limit (length self.auction.counters)
-            self.auction.opening book (take filled buffer.items)) }
+            IsRefusedBehind fault self.auction book (take filled buffer.items)) }
     {
         let mut tail = buffer;
         tail.truncate(filled);

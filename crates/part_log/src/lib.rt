@@ -1,5 +1,5 @@
-//! A log of the rows that a run adds: the rows of a part of it are put by before one byte of the
-//! part's replies is written.
+//! A log of lines: the rows that a run adds, or the requests that it commits. Those of a part are
+//! put by for good before one byte of the part's replies is written.
 #![tactic(auto)]
 
 mod file_log;

@@ -1,4 +1,4 @@
-//! Where rows are put by before a part is told.
+//! Where lines are put by for good: of a part that is told, before its text is written.
 ghost use Rattle.std.specs.Io.KnownBytes.{Appends, Keeps};
 ghost use Rattle.std.specs.Prelude.{◌≡◌, ◌≢◌, ℕ, Bool, true, false, List, [], Option, None, Err, IsErr, OnOk, IfErr};
 ghost use Rattle.part_log.specs.Files.{IsEndedAfter, IsFoundAfter};
@@ -141,28 +141,4 @@ pub struct Teller<L, W> {
     pub log: L,
     /// The writer.
     pub writer: W,
-}
-
-impl<L: Log, W: Write> Teller<L, W> {
-    /// Puts the rows of a part by, and then writes its text, as `tell_part` does.
-    pub fn tell(&mut self, rows: &[u8], text: &[u8]) -> Result<(), TellFault>
-        ensures logged { OnOk result
-            (Appends (L.accepted self.old.log) (L.accepted self.new.log) rows.now) }
-        ensures told { OnOk result
-            (Appends (W.contents self.old.writer) (W.contents self.new.writer) text.now) }
-        ensures first { IsLoggedFirst (L.accepted self.old.log) (L.accepted self.new.log) rows.now
-            (W.contents self.old.writer) (W.contents self.new.writer) text.now }
-        ensures unlogged { IfErr result (λ fault.
-            IsUnlogged fault → self.new.writer ≡ self.old.writer) }
-        ensures fault { IfErr result (λ fault. IsToldSoFar fault
-            (L.accepted self.old.log) (L.accepted self.new.log) rows.now
-            (W.contents self.old.writer) (W.contents self.new.writer) text.now) }
-        ensures some { IfErr result (λ fault. IsUnlogged fault → rows.now ≢ []) }
-        ensures found { L.has_ended self.old.log ≡ false →
-            L.found self.old.log ≡ L.accepted self.old.log →
-            IsFoundBy result (L.accepted self.new.log) (L.found self.new.log) rows.now }
-        ensures ended { IsEndedBy result (L.has_ended self.old.log) (L.has_ended self.new.log) }
-    {
-        tell_part(&mut self.log, &mut self.writer, rows, text)
-    }
 }

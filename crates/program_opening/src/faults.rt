@@ -53,16 +53,6 @@ pub enum Fault {
     Log(LogFault),
 }
 
-impl From<UsageFault> for Fault {
-    ghost use Rattle.program_opening.specs.declared.faults.Fault.TheVariants.{Usage};
-
-    ghost from_gives = { λ cause fault. fault ≡ Usage cause };
-
-    fn from(cause: UsageFault) -> Fault {
-        Fault::Usage(cause)
-    }
-}
-
 impl From<ReadFault> for Fault {
     ghost use Rattle.program_opening.specs.declared.faults.Fault.TheVariants.{Read};
 

@@ -1,7 +1,7 @@
 //! The file of a log: how it is opened and locked, and where what is cut off it is kept.
-ghost use Rattle.std.specs.Prelude.{◌≡◌, [], None, IfErr, IfOk, IfSome, length};
+ghost use Rattle.std.specs.Prelude.{◌≡◌, [], None, IfErr, IfOk, IfSome};
 ghost use Rattle.phase_floor.specs.Adding.{HasBook, IsSameAuction, IsStartOf};
-ghost use Rattle.log_opening.specs.Opening.{IsRefused, TellsFirst};
+ghost use Rattle.log_opening.specs.Opening.{IsRefusedBy, TellsFirst};
 ghost use Rattle.program_opening.specs.Opened.{IsOpenedFrom, NamesFile, text_cause, text_fault};
 
 use crate::faults::Fault;
@@ -199,8 +199,7 @@ pub fn open_file<R: Files<File = File>, F: AppendFile + Drop, W: Write>(
         (W.contents told.old) (W.contents told.new) opened.auction opened.log opened.cut) }
     ensures same { IfOk result (λ opened. IsSameAuction auction opened.auction) }
     ensures refused { IfErr result (λ fault. IfSome (text_fault fault) (λ of.
-        IfSome (F.held at.entry.file)
-        (IsRefused of auction.limit (length auction.counters) auction.opening))) }
+        IfSome (F.held at.entry.file) (IsRefusedBy of auction))) }
     ensures told { IfErr result (λ _. TellsFirst (F.held at.entry.file)
         (W.contents told.old) (W.contents told.new)) }
 {

@@ -2,12 +2,13 @@
 use Rattle.std.specs.List.{filter}
 use Rattle.std.specs.Prelude.{◌≡◌, ◌<◌, ◌≤◌, ℕ, Bool, true, List, [], ◌∷◌, length, Option, Some, None, find, option_and_then, pos, string_bytes}
 use Rattle.std.specs.Str.{bytes_eq}
-use Rattle.clap.specs.{Facts.{unwrap_or_range}, Faults.{fault_of}, Simple.{App, built, matches_of}}
+use Rattle.clap.specs.{Facts.{unwrap_or_range}, Faults.{fault_of}}
+use Rattle.clap.specs.{Matches.{first_value, one_text}, Simple.{App, built, matches_of}}
 use Rattle.clap.specs.Walk.{Rule, Row, first_of, one_of}
 use Rattle.clap.specs.declared.builder.action.ArgAction.TheVariants.{Set}
 use Rattle.clap.specs.declared.builder.value_parser.ValueParser.TheVariants.{Signed}
-use Rattle.clap.specs.declared.parser.matches.ValueSource.{ValueSource}
-use Rattle.program_options.specs.Options.{IsNumberIn, is_from_words}
+use Rattle.clap.specs.declared.parser.matches.{Found.{Found}, ValueSource.{ValueSource}}
+use Rattle.program_options.specs.Options.{IsNumberIn, is_from_words, is_given}
 use Rattle.program_options.specs.declared.words.UsageFault.{TheVariants.{Text, Memory}, UsageFault}
 
 -- The parser finds no fault in the words: after the program's name they are options of it, each once at most, with its number in its range.
@@ -62,6 +63,18 @@ pub record HasNumberOption (program : App) (id : List ℕ) (least greatest : ℕ
 -- each such option has a number of its range
 abbrev pub HaveNumbers : App → (List ℕ → Option (List ℕ)) → Type 0
 HaveNumbers program text = (id : List ℕ) (least greatest : ℕ) → HasNumberOption program id least greatest → IsNumberIn least greatest (text id)
+
+-- What is found of a program's options is what its words say, in which the parser finds no fault.
+pub record FindsSaid (program : App) (words : List (List ℕ)) (found : Found) : Type 0 where
+  -- the text of each option
+  pub texts : (id : List ℕ) → one_text found id ≡ text_in program words id
+  -- the same, as it stands in the words
+  pub values : (id : List ℕ) → first_value found id ≡ value_in program words id
+  -- whether the words give it
+  pub given : (id : List ℕ) → is_given found id ≡ given_in program words id
+  -- an option of a number has one of its range
+  pub numbers : HaveNumbers program (one_text found)
+  pub taken : AreTaken program words
 
 -- the parser's words, where the program's are refused by it
 abbrev pub usage_words : UsageFault → Option (List ℕ)

@@ -1,12 +1,11 @@
 //! What a parse finds in a program's words, and why these are refused.
 ghost use Rattle.std.specs.IoError.{error_kind};
-ghost use Rattle.std.specs.Prelude.{◌≡◌, ℕ, List, IfOk, IfErr, OnOk, true, map, string_bytes};
+ghost use Rattle.std.specs.Prelude.{◌≡◌, IfOk, IfErr, true, map, string_bytes};
 ghost use Rattle.std.specs.declared.io.ErrorKind.{ErrorKind as IoErrorKind};
 ghost use Rattle.clap.specs.Faults.{is_simple_and_free};
-ghost use Rattle.clap.specs.Words.{kind_of, app_of, first_value, found_of, one_text};
+ghost use Rattle.clap.specs.Words.{kind_of, app_of, found_of};
 ghost use Rattle.clap.specs.declared.error.kind.ErrorKind.{ErrorKind};
-ghost use Rattle.program_options.specs.Options.{is_given};
-ghost use Rattle.program_options.specs.Words.{AreTaken, HaveNumbers, given_in, text_in, value_in};
+ghost use Rattle.program_options.specs.Words.{AreTaken, FindsSaid};
 ghost use Rattle.program_options.specs.declared.words.UsageFault.{UsageFault};
 
 use clap::error::ErrorKind;
@@ -54,20 +53,9 @@ pub fn parse_words<'a>(
     mut command: Command<'a>,
     words: &'a [String],
 ) -> Result<ArgMatches<'a>, UsageFault>
-    ensures texts { is_simple_and_free (app_of command.entry) ≡ true
-        → IfOk result (λ matches. (id : List ℕ) → one_text (found_of matches) id
-        ≡ text_in (app_of command.entry) (map string_bytes words.now) id) }
-    ensures values { is_simple_and_free (app_of command.entry) ≡ true
-        → IfOk result (λ matches. (id : List ℕ) → first_value (found_of matches) id
-        ≡ value_in (app_of command.entry) (map string_bytes words.now) id) }
-    ensures given { is_simple_and_free (app_of command.entry) ≡ true
-        → IfOk result (λ matches. (id : List ℕ) → is_given (found_of matches) id
-        ≡ given_in (app_of command.entry) (map string_bytes words.now) id) }
-    ensures numbers { is_simple_and_free (app_of command.entry) ≡ true
-        → IfOk result (λ matches.
-        HaveNumbers (app_of command.entry) (one_text (found_of matches))) }
-    ensures taken { is_simple_and_free (app_of command.entry) ≡ true
-        → OnOk result (AreTaken (app_of command.entry) (map string_bytes words.now)) }
+    ensures finds { is_simple_and_free (app_of command.entry) ≡ true
+        → IfOk result (λ matches. FindsSaid (app_of command.entry) (map string_bytes words.now)
+        (found_of matches)) }
     ensures memory { is_simple_and_free (app_of command.entry) ≡ true
         → IfErr result (λ fault. AreTaken (app_of command.entry) (map string_bytes words.now)
         → fault ≡ UsageFault.Memory) }

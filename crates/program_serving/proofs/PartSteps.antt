@@ -12,7 +12,7 @@ use Rattle.program_serving.proofs.Sessions.{done_goes_on, part_begins, part_stop
 use Rattle.program_serving.specs.ServeFaults.{IsServeFault}
 use Rattle.program_serving.specs.Serving.{AreTold, book_left, ends_at_fault}
 use Rattle.program_serving.specs.declared.parts.Served.{Served}
-use Rattle.program_serving.specs.inner.Parts.{AreDoneOf, BeginsAt, FailsPart, HasRoomForPart, ServesPart, done_of}
+use Rattle.program_serving.specs.inner.Parts.{AreDoneOf, BeginsAt, FailsPart, HasRoomForPart, ServesDone, done_of}
 use Rattle.program_serving.specs.inner.Sessions.{IsSession}
 
 -- all rows are added
@@ -34,11 +34,12 @@ module _ {L W : Type 0} (accepted : L → Option (List ℕ)) (contents : W → O
   reads_done : (past : Option ℕ) → AreDoneOf options now asked past → ReadsPart options most session.rest (done_of past asked) (AtPast (grown options served.auction now session.start asked most session.rest free Next reads few room) options.workers Next past)
   reads_done past are = done_reads options served.auction now session.start asked most session.rest free Next reads few room past are
 
-  pub part_served : (past : Option ℕ) (next : Served) → ((b : Book) → BeginsAt options served.auction asked.scripts b → AreDoneOf options b asked past) → next.rows ≡ served.rows + length asked.rows
-      → ((b : Book) → BeginsAt options served.auction asked.scripts b → ServesPart options b (gone_by served.before) (done_of past asked) next (AreTold accepted contents old new))
+  pub part_served : (past : Option ℕ) (next : Served)
+      → ((b : Book) → BeginsAt options served.auction asked.scripts b → ServesDone options b (gone_by served.before) asked past next (AreTold accepted contents old new)) → next.rows ≡ served.rows + length asked.rows
       → IsSession options book all next (LeftBehind next.auction Next past) (AreTold accepted contents start new)
-  part_served past next are counted serves =
-      let done = reads_done past (are now begins) in
+  part_served past next each counted =
+      let served_now = each now begins in
+      let done = reads_done past served_now.are in
       session_part accepted contents options book all start old new served Left session most (done_of past asked) (LeftBehind next.auction Next past) (record {
         said = done.said;
         behind = done.behind;
@@ -47,11 +48,14 @@ module _ {L W : Type 0} (accepted : L → Option (List ℕ)) (contents : W → O
         few = done.few;
         most_few = done.most_few;
         few_rows = done.few_rows;
-        goes_on = left_behind options served.auction now session.start asked most session.rest free Next reads few room past (gone_by served.before) next (AreTold accepted contents old new) (serves now begins) done.behind done.goes_on;
-      }) next (counted ∙ ap (λ rows. served.rows + length rows) (sym (rows_done past asked))) (serves now begins)
+        goes_on = left_behind options served.auction now session.start asked most session.rest free Next reads few room past (gone_by served.before) next (AreTold accepted contents old new) served_now.serves done.behind done.goes_on;
+      }) next (counted ∙ ap (λ rows. served.rows + length rows) (sym (rows_done past asked))) served_now.serves
 
-  pub part_goes_on : (past : Option ℕ) → ((b : Book) → BeginsAt options served.auction asked.scripts b → AreDoneOf options b asked past) → IfSome past (λ worker. ends_at_fault options ≡ false)
-  part_goes_on past are = done_goes_on options now asked past (are now begins)
+  pub part_goes_on : (past : Option ℕ) (next : Served)
+      → ((b : Book) → BeginsAt options served.auction asked.scripts b → ServesDone options b (gone_by served.before) asked past next (AreTold accepted contents old new)) → IfSome past (λ worker. ends_at_fault options ≡ false)
+  part_goes_on past next each =
+      let served_now = each now begins in
+      done_goes_on options now asked past served_now.are
 
   pub part_fails : (fault : Fault) → ((b : Book) → BeginsAt options served.auction asked.scripts b → FailsPart accepted contents old new options b (gone_by served.before) served.rows asked fault)
       → IsServeFault accepted contents start new options book all fault

@@ -5,10 +5,10 @@ ghost use Rattle.program_serving.specs.FaultLines.{answer_line, cause_text, faul
 ghost use Rattle.program_serving.specs.{ServeFaults.{AreToldAt}, Serving.{AreTold}};
 ghost use Rattle.program_serving.specs.inner.Sessions.{answer_to, turned_text};
 
-use crate::parts::LiveTeller;
+use crate::telling::LiveTeller;
 use auction_text::{Before, Cause, MOST_RECORDS, ReadFault};
 use byte_texts::{WriteFault, push_labelled, push_number, push_text};
-use part_log::Log;
+use part_log::{Log, tell_part};
 use program_opening::{Fault, Options, write_fault};
 use std::alloc::{AllocError, Global};
 use std::io::Write;
@@ -170,6 +170,11 @@ pub(crate) fn tell_turned<L: Log, W: Write, E: Write>(
 {
     let answer = answer_to(alloc, options, before, line)?;
     tell_error(&mut teller.errors, answer.as_slice(), line.turned);
-    teller.teller.tell(&[], answer.as_slice())?;
+    tell_part(
+        &mut teller.teller.log,
+        &mut teller.teller.writer,
+        &[],
+        answer.as_slice(),
+    )?;
     Ok(())
 }

@@ -6,8 +6,9 @@ mod fault_lines;
 mod limits;
 mod parts;
 mod session;
+mod telling;
 
 pub use fault_lines::push_fault_line;
 pub use part_log::{Log, NoLog, Teller};
-pub use parts::LiveTeller;
 pub use session::{LoggedInput, parts_are_one_history, serve};
+pub use telling::LiveTeller;

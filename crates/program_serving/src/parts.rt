@@ -1,33 +1,27 @@
-//! The run of one part, and what is logged and written of it.
-ghost use Rattle.std.specs.Prelude.{ℕ, ◌<◌, ◌+◌, ◌^◌, IfErr, IfOk, ◌≡◌, IfSome, OnOk, length};
-ghost use Rattle.auction_rows.specs.{Book.{Book}, History.{book_after}};
-ghost use Rattle.auction_text.specs.{Moved.{gone_by}, RowLines.{rows_text}};
-ghost use Rattle.auction_text.specs.Scripts.{Asked, asked_of};
-ghost use Rattle.byte_texts.specs.Writing.{WritesText};
+//! The run of one part.
+ghost use Rattle.std.specs.Prelude.{ℕ, ◌<◌, ◌+◌, ◌^◌, IfErr, IfOk, ◌≡◌, length};
+ghost use Rattle.auction_rows.specs.Book.{Book};
+ghost use Rattle.auction_text.specs.{Moved.{gone_by}, Scripts.{Asked, asked_of}};
 ghost use Rattle.log_opening.specs.Parts.{HasAdded};
-ghost use Rattle.phase_floor.specs.{Adding.{HasBook, IsSameAuction, IsStartOf}, States.{IsBookOf}};
-ghost use Rattle.program_opening.specs.Options.{FitsOptions, opening_asked};
-ghost use Rattle.program_serving.specs.ServeFaults.{AreNotRunOn, AreToldAt};
-ghost use Rattle.program_serving.specs.Serving.{AreTold, OfPart, part_text};
-ghost use Rattle.program_serving.specs.inner.Parts.{AnswersScripts, AreDoneOf, BeginsAt, FailsPart, IsBegun, IsFirstNotAdded, IsNotBegun, ServesPart, done_of, gone_with, told_fault};
+ghost use Rattle.phase_floor.specs.Adding.{HasBook, IsSameAuction, IsStartOf};
+ghost use Rattle.program_serving.specs.{ServeFaults.{AreNotRunOn}, Serving.{AreTold}};
+ghost use Rattle.program_serving.specs.inner.Parts.{BeginsAt, BeginsPart, FailsPart, IsBegun, IsFirstNotAdded, IsNotBegun, RunsScripts, ServesDone, gone_with, told_fault};
 
 use crate::limits::take_past;
+use crate::telling::{Committed, LiveTeller, tell_committed};
 use auction_rows::Row;
 use auction_run::{FreeGate, Outcome, RunFault, Stopped, run_on};
-use auction_text::{
-    Before, CompactInput, TextBlock, write_history_on, write_replies_by, write_rows,
-};
-use byte_texts::WriteFault;
+use auction_text::{Before, CompactInput};
 use item_shards::Opened;
 use log_opening::{Refused, add_rows};
-use part_log::{Log, Teller};
+use part_log::Log;
 use phase_floor::Joined;
 use program_opening::{Fault, Options};
 use std::alloc::Global;
 use std::io::Write;
 use std::sync::Wait;
 use std::thread::Threads;
-use worker_journals::{History, Script};
+use worker_journals::Script;
 
 /// How far an input is served: the auction, how many rows were added to it, and what went before
 /// its next part.
@@ -51,52 +45,6 @@ pub(crate) struct NextPart {
 pub(crate) struct ServedPart {
     pub(crate) served: Served,
     pub(crate) past: Option<u32>,
-}
-
-// What a part commits, after what went before it: the rows that it adds, and then the history of
-// its requests.
-#[derive(Drop)]
-struct Committed {
-    before: Before,
-    rows: Vec<Row>,
-    history: History,
-}
-
-// Room for the text of a part, which is kept from part to part: to make it anew takes longer than
-// to write a few lines.
-#[derive(Drop)]
-struct TextRoom {
-    block: TextBlock,
-    text: Vec<u8>,
-}
-
-/// A log and a writer, where faults are told that have no place among the replies, and room for the
-/// text of a part.
-#[derive(Drop)]
-pub struct LiveTeller<L, W, E> {
-    /// The log, and the writer of the replies.
-    pub teller: Teller<L, W>,
-    /// Where a fault is told of a line that names no worker, or if no replies are asked for.
-    pub errors: E,
-    room: TextRoom,
-}
-
-impl<L, W, E> LiveTeller<L, W, E> {
-    /// A teller by this log and writer, that tells other faults there.
-    pub fn of(alloc: Global, teller: Teller<L, W>, errors: E) -> LiveTeller<L, W, E>
-        ensures teller { result.teller ≡ teller }
-        ensures errors { result.errors ≡ errors }
-    {
-        let room = TextRoom {
-            block: TextBlock::new(),
-            text: Vec::new(alloc),
-        };
-        LiveTeller {
-            teller,
-            errors,
-            room,
-        }
-    }
 }
 
 // Adds rows to an auction, behind so many others of its input, and gives them.
@@ -138,14 +86,9 @@ fn run_part<R: Threads + Wait + Sync>(
     scripts: Vec<Script>,
     options: &Options,
 ) -> Result<Outcome, Fault>
-    ensures answers { IfOk result (λ outcome. (book : Book) →
+    ensures runs { IfOk result (λ outcome. (book : Book) →
         BeginsAt options.now auction scripts.items book →
-        AnswersScripts options.now book scripts.items outcome) }
-    ensures left { IfOk result (λ outcome. (book : Book) →
-        BeginsAt options.now auction scripts.items book → IsBookOf outcome.state
-        (book_after (opening_asked options.now) book outcome.history.entries)) }
-    ensures fits { IfOk result (λ outcome. (book : Book) →
-        BeginsAt options.now auction scripts.items book → FitsOptions options.now outcome.state) }
+        RunsScripts options.now book scripts.items outcome) }
     ensures has { IfOk result (λ outcome. HasBook auction → HasBook outcome.state) }
     ensures refused { IfErr result (λ fault. (book : Book) →
         BeginsAt options.now auction scripts.items book →
@@ -175,8 +118,7 @@ struct BegunPart {
 // this does not end the input.
 fn begin_part(alloc: Global, part: NextPart, options: &Options) -> Result<BegunPart, Fault>
     requires { HasBook part.served.auction }
-    ensures begins { IfOk result (λ begun. (book : Book) →
-        BeginsAt options.now part.served.auction part.input.scripts.items book →
+    ensures begins { IfOk result (λ begun. (book : Book) → BeginsPart options.now part book →
         IsBegun options.now book (asked_of part.input) begun.auction begun.added.items
         begun.scripts.items begun.past) }
     ensures before { IfOk result (λ begun. begun.before ≡ part.served.before) }
@@ -185,8 +127,7 @@ fn begin_part(alloc: Global, part: NextPart, options: &Options) -> Result<BegunP
     ensures rows { IfOk result (λ begun.
         begun.rows ≡ part.served.rows + length part.input.rows.items) }
     ensures has { IfOk result (λ begun. HasBook begun.auction) }
-    ensures cause { IfErr result (λ fault. (book : Book) →
-        BeginsAt options.now part.served.auction part.input.scripts.items book →
+    ensures cause { IfErr result (λ fault. (book : Book) → BeginsPart options.now part book →
         IsNotBegun options.now book (gone_by part.served.before) part.served.rows
         (asked_of part.input) fault) }
 {
@@ -231,10 +172,8 @@ fn perform_part<R: Threads + Wait + Sync, L: Log, W: Write, E>(
     requires next { gone_by begun.next ≡ gone_with (gone_by begun.before) 0 begun.scripts.items }
     ensures serves { IfOk result (λ done. (book : Book) (asked : Asked) →
         IsBegun options.now book asked begun.auction begun.added.items begun.scripts.items
-        begun.past → ServesPart options.now book (gone_by begun.before)
-        (done_of done.past asked) done.served
-        (AreTold L.accepted W.contents teller.old.teller teller.new.teller)) }
-    ensures past { IfOk result (λ done. done.past ≡ begun.past) }
+        begun.past → ServesDone options.now book (gone_by begun.before) asked done.past
+        done.served (AreTold L.accepted W.contents teller.old.teller teller.new.teller)) }
     ensures rows { IfOk result (λ done. done.served.rows ≡ begun.rows) }
     ensures has { IfOk result (λ done. HasBook begun.auction → HasBook done.served.auction) }
     ensures cause { IfErr result (λ fault. (book : Book) (asked : Asked) (before : ℕ) →
@@ -260,7 +199,7 @@ fn perform_part<R: Threads + Wait + Sync, L: Log, W: Write, E>(
         rows: added,
         history: outcome.history,
     };
-    tell_part(alloc, teller, options, &committed)?;
+    tell_committed(alloc, teller, options, &committed)?;
     let served = Served {
         auction: outcome.state,
         rows,
@@ -280,109 +219,16 @@ pub(crate) fn serve_part<R: Threads + Wait + Sync, L: Log, W: Write, E>(
     options: &Options,
 ) -> Result<ServedPart, Fault>
     requires { HasBook part.served.auction }
-    ensures serves { IfOk result (λ done. (book : Book) →
-        BeginsAt options.now part.served.auction part.input.scripts.items book →
-        ServesPart options.now book (gone_by part.served.before)
-        (done_of done.past (asked_of part.input)) done.served
-        (AreTold L.accepted W.contents teller.old.teller teller.new.teller)) }
-    ensures past { IfOk result (λ done. (book : Book) →
-        BeginsAt options.now part.served.auction part.input.scripts.items book →
-        AreDoneOf options.now book (asked_of part.input) done.past) }
+    ensures serves { IfOk result (λ done. (book : Book) → BeginsPart options.now part book →
+        ServesDone options.now book (gone_by part.served.before) (asked_of part.input) done.past
+        done.served (AreTold L.accepted W.contents teller.old.teller teller.new.teller)) }
     ensures rows { IfOk result (λ done.
         done.served.rows ≡ part.served.rows + length part.input.rows.items) }
     ensures has { IfOk result (λ done. HasBook done.served.auction) }
-    ensures cause { IfErr result (λ fault. (book : Book) →
-        BeginsAt options.now part.served.auction part.input.scripts.items book →
+    ensures cause { IfErr result (λ fault. (book : Book) → BeginsPart options.now part book →
         FailsPart L.accepted W.contents teller.old.teller teller.new.teller options.now book
         (gone_by part.served.before) part.served.rows (asked_of part.input) fault) }
 {
     let begun = begin_part(alloc, part, options)?;
     perform_part(rt, alloc, teller, begun, options)
-}
-
-// The text of the rows that a part adds, for a log that keeps it: of one that keeps nothing no
-// bytes are known.
-fn logged_text<L: Log>(alloc: Global, log: &L, committed: &Committed) -> Result<Vec<u8>, Fault>
-    ensures text { IfOk result (λ text. IfSome (L.accepted log.now) (λ _.
-        text.items ≡ rows_text committed.now.rows.items committed.now.history.entries)) }
-    ensures memory { IfErr result (λ fault. fault ≡ Fault.Write WriteFault.Memory) }
-{
-    let mut text = Vec::new(alloc);
-    if !log.keeps() {
-        return Ok(text);
-    }
-    match write_rows(
-        alloc,
-        &mut text,
-        committed.rows.as_slice(),
-        &committed.history,
-    ) {
-        Ok(()) => Ok(text),
-        Err(_) => Err(Fault::Write(WriteFault::Memory)),
-    }
-}
-
-// Writes what the options ask for of a part, by a block.
-fn write_part<W: Write>(
-    alloc: Global,
-    writer: &mut W,
-    options: &Options,
-    committed: &Committed,
-    block: &mut TextBlock,
-) -> Result<(), WriteFault>
-    ensures { WritesText W.contents writer.old writer.new (part_text options.now
-        (gone_by committed.now.before) committed.now.rows.items committed.now.history.entries)
-        result }
-{
-    let Committed {
-        before,
-        rows,
-        history,
-    } = committed;
-    if options.rows {
-        write_rows(alloc, writer, rows.as_slice(), history)
-    } else if options.history {
-        write_history_on(writer, history, before)
-    } else {
-        write_replies_by(alloc, writer, history, before, block)
-    }
-}
-
-// Makes what the options ask for of a part in memory.
-fn make_text(
-    alloc: Global,
-    room: &mut TextRoom,
-    options: &Options,
-    committed: &Committed,
-) -> Result<(), Fault>
-    ensures text { OnOk result (room.new.text.items ≡ part_text options.now
-        (gone_by committed.now.before) committed.now.rows.items committed.now.history.entries) }
-    ensures memory { IfErr result (λ fault. fault ≡ Fault.Write WriteFault.Memory) }
-{
-    room.text.clear();
-    match write_part(alloc, &mut room.text, options, committed, &mut room.block) {
-        Ok(()) => Ok(()),
-        Err(_) => Err(Fault::Write(WriteFault::Memory)),
-    }
-}
-
-// Logs the rows that a part adds, and then writes what the options ask for of it.
-fn tell_part<L: Log, W: Write, E>(
-    alloc: Global,
-    teller: &mut LiveTeller<L, W, E>,
-    options: &Options,
-    committed: &Committed,
-) -> Result<(), Fault>
-    ensures told { OnOk result (OfPart options.now (gone_by committed.now.before)
-        committed.now.rows.items committed.now.history.entries
-        (AreTold L.accepted W.contents teller.old.teller teller.new.teller)) }
-    ensures so_far { IfErr result (λ fault. OfPart options.now (gone_by committed.now.before)
-        committed.now.rows.items committed.now.history.entries
-        (AreToldAt L.accepted W.contents teller.old.teller teller.new.teller fault)) }
-{
-    let rows = logged_text(alloc, &teller.teller.log, committed)?;
-    make_text(alloc, &mut teller.room, options, committed)?;
-    let text = &teller.room.text;
-    teller.teller.tell(rows.as_slice(), text.as_slice())?;
-    Ok(())
 }

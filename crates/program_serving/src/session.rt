@@ -16,7 +16,8 @@ ghost use Rattle.program_serving.specs.inner.Sessions.{GoesOnTo, IsServedSoFar, 
 
 use crate::fault_lines::{Turned, TurnedLine, tell_turned};
 use crate::limits::{ends_at_fault, most_of_a_part};
-use crate::parts::{LiveTeller, NextPart, Served, ServedPart, serve_part};
+use crate::parts::{NextPart, Served, ServedPart, serve_part};
+use crate::telling::LiveTeller;
 use auction_text::{Before, LiveEnd, LiveInput, LivePart, ReadFault};
 use part_log::Log;
 use phase_floor::Joined;

@@ -1,5 +1,5 @@
-//! Tests of `auction_program`: a run, its faults and limits. Its options, and what it writes of
-//! other inputs, are tried on the built program, in `tests/`.
+//! Tests of `auction_program`: from words and an input to what is written, requests past a limit,
+//! and faults to which the built program can't be brought.
 mod failing_tests;
 mod limit_tests;
 mod running_tests;

@@ -1,5 +1,5 @@
-//! Tests of how `auction_text` reads an input whole and in parts, writes the texts of parts, and
-//! writes to writers that fail.
+//! Tests of texts: an input that is read whole and in parts, what is written of a run and of its
+//! parts, and writers that fail.
 mod ended_tests;
 mod live_tests;
 mod moved_tests;

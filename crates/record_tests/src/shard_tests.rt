@@ -1,4 +1,5 @@
-//! Numbers of commits, and what one shard says of an item. What views show stands in tests/worked.
+//! Numbers of commits, what one shard says of an item, and its clock. What views show stands in
+//! tests/worked.
 ghost use Rattle.auction_rows.specs.declared.requests.Object.TheVariants.{Item};
 ghost use Rattle.item_shards.specs.ShardContents.{LiesIn};
 

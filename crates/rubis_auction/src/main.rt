@@ -43,8 +43,11 @@ where
     R: Env + Files<File = File> + Input + Print + Alloc<A = Global> + Threads + Wait + Sync,
     R: Clock + Eprint,
 {
-    let words = program_words(rt)?;
-    let options = read_options(rt.alloc(), words.as_slice())?;
+    let words = program_words(rt).map_err(Fault::Usage)?;
+    let options = match read_options(rt.alloc(), words.as_slice()) {
+        Ok(options) => options,
+        Err(fault) => return Err(Fault::Usage(fault)),
+    };
     let progress = Progress::of(rt, PROGRAM, terminals);
     if options.live > 0 {
         // Its replies show how far it is.

@@ -40,8 +40,11 @@ fn perform<R>(rt: &R, terminals: Terminals) -> Result<Verdict, Fault>
 where
     R: Env + Files + Input + Print + Eprint + Clock + Alloc<A = Global>,
 {
-    let words = program_words(rt)?;
-    let options = read_options(rt.alloc(), words.as_slice())?;
+    let words = program_words(rt).map_err(Fault::Usage)?;
+    let options = match read_options(rt.alloc(), words.as_slice()) {
+        Ok(options) => options,
+        Err(fault) => return Err(Fault::Usage(fault)),
+    };
     let progress = Progress::of(rt, PROGRAM, terminals);
     let checked = check(&progress, options);
     progress.end();

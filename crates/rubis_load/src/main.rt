@@ -35,8 +35,8 @@ where
     R: Env + Print + Eprint + Clock + Alloc<A = Global>,
 {
     let alloc = rt.alloc();
-    let words = program_words(rt).map_err(PlanFault::Usage)?;
-    let plan = read_plan(alloc, words.as_slice())?;
+    let words = program_words(rt).map_err(|fault| Fault::Plan(PlanFault::Usage(fault)))?;
+    let plan = read_plan(alloc, words.as_slice()).map_err(Fault::Plan)?;
     let progress = Progress::of(rt, PROGRAM, terminals);
     let mut writer = NotedWriter::of(&progress, io::writer(rt));
     let written = write_load(alloc, &mut writer, &plan);

@@ -20,7 +20,8 @@ use Rattle.program_opening.specs.declared.faults.Fault.TheVariants.{Row, Run, Li
 use Rattle.program_opening.specs.declared.options.Options.{Options}
 use Rattle.program_serving.specs.PartRuns.{IsStart, RunsPart}
 use Rattle.program_serving.specs.ServeFaults.{IsFirstBadRow, IsPartFault, IsPartRefused}
-use Rattle.program_serving.specs.{Serving.{AddsRows, ends_at_fault}, declared.parts.Served.{Served}}
+use Rattle.program_serving.specs.Serving.{AddsRows, ends_at_fault}
+use Rattle.program_serving.specs.declared.parts.{NextPart.{NextPart}, Served.{Served}}
 
 -- Scripts of the options' workers begin with the options' auction, at this book.
 pub record BeginsAt (options : Options) (auction : JoinedState) (scripts : List (List Request))
@@ -28,11 +29,24 @@ pub record BeginsAt (options : Options) (auction : JoinedState) (scripts : List 
   pub start : IsStart options auction book
   pub workers : length scripts ≡ options.workers
 
+-- a part begins with the options' auction, at this book
+abbrev pub BeginsPart : Options → NextPart → Book → Type 0
+BeginsPart options part book =
+    BeginsAt options part.served.auction part.input.scripts.items book
+
 -- the outcome of a run answers these scripts, from a book
 abbrev pub AnswersScripts : Options → Book → List (List Request) → Outcome → Type 0
 AnswersScripts options book scripts outcome =
     IsAnswer (opening_asked options) book (policy_of options) scripts
     (hot_sets outcome.hot.items) outcome.history.entries
+
+-- The outcome of a run answers these scripts, from a book, and leaves the options' auction with the
+-- rows of its history.
+pub record RunsScripts (options : Options) (book : Book) (scripts : List (List Request))
+    (outcome : Outcome) : Type 0 where
+  pub answers : AnswersScripts options book scripts outcome
+  pub start : IsStart options outcome.state
+      (book_after (opening_asked options) book outcome.history.entries)
 
 -- each worker of an auction has room for all rows and requests that a part may have
 abbrev pub HasRoomForPart : JoinedState → Type 0
@@ -96,6 +110,12 @@ pub record ServesPart (options : Options) (book : Book) (gone : Gone) (asked : A
   pub start : IsStart options served.auction
       (book_after (opening_asked options) (book ++ runs.added) runs.history)
   pub before : gone_by served.before ≡ gone_with gone (length runs.hot) asked.scripts
+
+-- Of what is asked for from a book, what is done is served.
+pub record ServesDone (options : Options) (book : Book) (gone : Gone) (asked : Asked)
+    (past : Option ℕ) (served : Served) (Holds : List ℕ → List ℕ → Type 0) : Type 0 where
+  pub are : AreDoneOf options book asked past
+  pub serves : ServesPart options book gone (done_of past asked) served Holds
 
 -- ---- why it is not done
 

@@ -3,7 +3,7 @@ ghost use Rattle.std.specs.Prelude.{false, [], Some};
 
 use crate::logs::mem_file::{MemFile, put_known};
 use crate::testing::assert_same;
-use part_log::{FileLog, Log, LogFault, NoLog, TellFault, Teller, tell_part};
+use part_log::{FileLog, Log, LogFault, NoLog, TellFault, tell_part};
 use std::alloc::Global;
 use std::io;
 use std::io::Write;
@@ -106,20 +106,16 @@ impl Write for Flushing {
 
 #[test]
 fn each_part_is_flushed(rt: HostRuntime) {
-    let writer = Flushing {
+    let mut writer = Flushing {
         written: Vec::new(rt.alloc()),
         flushed: 0,
     };
-    let mut teller = Teller { log: NoLog, writer };
     for (text, flushed) in [("one\n", 4), ("two\n", 8), ("", 8)] {
-        assert_same(&rt, teller.tell(b"row\n", text.as_bytes()).is_ok(), true);
-        assert_same(&rt, teller.writer.flushed, flushed);
+        let told = tell_part(&mut NoLog, &mut writer, b"row\n", text.as_bytes());
+        assert_same(&rt, told.is_ok(), true);
+        assert_same(&rt, writer.flushed, flushed);
     }
-    assert_same(
-        &rt,
-        teller.writer.written.as_slice(),
-        b"one\ntwo\n".as_slice(),
-    );
+    assert_same(&rt, writer.written.as_slice(), b"one\ntwo\n".as_slice());
 }
 
 #[test]

@@ -6,9 +6,10 @@ use crate::logs::mem_file::MemFile;
 use crate::testing::{assert_same, extend};
 use auction_rows::Refusal;
 use auction_text::{Cause, ReadFault};
-use log_opening::{LONGEST_ROW, OpenFault, cut_log, is_cut_row, open_parts, read_log, whole_lines};
+use log_opening::{LONGEST_ROW, OpenFault, cut_log, is_cut_row, open_parts, read_log};
 use part_log::AppendFile;
 use phase_floor::{AddFault, Joined};
+use record_reading::lines_end;
 use std::alloc::{AllocError, Global};
 use std::io;
 use std::io::Write;
@@ -137,7 +138,7 @@ fn a_line_that_was_cut_is_not_whole(rt: HostRuntime) {
         (b"a\n\n", 3),
     ];
     for (text, whole) in texts {
-        assert_same(&rt, whole_lines(text), whole);
+        assert_same(&rt, lines_end(text), whole);
     }
 }
 

@@ -1,5 +1,5 @@
-use Rattle.std.proofs.Common.{◌≡◌, ◌∙◌, ℕ, List, Option, None, Some, IfErr, IfOk, IfSome, length, refl, subst}
-use Rattle.log_opening.specs.{Opening.{IsRefused, Opens, TellsFirst}, inner.Files.{bytes_from}}
+use Rattle.std.proofs.Common.{◌≡◌, ◌∙◌, ℕ, List, Option, None, Some, IfErr, IfOk, IfSome, refl, subst}
+use Rattle.log_opening.specs.{Opening.{IsRefusedBy, Opens, TellsFirst}, inner.Files.{bytes_from}}
 use Rattle.log_opening.proofs.files.read_log.Goals as goal
 
 -- from its start a file is read whole
@@ -15,7 +15,7 @@ returns-clause-opens g c =
 pub returns-clause-refused : goal.returns-clause-refused
 returns-clause-refused g c =
     let auction = c.args.auction in
-    subst (λ text. IfErr c.open_parts.result (λ fault. IfSome text (IsRefused fault auction.limit (length auction.counters) auction.opening)))
+    subst (λ text. IfErr c.open_parts.result (λ fault. IfSome text (IsRefusedBy fault auction)))
     (c.of-reader.ensures ∙ from_start (g.F.AppendFile.held c.args.file.now)) c.open_parts.ensures.refused
 
 pub returns-clause-told : goal.returns-clause-told

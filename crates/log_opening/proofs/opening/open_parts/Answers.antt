@@ -22,7 +22,10 @@ end-requires-clause-no_end g c =
     let buffer = c.in-Ok.buffer in
     let new = c.read_parts.new.buffer in
     let same : length new ≡ length buffer.items = omega (arith, c.read_parts.ensures.len, ap length c.deref_mut.ensures.value) in
-    subst (λ (b : List ℕ). HasNoEnd (take c.in_ok-filled.filled b)) (sym (refilled buffer.len new buffer.items same (sym buffer.ok.0))) c.in_ok-filled.ensures.no_end
+    subst (λ (b : List ℕ). HasNoEnd (take c.in_ok-filled.filled b)) (sym (refilled buffer.len new buffer.items same (sym buffer.ok.0))) c.in_ok-filled.ensures.all.no_end
+
+pub end-requires-clause-can : goal.end-requires-clause-can
+end-requires-clause-can g c = c.in_ok-filled.ensures.all.can
 
 pub returns-clause-opens : goal.returns-clause-opens
 returns-clause-opens g c =
@@ -38,11 +41,11 @@ returns-clause-opens g c =
     let is = sym (refilled buffer.len new buffer.items same (sym buffer.ok.0)) in
     let held = take filled (take buffer.len (new ++ drop (length new) buffer.items)) in
     let was : IsReadTo text left told next reading held = subst (λ (b : List ℕ). IsReadTo text left told next reading (take filled b)) is c.in_ok-filled.ensures.read in
-    end_opens text left told next reading held was c.in_ok-filled.ensures.end c.end.result (subst (λ (b : List ℕ). HasNoEnd (take filled b)) is c.in_ok-filled.ensures.no_end)
-    c.end.ensures.auction c.end.ensures.rows c.end.ensures.kept c.end.ensures.tail c.end.ensures.cut
+    end_opens text left told next reading held was c.in_ok-filled.ensures.all.end c.end.result (subst (λ (b : List ℕ). HasNoEnd (take filled b)) is c.in_ok-filled.ensures.all.no_end)
+    c.end.ensures.opens c.end.ensures.tail c.end.ensures.cut
 
 pub returns-clause-same : goal.returns-clause-same
-returns-clause-same g c = end_same c.args.auction c.read_parts.new.self c.end.result c.in_ok-filled.ensures.same c.end.ensures.auction
+returns-clause-same g c = end_same c.args.auction c.read_parts.new.self c.end.result c.in_ok-filled.ensures.all.same c.end.ensures.opens
 
 pub returns-clause-refused : goal.returns-clause-refused
 returns-clause-refused g c =
@@ -58,7 +61,7 @@ returns-clause-refused g c =
     let held = take filled (take buffer.len (new ++ drop (length new) buffer.items)) in
     let was : IsReadTo text left told next reading held =
     subst (λ (b : List ℕ). IsReadTo text left told next reading (take filled b)) (sym (refilled buffer.len new buffer.items same (sym buffer.ok.0))) c.in_ok-filled.ensures.read in
-    end_refused text left told next reading held was c.in_ok-filled.ensures.end c.args.auction c.end.result c.in_ok-filled.ensures.same c.end.ensures.refused
+    end_refused text left told next reading held was c.in_ok-filled.ensures.all.end c.args.auction c.end.result c.in_ok-filled.ensures.all.same c.end.ensures.refused
 
 pub returns-clause-told : goal.returns-clause-told
 returns-clause-told g c =

@@ -3,27 +3,18 @@ use Rattle.clap.specs.{Matches.{has_subcommand}, Simple.{app_of}}
 use Rattle.program_options.proofs.WordLemmas.{given_found, no_fault, numbers_parsed, only_memory, texts_found, values_found}
 use Rattle.program_options.proofs.words.parse_words.Goals as goal
 
-pub returns-in-Ok-clause-texts : goal.returns-in-Ok-clause-texts
-returns-in-Ok-clause-texts c = λ free.
-    texts_found (app_of c.args.command) free (map string_bytes c.args.words.now) _ c.in-Ok.matches c.in-Ok.ensures.ok.2 refl
-
-pub returns-in-Ok-clause-values : goal.returns-in-Ok-clause-values
-returns-in-Ok-clause-values c = λ free.
-    values_found (app_of c.args.command) free (map string_bytes c.args.words.now) _ c.in-Ok.matches c.in-Ok.ensures.ok.2 refl
-
-pub returns-in-Ok-clause-given : goal.returns-in-Ok-clause-given
-returns-in-Ok-clause-given c = λ free.
-    given_found (app_of c.args.command) free (map string_bytes c.args.words.now) _ c.in-Ok.matches c.in-Ok.ensures.ok.2 refl
-
-pub returns-in-Ok-clause-numbers : goal.returns-in-Ok-clause-numbers
-returns-in-Ok-clause-numbers c = λ free.
+pub returns-in-Ok-clause-finds : goal.returns-in-Ok-clause-finds
+returns-in-Ok-clause-finds c = λ free.
     let old = c.args.command in
     let new = c.try_get_matches_from_mut.new.self in
-    numbers_parsed (app_of old) free old new c.in-Ok.matches (has_subcommand c.in-Ok.matches) c.in-Ok.ensures.ok.1 c.in-Ok.ensures.fails c.in-Ok.ensures.after refl
-
-pub returns-in-Ok-clause-taken : goal.returns-in-Ok-clause-taken
-returns-in-Ok-clause-taken c = λ free.
-    no_fault (app_of c.args.command) free (map string_bytes c.args.words.now) _ (c.in-Ok.ensures.kinds free) refl
+    let words = map string_bytes c.args.words.now in
+    record {
+      texts = texts_found (app_of old) free words _ c.in-Ok.matches c.in-Ok.ensures.ok.2 refl;
+      values = values_found (app_of old) free words _ c.in-Ok.matches c.in-Ok.ensures.ok.2 refl;
+      given = given_found (app_of old) free words _ c.in-Ok.matches c.in-Ok.ensures.ok.2 refl;
+      numbers = numbers_parsed (app_of old) free old new c.in-Ok.matches (has_subcommand c.in-Ok.matches) c.in-Ok.ensures.ok.1 c.in-Ok.ensures.fails c.in-Ok.ensures.after refl;
+      taken = no_fault (app_of old) free words _ (c.in-Ok.ensures.kinds free) refl;
+    }
 
 pub returns-clause-memory : goal.returns-clause-memory
 returns-clause-memory c = λ free taken. c.parse_fault.ensures

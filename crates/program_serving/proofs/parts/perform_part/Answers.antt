@@ -1,4 +1,4 @@
-use Rattle.std.proofs.Common.{◌≡◌, ◌∙◌, ◌+◌, ℕ, List, ap, arith, inl, inr, length, refl, subst, sym}
+use Rattle.std.proofs.Common.{◌≡◌, ◌∙◌, ◌+◌, ◌++◌, ℕ, List, ap, arith, inl, inr, length, refl, subst, sym}
 use Rattle.std.proofs.lemmas.List.{length-map}
 use Rattle.auction_rows.specs.Book.{Book}
 use Rattle.auction_run.specs.Phases.{hot_sets}
@@ -21,15 +21,16 @@ returns-clause-serves g c = λ book asked begun.
     let hot = hot_sets outcome.hot.items in
     let count : c.len.result ≡ length hot = c.len.ensures ∙ outcome.hot.ok.0 ∙ sym (length-map outcome.hot.items (λ set. set.keys)) in
     let same : part.next.phases ≡ part.before.phases + 0 = ap (λ (g : Gone). g.phases) c.requires.next in
-    let Holds : List ℕ → List ℕ → Type 0 = AreTold g.L.Log.accepted g.W.Write.contents c.args.teller.now.teller c.tell_part.new.teller.teller in
+    let Holds : List ℕ → List ℕ → Type 0 = AreTold g.L.Log.accepted g.W.Write.contents c.args.teller.now.teller c.tell_committed.new.teller.teller in
+    let ran = c.in_ok-outcome.ensures.runs (book ++ part.added.items) begun.begins in
     let served : Served = record { auction = outcome.state; rows = part.rows; before = c.in-Some.next } in
     let whole : ServesPart options book gone (record { rows = asked.rows; scripts = run }) served Holds = record {
-      runs = record { added = part.added.items; hot = hot; history = outcome.history.entries; adds = begun.adds; answer = c.in_ok-outcome.ensures.answers _ begun.begins; holds = c.in_ok-tell_part.ensures.told };
-      start = record { fits = c.in_ok-outcome.ensures.fits _ begun.begins; of = c.in_ok-outcome.ensures.left _ begun.begins };
+      runs = record { added = part.added.items; hot = hot; history = outcome.history.entries; adds = begun.adds; answer = ran.answers; holds = c.in_ok-tell_committed.ensures.told };
+      start = ran.start;
       before = same_gone (gone_by c.in-Some.next) (gone_with gone (length hot) run) (omega (arith, c.in-Some.ensures.phases, same, count))
           (λ worker. c.in-Some.ensures.requests worker ∙ ap (λ (g : Gone). g.requests worker) c.requires.next);
     } in
-    subst (λ (a : Asked). ServesPart options book gone a served Holds) begun.done whole
+    record { are = begun.are; serves = subst (λ (a : Asked). ServesPart options book gone a served Holds) begun.done whole }
 
 pub returns-clause-has : goal.returns-clause-has
 returns-clause-has g c = c.in_ok-outcome.ensures.has
@@ -63,7 +64,7 @@ returns-in_default-clause-cause g c = λ book asked before begun.
     let count : c.len.result ≡ length hot = c.len.ensures ∙ outcome.hot.ok.0 ∙ sym (length-map outcome.hot.items (λ set. set.keys)) in
     let same : part.next.phases ≡ part.before.phases + 0 = ap (λ (g : Gone). g.phases) c.requires.next in
     let past : HasPastPhases options book gone (record { rows = asked.rows; scripts = part.scripts.items }) = record {
-      runs = record { added = part.added.items; hot = hot; history = outcome.history.entries; adds = begun.adds; answer = c.in_ok-outcome.ensures.answers _ begun.begins; holds = tt };
+      runs = record { added = part.added.items; hot = hot; history = outcome.history.entries; adds = begun.adds; answer = (c.in_ok-outcome.ensures.runs (book ++ part.added.items) begun.begins).answers; holds = tt };
       past = omega (arith, c.in_default.ensures.none, same, count);
     } in
     record {
@@ -75,18 +76,18 @@ returns-in_default-clause-cause g c = λ book asked before begun.
       );
     }
 
-pub returns-in_err-tell_part-clause-cause : goal.returns-in_err-tell_part-clause-cause
-returns-in_err-tell_part-clause-cause g c =
+pub returns-in_err-tell_committed-clause-cause : goal.returns-in_err-tell_committed-clause-cause
+returns-in_err-tell_committed-clause-cause g c =
     let accepted = g.L.Log.accepted in
     let contents = g.W.Write.contents in
     let options = c.args.options.now in
     let part = c.args.begun in
     let outcome = c.in_ok-outcome.outcome in
     let old = c.args.teller.now.teller in
-    let new = c.tell_part.new.teller.teller in
-    let fault = c.in_err-tell_part.field-0.0 in
-    error_is c.from_residual-in_err-tell_part.result fault (λ (f : Fault). (book : Book) (asked : Asked) (before : ℕ) → IsBegun options book asked part.auction part.added.items part.scripts.items part.past
-    → FailsPart accepted contents old new options book (gone_by part.before) before asked f) c.from_residual-in_err-tell_part.ensures
+    let new = c.tell_committed.new.teller.teller in
+    let fault = c.in_err-tell_committed.field-0.0 in
+    error_is c.from_residual-in_err-tell_committed.result fault (λ (f : Fault). (book : Book) (asked : Asked) (before : ℕ) → IsBegun options book asked part.auction part.added.items part.scripts.items part.past
+    → FailsPart accepted contents old new options book (gone_by part.before) before asked f) c.from_residual-in_err-tell_committed.ensures
     (λ book asked before begun. record {
       past = part.past;
       are = begun.are;
@@ -95,7 +96,7 @@ returns-in_err-tell_part-clause-cause g c =
         hot = hot_sets outcome.hot.items;
         history = outcome.history.entries;
         adds = begun.adds;
-        answer = c.in_ok-outcome.ensures.answers _ begun.begins;
-        holds = c.in_err-tell_part.ensures.so_far;
+        answer = (c.in_ok-outcome.ensures.runs (book ++ part.added.items) begun.begins).answers;
+        holds = c.in_err-tell_committed.ensures.so_far;
       }));
     })

@@ -4,17 +4,14 @@ use Rattle.program_serving.proofs.StoppedRuns.{run_answers, run_fits, run_leaves
 use Rattle.program_serving.specs.ServeFaults.{AreNotRunOn}
 use Rattle.program_serving.proofs.parts.run_part.Goals as goal
 
-pub returns-in-Ok-clause-answers : goal.returns-in-Ok-clause-answers
-returns-in-Ok-clause-answers g c = λ book begins.
-    run_answers c.args.options.now c.args.auction c.policy.result c.args.scripts.items c.policy.ensures book begins c.in-Ok.outcome c.in-Ok.ensures.outcome
-
-pub returns-in-Ok-clause-left : goal.returns-in-Ok-clause-left
-returns-in-Ok-clause-left g c = λ book begins.
-    run_leaves c.args.options.now c.args.auction c.policy.result c.args.scripts.items c.policy.ensures book begins c.in-Ok.outcome c.in-Ok.ensures.left
-
-pub returns-in-Ok-clause-fits : goal.returns-in-Ok-clause-fits
-returns-in-Ok-clause-fits g c = λ book begins.
-    run_fits c.args.options.now c.args.auction c.policy.result c.args.scripts.items c.policy.ensures book begins c.in-Ok.outcome c.in-Ok.ensures.limit c.in-Ok.ensures.outcome
+pub returns-in-Ok-clause-runs : goal.returns-in-Ok-clause-runs
+returns-in-Ok-clause-runs g c = λ book begins. record {
+  answers = run_answers c.args.options.now c.args.auction c.policy.result c.args.scripts.items c.policy.ensures book begins c.in-Ok.outcome c.in-Ok.ensures.outcome;
+  start = record {
+    fits = run_fits c.args.options.now c.args.auction c.policy.result c.args.scripts.items c.policy.ensures book begins c.in-Ok.outcome c.in-Ok.ensures.limit c.in-Ok.ensures.outcome;
+    of = run_leaves c.args.options.now c.args.auction c.policy.result c.args.scripts.items c.policy.ensures book begins c.in-Ok.outcome c.in-Ok.ensures.left;
+  };
+}
 
 pub returns-in-Ok-clause-has : goal.returns-in-Ok-clause-has
 returns-in-Ok-clause-has g c = λ had. record { book = _; is_of = c.in-Ok.ensures.left had.book had.is_of }

@@ -4,7 +4,7 @@ use Rattle.auction_rows.specs.Book.{Book}
 use Rattle.auction_text.specs.{Moved.{BeforeView, gone_by}, Scripts.{asked_of}}
 use Rattle.program_opening.{proofs.ErrorLemmas.{error_is}, specs.declared.faults.Fault.{Fault}}
 use Rattle.program_serving.{proofs.ToldLemmas.{nothing_told}, specs.Serving.{AreTold}}
-use Rattle.program_serving.specs.inner.Parts.{AreDoneOf, BeginsAt, FailsPart, ServesPart, done_of, gone_with}
+use Rattle.program_serving.specs.inner.Parts.{BeginsPart, FailsPart, ServesDone, gone_with}
 use Rattle.program_serving.proofs.parts.serve_part.Goals as goal
 
 pub returns-clause-serves : goal.returns-clause-serves
@@ -12,16 +12,9 @@ returns-clause-serves g c =
     let options = c.args.options.now in
     let part = c.args.part in
     let Holds : List ℕ → List ℕ → Type 0 = AreTold g.L.Log.accepted g.W.Write.contents c.args.teller.now.teller c.perform_part.new.teller.teller in
-    IfOk-weaker c.perform_part.result _ (λ done. (book : Book) → BeginsAt options part.served.auction part.input.scripts.items book
-    → ServesPart options book (gone_by part.served.before) (done_of done.past (asked_of part.input)) done.served Holds)
-    (λ done serves book begins. subst (λ (b : BeforeView). ServesPart options book (gone_by b) (done_of done.past (asked_of part.input)) done.served Holds) c.in_ok-begun.ensures.before
+    IfOk-weaker c.perform_part.result _ (λ done. (book : Book) → BeginsPart options part book → ServesDone options book (gone_by part.served.before) (asked_of part.input) done.past done.served Holds)
+    (λ done serves book begins. subst (λ (b : BeforeView). ServesDone options book (gone_by b) (asked_of part.input) done.past done.served Holds) c.in_ok-begun.ensures.before
     (serves book (asked_of part.input) (c.in_ok-begun.ensures.begins book begins))) c.perform_part.ensures.serves
-
-pub returns-clause-past : goal.returns-clause-past
-returns-clause-past g c =
-    let part = c.args.part in
-    IfOk-weaker c.perform_part.result _ (λ done. (book : Book) → BeginsAt c.args.options.now part.served.auction part.input.scripts.items book → AreDoneOf c.args.options.now book (asked_of part.input) done.past)
-    (λ done same book begins. subst (AreDoneOf c.args.options.now book (asked_of part.input)) (sym same) (c.in_ok-begun.ensures.begins book begins).are) c.perform_part.ensures.past
 
 pub returns-clause-rows : goal.returns-clause-rows
 returns-clause-rows g c = IfOk-weaker c.perform_part.result _ _ (λ done same. same ∙ c.in_ok-begun.ensures.rows) c.perform_part.ensures.rows
@@ -37,7 +30,7 @@ returns-clause-cause g c =
     let part = c.args.part in
     let old = c.args.teller.now.teller in
     let new = c.perform_part.new.teller.teller in
-    IfErr-weaker c.perform_part.result _ (λ (f : Fault). (book : Book) → BeginsAt options part.served.auction part.input.scripts.items book
+    IfErr-weaker c.perform_part.result _ (λ (f : Fault). (book : Book) → BeginsPart options part book
     → FailsPart accepted contents old new options book (gone_by part.served.before) part.served.rows (asked_of part.input) f)
     (λ fault why book begins. subst (λ (b : BeforeView). FailsPart accepted contents old new options book (gone_by b) part.served.rows (asked_of part.input) fault) c.in_ok-begun.ensures.before
     (why book (asked_of part.input) part.served.rows (c.in_ok-begun.ensures.begins book begins))) c.perform_part.ensures.cause
@@ -52,7 +45,7 @@ returns-in_err-begun-clause-cause g c =
     let options = c.args.options.now in
     let part = c.args.part in
     let teller = c.args.teller.now.teller in
-    error_is c.from_residual.result c.in_err-begun.field-0.0 (λ (f : Fault). (book : Book) → BeginsAt options part.served.auction part.input.scripts.items book
+    error_is c.from_residual.result c.in_err-begun.field-0.0 (λ (f : Fault). (book : Book) → BeginsPart options part book
     → FailsPart accepted contents teller teller options book (gone_by part.served.before) part.served.rows (asked_of part.input) f) c.from_residual.ensures
     (λ book begins.
     let no = c.in_err-begun.ensures.cause book begins in

@@ -43,9 +43,9 @@ returns-clause-goes_on g c = λ book all start session.
     let done = c.in_ok-done.done in
     session_answered accepted contents options book all start next c.tell_past.new.teller.teller done.served Next done.past
     (part_served accepted contents options book all start mid next c.args.session.served (MayHaveToSay remaining options.workers (Some c.in-Some.left)) passed c.most_of_a_part.result (asked_of part.input) Next reads free
-    c.most_of_a_part.ensures.few c.most_of_a_part.ensures.room done.past done.served c.in_ok-done.ensures.past c.in_ok-done.ensures.rows c.in_ok-done.ensures.serves)
+    c.most_of_a_part.ensures.few c.most_of_a_part.ensures.room done.past done.served c.in_ok-done.ensures.serves c.in_ok-done.ensures.rows)
     (part_goes_on accepted contents options book all start mid next c.args.session.served (MayHaveToSay remaining options.workers (Some c.in-Some.left)) passed c.most_of_a_part.result (asked_of part.input) Next reads free
-    c.most_of_a_part.ensures.few c.most_of_a_part.ensures.room done.past c.in_ok-done.ensures.past)
+    c.most_of_a_part.ensures.few c.most_of_a_part.ensures.room done.past done.served c.in_ok-done.ensures.serves)
     c.in_ok-tell_past.ensures.told
 
 pub returns-clause-has : goal.returns-clause-has
@@ -135,7 +135,7 @@ returns-in_err-tell_past-clause-cause g c =
     let done = c.in_ok-done.done in
     answer_stops_all accepted contents options book all start next new done.served Next done.past
     (part_served accepted contents options book all start mid next c.args.session.served Left passed c.most_of_a_part.result (asked_of part.input) Next reads free
-    c.most_of_a_part.ensures.few c.most_of_a_part.ensures.room done.past done.served c.in_ok-done.ensures.past c.in_ok-done.ensures.rows c.in_ok-done.ensures.serves)
+    c.most_of_a_part.ensures.few c.most_of_a_part.ensures.room done.past done.served c.in_ok-done.ensures.serves c.in_ok-done.ensures.rows)
     (part_goes_on accepted contents options book all start mid next c.args.session.served Left passed c.most_of_a_part.result (asked_of part.input) Next reads free
-    c.most_of_a_part.ensures.few c.most_of_a_part.ensures.room done.past c.in_ok-done.ensures.past)
+    c.most_of_a_part.ensures.few c.most_of_a_part.ensures.room done.past done.served c.in_ok-done.ensures.serves)
     fault c.in_err-tell_past.ensures.so_far)

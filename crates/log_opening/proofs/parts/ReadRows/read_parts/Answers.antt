@@ -3,7 +3,7 @@ use Rattle.std.proofs.lemmas.List.{length-take-le}
 use Rattle.auction_text.specs.ReadFault.TheVariants as read
 use Rattle.log_opening.proofs.PartLemmas.{same_then}
 use Rattle.log_opening.proofs.ReadingLemmas.{error_is, held_more, not_read, read_more, refused_after, rows_within, told_first, told_some, too_long}
-use Rattle.log_opening.specs.{Opening.{IsRefused, TellsFirst}, Parts.{HasNoEnd}}
+use Rattle.log_opening.specs.{Opening.{IsRefusedBy, TellsFirst}, Parts.{HasNoEnd}}
 use Rattle.log_opening.specs.{declared.opening.OpenFault.{OpenFault}, inner.Reading.{IsReadTo}}
 use Rattle.log_opening.specs.declared.opening.OpenFault.TheVariants as fault
 use Rattle.log_opening.proofs.parts.ReadRows.read_parts.Goals as goal
@@ -21,11 +21,15 @@ pub returns-in_default-clause-told : goal.returns-in_default-clause-told
 returns-in_default-clause-told g c =
     told_first (g.R.Read.remaining c.args.reader.now) (g.R.Read.remaining c.loop.reader) (g.W.Write.contents c.args.told.now) (g.W.Write.contents c.loop.told) c.loop.self (take c.loop.filled c.loop.buffer) c.loop.invariant.read
 
-pub returns-then-now-filled-clause-no_end : goal.returns-then-now-filled-clause-no_end
-returns-then-now-filled-clause-no_end g c = subst HasNoEnd (sym c.in-Ok.ensures.keeps) c.loop.invariant.no_end
-
-pub returns-then-now-filled-clause-end : goal.returns-then-now-filled-clause-end
-returns-then-now-filled-clause-end g c = c.in-Ok.ensures.end c.if-now-filled.true (omega (arith, c.loop.invariant.filled, c.loop.invariant.len))
+pub returns-then-now-filled-clause-all : goal.returns-then-now-filled-clause-all
+returns-then-now-filled-clause-all g c =
+    let was = c.loop.invariant.read in
+    record {
+      no_end = subst HasNoEnd (sym c.in-Ok.ensures.keeps) c.loop.invariant.no_end;
+      can = record { book = was.book; has = was.has; room = omega (arith, c.loop.invariant.few, c.loop-test.true) };
+      end = c.in-Ok.ensures.end c.if-now-filled.true (omega (arith, c.loop.invariant.filled, c.loop.invariant.len));
+      same = c.loop.invariant.same;
+    }
 
 pub returns-then-now-filled-clause-read : goal.returns-then-now-filled-clause-read
 returns-then-now-filled-clause-read g c =
@@ -46,7 +50,7 @@ returns-in_err-filled-clause-refused g c =
     let held = take c.in-Ok.now c.read_more.new.buffer in
     let why = c.in_err-filled.field-0.0 in
     let was = held_more text (g.R.Read.remaining c.loop.reader) left start told c.loop.self (take c.loop.filled c.loop.buffer) held c.loop.invariant.read c.in-Ok.ensures.reads in
-    error_is c.from_residual.result why (λ (f : OpenFault). IfSome text (IsRefused f first.limit (length first.counters) first.opening)) c.from_residual.ensures
+    error_is c.from_residual.result why (λ (f : OpenFault). IfSome text (IsRefusedBy f first)) c.from_residual.ensures
     (refused_after text left start told c.loop.self held why first c.loop.invariant.same was (λ rest known. c.in_err-filled.ensures.refused was.book was.has rest))
 
 pub returns-in_err-filled-clause-told : goal.returns-in_err-filled-clause-told
@@ -65,7 +69,7 @@ pub overflow_add-result : goal.overflow_add-result
 overflow_add-result g c =
     let was = c.loop.invariant.read in
     let tells = c.in_ok-filled.ensures.reads was.book was.has in
-    omega (arith, rows_within c.take_lines.new.self (was.book ++ tells.more) tells.has, c.in_ok-filled.ensures.kept, c.loop.invariant.few, c.loop-test.true, c.in-Ok.ensures.within, c.read_more.ensures.len, c.loop.invariant.len)
+    omega (arith, rows_within c.take_lines.new.self (was.book ++ tells.more) tells.has, c.in_ok-filled.ensures.leaves.kept, c.loop.invariant.few, c.loop-test.true, c.in-Ok.ensures.within, c.read_more.ensures.len, c.loop.invariant.len)
 
 pub returns-then-filled-gt-LONGEST_ROW-clause-refused : goal.returns-then-filled-gt-LONGEST_ROW-clause-refused
 returns-then-filled-gt-LONGEST_ROW-clause-refused g c =
@@ -80,10 +84,10 @@ returns-then-filled-gt-LONGEST_ROW-clause-refused g c =
     let filled = c.in_ok-filled.filled in
     let behind = take filled c.take_lines.new.buffer in
     let was = read_more text (g.R.Read.remaining c.loop.reader) left start told next c.loop.self new (take c.loop.filled c.loop.buffer) longer behind c.loop.invariant.read c.in-Ok.ensures.reads c.in_ok-filled.ensures.reads in
-    let fits : filled ≤ length c.take_lines.new.buffer = omega (arith, c.in_ok-filled.ensures.within, c.in-Ok.ensures.within, c.read_more.ensures.len, c.take_lines.ensures.len) in
+    let fits : filled ≤ length c.take_lines.new.buffer = omega (arith, c.in_ok-filled.ensures.leaves.within, c.in-Ok.ensures.within, c.read_more.ensures.len, c.take_lines.ensures.len) in
     let long : length behind ≡ filled = length-take-le filled c.take_lines.new.buffer fits in
-    refused_after text left start next new behind (fault.Long (new.rows + 1)) first (same_then first c.loop.self.auction new.auction c.loop.invariant.same c.take_lines.ensures.same) was
-    (λ rest known. too_long new.auction.limit (length new.auction.counters) new.auction.opening was.book behind rest (new.rows + 1) c.in_ok-filled.ensures.no_end
+    refused_after text left start next new behind (fault.Long (new.rows + 1)) first (same_then first c.loop.self.auction new.auction c.loop.invariant.same c.in_ok-filled.ensures.leaves.same) was
+    (λ rest known. too_long new.auction.limit (length new.auction.counters) new.auction.opening was.book behind rest (new.rows + 1) c.in_ok-filled.ensures.leaves.no_end
     (omega (arith, long, c.if-filled-gt-LONGEST_ROW.true)) (omega (arith, long, fits, c.take_lines.ensures.len, c.read_more.ensures.len, c.loop.invariant.len)) (ap (λ (n : ℕ). n + 1) was.has.rows))
 
 pub returns-then-filled-gt-LONGEST_ROW-clause-told : goal.returns-then-filled-gt-LONGEST_ROW-clause-told
@@ -110,9 +114,9 @@ loop-preserved g c =
     record {
       len = c.take_lines.ensures.len ∙ c.read_more.ensures.len ∙ c.loop.invariant.len;
       filled = omega (arith, c.if-filled-gt-LONGEST_ROW.false);
-      few = omega (arith, c.in_ok-filled.ensures.kept, c.loop.invariant.few, c.in-Ok.ensures.within, c.read_more.ensures.len, c.loop.invariant.len);
-      same = same_then c.args.self.now.auction c.loop.self.auction c.take_lines.new.self.auction c.loop.invariant.same c.take_lines.ensures.same;
-      no_end = c.in_ok-filled.ensures.no_end;
+      few = omega (arith, c.in_ok-filled.ensures.leaves.kept, c.loop.invariant.few, c.in-Ok.ensures.within, c.read_more.ensures.len, c.loop.invariant.len);
+      same = same_then c.args.self.now.auction c.loop.self.auction c.take_lines.new.self.auction c.loop.invariant.same c.in_ok-filled.ensures.leaves.same;
+      no_end = c.in_ok-filled.ensures.leaves.no_end;
       read = read_more text (g.R.Read.remaining c.loop.reader) left start told next c.loop.self c.take_lines.new.self (take c.loop.filled c.loop.buffer) longer behind c.loop.invariant.read c.in-Ok.ensures.reads c.in_ok-filled.ensures.reads;
     }
 

@@ -3,7 +3,7 @@ use Rattle.auction_rows.specs.Book.{Book}
 use Rattle.phase_floor.specs.declared.adding.AddFault.TheVariants.{Memory}
 use Rattle.log_opening.proofs.PartLemmas.{added_next, added_yet, first_refused, not_taken, same_then}
 use Rattle.log_opening.specs.Parts.{HasAdded}
-use Rattle.log_opening.proofs.parts.add_rows.Goals as goal
+use Rattle.log_opening.proofs.adding.add_rows.Goals as goal
 
 pub returns-in-Err-clause-refused : goal.returns-in-Err-clause-refused
 returns-in-Err-clause-refused c = λ book start.

@@ -1,7 +1,7 @@
 use Rattle.std.proofs.Common.{◌++◌, ◌∙◌, ap}
 use Rattle.auction_text.specs.RowLines.{rows_text}
 use Rattle.program_serving.proofs.ToldLemmas.{if_known}
-use Rattle.program_serving.proofs.parts.logged_text.Goals as goal
+use Rattle.program_serving.proofs.telling.logged_text.Goals as goal
 
 pub returns-in-Ok-clause-text : goal.returns-in-Ok-clause-text
 returns-in-Ok-clause-text g c =

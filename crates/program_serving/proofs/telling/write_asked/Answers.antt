@@ -2,7 +2,7 @@ use Rattle.std.proofs.Common.{ap, ◌∙◌, subst}
 use Rattle.auction_text.specs.{Moved.{gone_by}, RowLines.{rows_text}}
 use Rattle.byte_texts.specs.Writing.{WritesText}
 use Rattle.program_serving.proofs.ToldLemmas.{rows_asked}
-use Rattle.program_serving.proofs.parts.write_part.Goals as goal
+use Rattle.program_serving.proofs.telling.write_asked.Goals as goal
 
 pub returns-then-options : goal.returns-then-options
 returns-then-options g c =

@@ -1,10 +1,10 @@
+-- Up to the place after its last line end a text is whole lines.
 use Rattle.std.proofs.Common.{arith, ◌≡◌, ◌==◌, ◌⊎◌, ◌≤◌, ◌<◌, ◌+◌, ◌-◌, ◌∙◌, ℕ, zero, suc, List, true, not, inl, inr, drop, get_or, length, slice_index, take, refl, sym, ap}
 use Rattle.std.proofs.lemmas.Bool.{false≢true}
 use Rattle.std.proofs.lemmas.List.{get_or-drop, get_or-take, length-drop, length-take-le}
 use Rattle.std.proofs.lemmas.List.Folds.{list_all_at}
 use Rattle.auction_text.specs.Lines.{EndsLine, has_no_feed}
 use Rattle.log_opening.specs.Lines.{AreWholeLines}
-use Rattle.log_opening.proofs.lines.whole_lines.Goals as goal
 
 module _ (text : List ℕ) (whole : ℕ) (within : whole ≤ length text) where
   last_end : (n : ℕ) → n ≤ length text → (0 < n → EndsLine (take n text)) → (n ≡ 0) ⊎ ((last : ℕ) × ((n ≡ last + 1) × (slice_index text last ≡ 10)))
@@ -17,7 +17,7 @@ module _ (text : List ℕ) (whole : ℕ) (within : whole ≤ length text) where
       inr (n, (omega arith, sym same ∙ ap (λ (at : ℕ). get_or (take (suc n) text) at 0) (sym place) ∙ line.feed))
 
   -- up to its last line end a text is whole lines
-  whole_lines_are : (0 < whole → EndsLine (take whole text)) → has_no_feed (drop whole text) ≡ true → AreWholeLines text whole
+  pub whole_lines_are : (0 < whole → EndsLine (take whole text)) → has_no_feed (drop whole text) ≡ true → AreWholeLines text whole
   whole_lines_are ends none = record {
     within = within;
     ended = last_end whole within ends;
@@ -27,6 +27,3 @@ module _ (text : List ℕ) (whole : ℕ) (within : whole ≤ length text) where
         let here : get_or (drop whole text) k 0 ≡ 10 = get_or-drop whole text k 0 ∙ ap (λ (at : ℕ). get_or text at 0) place ∙ ten in
         false≢true (sym (list_all_at (λ (byte : ℕ). not (byte == 10)) (drop whole text) k 0 (omega (arith, from, low, length-drop whole text)) (ap (λ (byte : ℕ). not (byte == 10)) here)) ∙ none);
   }
-
-pub returns : goal.returns
-returns c = whole_lines_are c.args.text.now c.lines_end.result c.lines_end.ensures.within c.lines_end.ensures.ends c.lines_end.ensures.rest

@@ -2,7 +2,7 @@ use Rattle.std.proofs.Common.{take}
 use Rattle.auction_rows.specs.Book.{Book}
 use Rattle.phase_floor.specs.Adding.{HasBook, IsSameAuction, IsStartOf}
 use Rattle.log_opening.specs.Parts.{HasAdded}
-use Rattle.log_opening.proofs.parts.add_rows.Given as goal
+use Rattle.log_opening.proofs.adding.add_rows.Given as goal
 
 abbrev pub invariant-loop-place : goal.invariant-loop-place
 invariant-loop-place l = record {
