@@ -1,7 +1,7 @@
 -- Where a line ends.
-use Rattle.std.proofs.Common.{◌≡◌, ◌≢◌, ◌⊎◌, inl, inr, ◌==◌, ℕ, ◌-◌, Bool, true, false, true≢false, cond, List, [], ◌∷◌, ◌++◌, length, length-append, take, drop, Option, None, Some, IfSome, Result, Ok, Err, IsErr, IsErrAnd, IfErr, All, refl, sym, ap, ◌∙◌, subst, arith}
-use Rattle.std.proofs.{Math.Seq.{take-append_seam}, lemmas.Bool.{eqb-true, eqb-false}}
-use Rattle.std.proofs.lemmas.List.{Elements.{recursion_from_All}, append_cancel_right}
+use Rattle.std.proofs.Common.{◌≡◌, ◌≢◌, ◌⊎◌, inl, inr, ◌==◌, ℕ, ◌-◌, Bool, true, false, true≢false, cond, List, [], ◌∷◌, ◌++◌, length, length-append, take, drop, Option, None, Some, IfSome, All, refl, sym, ap, ◌∙◌, subst, arith}
+use Rattle.std.proofs.lemmas.{Bool.{eqb-true, eqb-false}, List.{take_at}}
+use Rattle.std.proofs.lemmas.List.Elements.{recursion_from_All}
 use Rattle.std.specs.Io.{BufRead.{take_through, drop_through}, appended_bytes, StopsAt}
 use Rattle.application_log.specs.Lines.{HasNoEnd, IsWritten}
 
@@ -37,31 +37,13 @@ same_line (x ∷ line) (y ∷ other) rest more h g e =
     let both = same_line line other rest more h.1 g.1 (cc) in
     ((λ i. head i ∷ both.0 i), both.1)
 
--- what was read ends a line only if there is one
-pub ended_read : (bytes through rest line : List ℕ) → IsThrough bytes through rest → through ≡ line ++ 10 ∷ [] → bytes ≡ line ++ 10 ∷ rest
-ended_read bytes through rest line (inl all) e = absurd (no_line bytes line [] all.0 (sym all.1 ∙ e))
-ended_read bytes through rest line (inr one) e = one.3 ∙ ap (λ l. l ++ 10 ∷ rest) (append_cancel_right one.0 line (10 ∷ []) (sym one.2 ∙ e))
-
 -- what was read does not end a line: then there is none
 pub unended_read : (bytes through rest : List ℕ) → IsThrough bytes through rest → ((line : List ℕ) → through ≡ line ++ 10 ∷ [] → ⊥) → HasNoEnd bytes
 unended_read bytes through rest (inl all) other = all.0
 unended_read bytes through rest (inr one) other = absurd (other one.0 one.2)
 
-not_none : (xs : List ℕ) (x : ℕ) → [] ≡ xs ++ x ∷ [] → ⊥
-not_none [] x e = cc
-not_none (y ∷ xs) x e = cc
-
--- two lists that are the same have the same last element
-pub same_last : (xs ys : List ℕ) (x y : ℕ) → xs ++ x ∷ [] ≡ ys ++ y ∷ [] → x ≡ y
-same_last [] [] x y e = cc
-same_last [] (b ∷ ys) x y e = absurd (not_none ys y (cc))
-same_last (a ∷ xs) [] x y e = absurd (not_none xs x (cc))
-same_last (a ∷ xs) (b ∷ ys) x y e = same_last xs ys x y (cc)
-
 but_last : (line : List ℕ) (last : ℕ) → take (length (line ++ last ∷ []) - 1) (line ++ last ∷ []) ≡ line
-but_last line last =
-    let long : length (line ++ last ∷ []) - 1 ≡ length line = omega (arith, length-append line (last ∷ [])) in
-    ap (λ n. take n (line ++ last ∷ [])) long ∙ take-append_seam line (last ∷ [])
+but_last line last = take_at line (last ∷ []) (length (line ++ last ∷ []) - 1) (omega (arith, length-append line (last ∷ [])))
 
 drop_none : (xs : List ℕ) → drop 0 xs ≡ xs
 drop_none [] = refl
@@ -74,11 +56,6 @@ before_last old read line last none stops is =
     recursion_from_All (λ byte. byte ≢ 10) line
     (subst (All (λ byte. byte ≢ 10)) (but_last line last) (subst (λ bytes. StopsAt bytes 10) whole stops))
 
--- a line that was read into an empty buffer, and what is left
-pub line_read : (all old read line : List ℕ) → old ≡ [] → read ≡ old ++ take_through 10 all → read ≡ line ++ 10 ∷ [] → all ≡ line ++ 10 ∷ drop_through 10 all
-line_read all old read line none is ends =
-    ended_read all (take_through 10 all) (drop_through 10 all) line (through all) (ap (λ o. o ++ take_through 10 all) (sym none) ∙ sym is ∙ ends)
-
 -- what was read into an empty buffer ends no line: then none ends any more
 pub none_read : (known : Option (List ℕ)) (old read : List ℕ) → old ≡ [] → IfSome known (λ all. read ≡ old ++ take_through 10 all) →
     ((line : List ℕ) → read ≡ line ++ 10 ∷ [] → ⊥) → IfSome known HasNoEnd
@@ -86,11 +63,6 @@ none_read None old read none is other = tt
 none_read (Some all) old read none is other =
     unended_read all (take_through 10 all) (drop_through 10 all) (through all)
     (λ line ends. other line (is ∙ ap (λ o. o ++ take_through 10 all) none ∙ ends))
-
--- what holds of the bytes that are known
-pub if_known : (known : Option (List ℕ)) (P : List ℕ → Type 0) → ((all : List ℕ) → known ≡ Some all → P all) → IfSome known P
-if_known None P holds = tt
-if_known (Some all) P holds = holds all refl
 
 -- nothing is written of a request without a line
 pub unwritten : (o : Option (List ℕ)) (old new : List ℕ) → IsWritten o old new false → (o ≡ None) × (new ≡ old)
@@ -100,13 +72,3 @@ unwritten (Some line) old new is = absurd (true≢false (sym is.0))
 pub written : (o : Option (List ℕ)) (old new : List ℕ) → IsWritten o old new true → (line : List ℕ) × (o ≡ Some line) × (new ≡ old ++ line)
 written None old new is = absurd (true≢false is.0)
 written (Some line) old new is = (line, refl, is.1)
-
--- what is written into an empty buffer is the line
-pub written_alone : (o : Option (List ℕ)) (old new : List ℕ) → old ≡ [] → IsWritten o old new true → o ≡ Some new
-written_alone o old new none is =
-    let line = written o old new is in line.1 ∙ ap Some (ap (λ t. t ++ line.0) (sym none) ∙ sym line.2)
-
--- what holds of an error
-pub error_is : {T E : Type 0} (result : Result T E) (fault : E) (P : E → Type 0) → IsErr result × IsErrAnd result (λ x. x ≡ fault) → P fault → IfErr result P
-error_is (Ok x) fault P is holds = tt
-error_is (Err x) fault P is holds = subst P (sym is.1) holds

@@ -1,5 +1,5 @@
 -- Texts of requests, and the tables that they leave.
-use Rattle.std.proofs.Common.{◌≡◌, inl, inr, ◌+◌, ◌-◌, ◌≤◌, ◌<◌, ℕ, zero, suc, List, [], ◌∷◌, ◌++◌, length, length-append, length-set, take, drop, ◌^◌, append_assoc, get_or, true, false, Option, None, Some, IfSome, refl, sym, ap, ◌∙◌, subst, arith}
+use Rattle.std.proofs.Common.{◌≡◌, inl, inr, ◌+◌, ◌-◌, ◌≤◌, ◌<◌, ℕ, zero, suc, List, [], ◌∷◌, ◌++◌, length, length-append, take, drop, ◌^◌, append_assoc, get_or, true, false, Option, None, Some, IfSome, refl, sym, ap, ◌∙◌, subst, arith}
 use Rattle.std.proofs.{KnownBytes.{Appends-nil}, Math.Numerals.{add-one}}
 use Rattle.std.proofs.{Math.Seq.{take-append-add, take-suc}, lemmas.Bool.{cases_lt}}
 use Rattle.std.proofs.lemmas.Grind.{flat_map-append}
@@ -7,7 +7,7 @@ use Rattle.std.proofs.lemmas.List.{append-nil, take-append-drop, take-append-le}
 use Rattle.std.proofs.lemmas.List.{Elements.{filter_map-append}, Sums.{fold-append}}
 use Rattle.std.specs.{Io.KnownBytes.{Appends}, List.{zip, cons_option, flat_map, AllByRecursion}}
 use Rattle.split_engine.specs.Rules.{Rules, looks_in}
-use Rattle.split_engine.specs.Serial.{next, looks_at, after_act, after_acts, table_after, IsWithin}
+use Rattle.split_engine.specs.Serial.{next, looks_at, after_acts, table_after, IsWithin}
 use Rattle.split_engine.specs.declared.entry.Entry.{Entry}
 use Rattle.application_log.proofs.LineLemmas.{no_line, same_line, unwritten, written}
 use Rattle.application_log.specs.Faults.{HasLine, IsForMemory, IsOpenFault}
@@ -15,29 +15,12 @@ use Rattle.application_log.specs.Lines.{HasNoEnd, IsWritten, text_of}
 use Rattle.application_log.specs.Logs.{after_requests, lines_of, log_text, requests_of, HasOpened, IsReadBack}
 use Rattle.application_log.specs.declared.loggable.TheConstants.{MOST_LINES}
 use Rattle.application_log.specs.declared.opening.OpenFault.{OpenFault}
-use Rattle.application_log.specs.declared.opening.OpenFault.TheVariants.{NoRequest, NoSuchKey, TooLong, Read, Memory}
+use Rattle.application_log.specs.declared.opening.OpenFault.TheVariants.{NoRequest, NoSuchKey, TooLong}
+use Rattle.phase_laws.proofs.ListLemmas.{all-append, all-take}
 
 pub text_of-append : (xs ys : List (List ℕ)) → text_of (xs ++ ys) ≡ text_of xs ++ text_of ys
 text_of-append [] ys = refl
 text_of-append (x ∷ xs) ys = ap (λ t. x ++ 10 ∷ t) (text_of-append xs ys) ∙ sym (append_assoc x (10 ∷ text_of xs) (text_of ys))
-
-pub all_append : {X : Type 0} (P : X → Type 0) (xs ys : List X) → AllByRecursion P xs → AllByRecursion P ys → AllByRecursion P (xs ++ ys)
-all_append P [] ys h g = g
-all_append P (x ∷ xs) ys h g = (h.0, all_append P xs ys h.1 g)
-
-pub all_front : {X : Type 0} (P : X → Type 0) (xs ys : List X) → AllByRecursion P (xs ++ ys) → AllByRecursion P xs
-all_front P [] ys h = tt
-all_front P (x ∷ xs) ys h = (h.0, all_front P xs ys h.1)
-
-pub all_behind : {X : Type 0} (P : X → Type 0) (xs ys : List X) → AllByRecursion P (xs ++ ys) → AllByRecursion P ys
-all_behind P [] ys h = h
-all_behind P (x ∷ xs) ys h = all_behind P xs ys h.1
-
-pub all_take : {X : Type 0} (P : X → Type 0) (xs : List X) (k : ℕ) → AllByRecursion P xs → AllByRecursion P (take k xs)
-all_take P [] zero h = tt
-all_take P [] (suc k) h = tt
-all_take P (x ∷ xs) zero h = tt
-all_take P (x ∷ xs) (suc k) h = (h.0, all_take P xs k h.1)
 
 module _ {Request : Type 0} (line : Request → Option (List ℕ)) where
   pub log_text-append : (ps qs : List Request) → log_text line (ps ++ qs) ≡ log_text line ps ++ log_text line qs
@@ -217,7 +200,7 @@ module _ {Record Slice Look Request Reply Act : Type 0} (rules : Rules Record Sl
         | inr less ↦ (
           0,
           take n text,
-          all_take _ text n (is_one_line q text fits is),
+          all-take _ n text (is_one_line q text fits is),
           ap (take n) (log_text-logged line q qs text is) ∙ take-append-le n text (10 ∷ log_text line qs) less,
         )
       ]
@@ -243,8 +226,7 @@ module _ {Record Slice Look Request Reply Act : Type 0} (rules : Rules Record Sl
       let read = why.2 in
       let fewer = fewer_lines qs why.0 why.1 behind all read.in_range read.read_back cut (sym read.split ∙ is) in
       absurd (omega (arith, few, fewer, why.3))
-  never size (Read why) qs behind bytes all within few short cut is _ = tt
-  never size Memory qs behind bytes all within few short cut is _ = tt
+  never size fault qs behind bytes all within few short cut is _ = tt
 
 pub lines_of-take-le : {Request : Type 0} (line : Request → Option (List ℕ)) (hs ps : List Request) (k : ℕ) → length (lines_of line (hs ++ take k ps)) ≤ length (lines_of line (hs ++ ps))
 lines_of-take-le line hs ps k =
@@ -268,8 +250,8 @@ module _ {Record Slice Look Request Reply Act : Type 0} (rules : Rules Record Sl
       new_left ≡ next rules left q → new_lines ≡ lines + 1 → new_kept ≡ kept + (length text + 1) →
       HasOpened rules line IsInRange table (before ++ q ∷ []) new_left new_lines new_kept
   opened_more table left new_left before lines kept new_lines new_kept q text has fits is only leaves count size = record {
-    in_range = all_append IsInRange before (q ∷ []) has.in_range (fits, tt);
-    read_back = all_append (IsReadBack line IsInRange) before (q ∷ []) has.read_back (record { text = text; line_is = is; only = only }, tt);
+    in_range = all-append IsInRange before (q ∷ []) has.in_range (fits, tt);
+    read_back = all-append (IsReadBack line IsInRange) before (q ∷ []) has.read_back (record { text = text; line_is = is; only = only }, tt);
     leaves = leaves ∙ ap (λ t. next rules t q) has.leaves ∙ sym (fold-append (next rules) table before (q ∷ []));
     lines_are = omega (arith, count, has.lines_are, length-append before (q ∷ []));
     kept_are = omega (
@@ -360,9 +342,3 @@ no_text line qs none = no_lines (lines_of line qs) none
 -- they add nothing to a log
 pub none_added : {Request : Type 0} (line : Request → Option (List ℕ)) (qs : List Request) (log : Option (List ℕ)) → length (lines_of line qs) ≡ 0 → Appends log log (log_text line qs)
 none_added line qs log none = subst (Appends log log) (sym (no_text line qs none)) (Appends-nil log)
-
--- a table has as many records after acts
-pub length-acts : {Record Slice Look Request Reply Act : Type 0} (rules : Rules Record Slice Look Request Reply Act) (table : List Record) (acts : List (ℕ × Act)) →
-    length (after_acts rules table acts) ≡ length table
-length-acts rules table [] = refl
-length-acts rules table (x ∷ acts) = length-acts rules (after_act rules table x.0 x.1) acts ∙ length-set table x.0 _

@@ -2,17 +2,12 @@
 use Rattle.std.proofs.Common.{◌≡◌, ℕ, suc, ◌+◌, ◌-◌, ◌*◌, ◌/◌, ◌<◌, ◌≤◌, List, [], ◌∷◌, ◌++◌, length, take, get_or, refl, ap, sym, ◌∙◌, subst, arith}
 use mathlib.Core.List.{IsPrefix}
 use Rattle.std.{proofs.lemmas.List.{take_more}, specs.List.{AllByRecursion}}
+use Rattle.split_engine.proofs.{Counts.{total-append}, Splits.{length-acts}}
 use Rattle.split_engine.specs.{Rules.{Rules, most_acts}, Serial.{acts_at, next, table_after}}
 use Rattle.split_engine.specs.{Serving.{total}, declared.entry.Entry.{Entry}}
-use Rattle.application_window.proofs.Elements.{length-acts}
 use Rattle.application_window.specs.Published.{table_of, AreWithin}
 use Rattle.application_window.specs.inner.Copies.{HasParts, IsLastPart}
 use Rattle.published_parts.proofs.Growing.{before_last}
-
--- so many more commits
-pub total-snoc : {E : Type 0} (parts : List (List E)) (last : List E) → total (parts ++ last ∷ []) ≡ total parts + length last
-total-snoc [] last = omega arith
-total-snoc (part ∷ parts) last = let more = total-snoc parts last in omega arith
 
 -- so many commits do at most so many acts
 pub room_for : (acts more : ℕ) → acts ≤ most_acts → more ≤ (4294967296 - acts) / 4 → acts + 4 * more ≤ most_acts
@@ -70,5 +65,5 @@ module _ {Record Slice Look Request Reply Act : Type 0} (rules : Rules Record Sl
             fits = fits;
             few = few;
             fewer = omega (arith, held.fewer);
-            count = let snoc = total-snoc old last in let all = ap total grown in omega (arith, held.count);
+            count = let snoc = total-append old last in let all = ap total grown in omega (arith, held.count);
           }

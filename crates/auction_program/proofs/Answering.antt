@@ -10,8 +10,7 @@ use Rattle.item_shards.specs.declared.openings.ResumeFault.TheVariants as resume
 use Rattle.run_laws.specs.Answers.{IsAnswer}
 use Rattle.byte_texts.specs.declared.writing.WriteFault.{WriteFault}
 use Rattle.program_opening.specs.Options.{commits_text, opening_asked, policy_of}
-use Rattle.program_opening.specs.declared.faults.Fault.{Fault}
-use Rattle.program_opening.specs.declared.faults.Fault.TheVariants.{Usage, Read, Resume, Row, Make, Run, Limit, Write, Report, OpenLog, Log}
+use Rattle.program_opening.specs.declared.faults.Fault.{TheVariants.{Make, Run, Write}, Fault}
 use Rattle.program_opening.specs.declared.options.Options.{Options}
 use Rattle.auction_program.specs.Execution.{added_text, Answers, IsAllowed, IsCausedBy, IsNotRun, IsRefused, OfInput}
 use Rattle.auction_program.specs.declared.execution.Performed.{Performed}
@@ -66,18 +65,10 @@ module _ (options : Options) (rows : List Opened) (scripts : List (List Request)
   -- why the scripts were not performed
   pub not_performed : (fault : Fault) → AreRows (opening_asked options) rows → IsNotPerformed options fault (opening_rows (opening_asked options) rows) scripts
       → IfSome remaining (λ input. IsCausedBy options input fault)
-  not_performed (Usage fault) are why = absurd why
-  not_performed (Read fault) are why = absurd why
-  not_performed (Resume fault) are why = absurd why
-  not_performed (Row number fault) are why = absurd why
   not_performed (Make fault) are why =
       IfSome_then remaining (of_input (λ rs ss. AreRows (opening_asked options) rs) are) (λ input holds. (why, holds))
   not_performed (Run fault) are why = of_input (λ rs ss. AreRows (opening_asked options) rs × IsNotRun (policy_of options) fault (opening_rows (opening_asked options) rs) ss) (are, why)
-  not_performed (Limit most) are why = absurd why
-  not_performed (Write fault) are why = absurd why
-  not_performed Report are why = absurd why
-  not_performed (OpenLog fault) are why = absurd why
-  not_performed (Log fault) are why = absurd why
+  not_performed fault are why = absurd why
 
   module _ (start : Opening) (book shown : Book) (performed : Performed) (starts : start ≡ opening_asked options)
       (opens : book ≡ opening_rows start rows) (shows : shown ≡ book) (are : AreRows start rows)

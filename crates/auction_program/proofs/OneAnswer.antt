@@ -29,9 +29,8 @@ scripts_count workers (Err fault) asked is = absurd cc
 -- of one script there is one run
 same_runs : (opening : Opening) (book : Book) (policy : Policy) (scripts : List (List Request)) (hot others : List (List Object)) (history other : List Entry) → length scripts ≡ 1
     → IsAnswer opening book policy scripts hot history → IsAnswer opening book policy scripts others other → (history ≡ other) × (hot ≡ others)
-same_runs opening book policy [] hot others history other one first second = absurd (omega arith)
 same_runs opening book policy (asked ∷ []) hot others history other one first second = (same_history first second, same_hots first second)
-same_runs opening book policy (asked ∷ more ∷ rest) hot others history other one first second = absurd (omega arith)
+same_runs opening book policy scripts hot others history other one first second = absurd (omega arith)
 
 module _ (options : Options) (input text added other more : List ℕ) (one : options.workers ≡ 1)
     (first : IsAnsweredBy options input text added) (second : IsAnsweredBy options input other more) where

@@ -15,10 +15,9 @@ use Rattle.auction_reading.specs.inner.Said.{CanFollow, HasRead, WasRead, begun_
 set_joined : (xs ys : List (List Request)) (w : ℕ) (r : Request) → w < length ys → length xs ≡ length ys
     → slice_set (scripts_joined xs ys) w (slice_index_or (scripts_joined xs ys) w [] ++ r ∷ []) ≡ scripts_joined xs (slice_set ys w (slice_index_or ys w [] ++ r ∷ []))
 set_joined [] [] w r below same = refl
-set_joined [] (y ∷ ys) w r below same = absurd (cc)
-set_joined (x ∷ xs) [] w r below same = absurd (cc)
 set_joined (x ∷ xs) (y ∷ ys) zero r below same = ap (λ s. s ∷ scripts_joined xs ys) (append_assoc x y (r ∷ []))
 set_joined (x ∷ xs) (y ∷ ys) (suc w) r below same = ap (λ ss. (x ++ y) ∷ ss) (set_joined xs ys w r (omega (arith, below)) (omega (arith, same)))
+set_joined xs ys w r below same = absurd (cc)
 
 -- one record more
 record_joined : (said : Record) (a b : Asked) → said.worker < length b.scripts → length a.scripts ≡ length b.scripts → with_record said (joined a b) ≡ joined a (with_record said b)
@@ -90,9 +89,8 @@ can_follow workers false said asked can none = can
 
 joined_count : (xs ys : List (List Request)) → length xs ≡ length ys → length (scripts_joined xs ys) ≡ length xs
 joined_count [] [] same = refl
-joined_count [] (y ∷ ys) same = absurd (cc)
-joined_count (x ∷ xs) [] same = absurd (cc)
 joined_count (x ∷ xs) (y ∷ ys) same = ap suc (joined_count xs ys (omega (arith, same)))
+joined_count xs ys same = absurd (cc)
 
 -- a parcel that was read alone and then joined was read on
 pub parcel_read_on : (old parcel : WasRead) (text left : List ℕ) → CanJoin old parcel → HasRead (nothing_read (length parcel.asked.scripts)) text parcel left → HasRead old text (read_with old parcel) left

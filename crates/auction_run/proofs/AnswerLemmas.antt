@@ -14,13 +14,11 @@ use Rattle.auction_run.specs.Checks.{IsFirstToFail, IsFoundFirst, IsRefusedInOrd
 use Rattle.auction_run.specs.GoingOn.{AnswersNextRun, GivesBack, IsCheckedOn, IsReadyFor, IsStopped}
 use Rattle.auction_run.specs.{Runs.{AnswersRun}, declared.checks.Stopped.{Stopped}}
 use Rattle.auction_run.specs.declared.checks.Stopped.TheVariants.{Failed, Refused}
+use Rattle.item_shards.proofs.OpeningBookLemmas.{neither}
 
 -- two facts that are both so, or neither
 both : {P Q : Type 0} → P → Q → P ↔ Q
 both p q = ((λ _. q), λ _. p)
-
-neither : {P Q : Type 0} → ¬ P → ¬ Q → P ↔ Q
-neither first second = ((λ p. absurd (first p)), λ q. absurd (second q))
 
 -- nothing is said of an outcome where there is none
 pub no_outcome : {T E : Type 0} (result : Result T E) (Q : E → Type 0) (P : T → Type 0) → IsErrAnd result Q → IfOk result P
@@ -69,9 +67,7 @@ module _ (opening : Opening) (rows : Book) (policy : Policy) (scripts : List (Li
     quota = neither (λ told. cc told) (λ no. no.1.1 is.1.1.0);
     too_long = both refl is;
   }
-  refused_first Spawn is = absurd is
-  refused_first Memory is = absurd is
-  refused_first NumberFull is = absurd is
+  refused_first fault is = absurd is
 
   -- what is told is what was met
   told_met : (result : Result Outcome RunFault) → IfErr result (IsMet scripts) → (fault : RunFault) → IsErrOf result fault → IsMet scripts fault
@@ -124,9 +120,7 @@ module _ (opening : Opening) (rows : Book) (policy : Policy) (scripts : List (Li
   not_first have (Err Shards) answers P = λ is. absurd ((answers.refused.shards.0 refl).1 have.1.0)
   not_first have (Err Quota) answers P = λ is. absurd ((answers.refused.quota.0 refl).1.1 have.1.1.0)
   not_first have (Err TooLong) answers P = λ is. absurd ((answers.refused.too_long.0 refl).1.1.1 have.1.1.1)
-  not_first have (Err Spawn) answers P = λ is. absurd is
-  not_first have (Err Memory) answers P = λ is. absurd is
-  not_first have (Err NumberFull) answers P = λ is. absurd is
+  not_first have result answers P = λ is. absurd is
 
 -- a run that goes on says why it stopped
 pub answered_stopped : (state : JoinedState) (policy : Policy) (scripts : List (List Request)) (result : Result Outcome Stopped) (why : Stopped) → IsErrAnd result (λ stopped. stopped ≡ why) →
@@ -145,6 +139,4 @@ not_given_back state policy scripts ready (Err (Refused back fault)) answers P =
   at Shards bad = bad.1 ready.1.0
   at Quota bad = bad.1.1 ready.1.1.0
   at TooLong bad = bad.1.1.1 ready.1.1.1
-  at Spawn bad = bad
-  at Memory bad = bad
-  at NumberFull bad = bad
+  at fault bad = bad

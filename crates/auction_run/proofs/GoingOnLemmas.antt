@@ -36,7 +36,7 @@ rows_counted (one ∷ book) w =
     omega (arith, rest, more, rows)
 
 -- a worker's counters count its rows of each book of the state
-stored : (state : JoinedState) (rows : Book) → StandsFor state rows → (w : ℕ) → w < length state.counters → stores (counters_at state.counters w) ≡ rows_by rows w
+pub stored : (state : JoinedState) (rows : Book) → StandsFor state rows → (w : ℕ) → w < length state.counters → stores (counters_at state.counters w) ≡ rows_by rows w
 stored state rows stands w low =
     let counts = stands.counts w low in
     omega (arith, rows_counted rows w, counts.items, counts.bids, counts.comments, counts.buys)

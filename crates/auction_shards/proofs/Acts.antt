@@ -129,9 +129,7 @@ with_both shards act other state =
 -- a look at nothing is done nowhere
 with_writes : (shards : ℕ) (r : Row) (state : ShardState) → with_acts shards (first_act (writes_of r) ∷ second_act (writes_of r) ∷ []) state ≡ with_acts shards (writes_of r) state
 with_writes shards (row.Item r) state = refl
-with_writes shards (row.Bid r) state = refl
-with_writes shards (row.Comment r) state = refl
-with_writes shards (row.Buy r) state = refl
+with_writes shards r state = refl
 
 -- the two acts of a row write it
 pub both_written : (old last new : List ShardState) (r : Row) → HaveDone old last (first_act (writes_of r) ∷ []) → HaveDone last new (second_act (writes_of r) ∷ []) → HaveDone old new (writes_of r)
@@ -166,9 +164,7 @@ module _ (shards : List Shard) (one : AreOfOne (map state_of shards)) (object : 
       let its : Some (Item r.id) ≡ Some object = about in
       let same : Item r.id ≡ object = cc its in
       (((can_there_of (row.Item r) can).0 (done_there (AddItem r.id r.facts) its)).0, room r.id refl shard (subst (λ o. IsShardOf shards o shard) (sym same) is))
-  can_first (row.Bid r) can about room = (can_there_of (row.Bid r) can).0 (done_there (first_act (writes_of (row.Bid r))) about)
-  can_first (row.Comment r) can about room = (can_there_of (row.Comment r) can).0 (done_there (first_act (writes_of (row.Comment r))) about)
-  can_first (row.Buy r) can about room = (can_there_of (row.Buy r) can).0 (done_there (first_act (writes_of (row.Buy r))) about)
+  can_first r can about room = (can_there_of r can).0 (done_there (first_act (writes_of r)) about)
 
 -- a stored item can be listed in its category
 can_list : (old last : List Shard) (r : ItemRow) → AreOfOne (map state_of old) → CanWriteOn (map state_of old) (row.Item r)
@@ -194,6 +190,4 @@ can_second old last (row.Item r) one can done object shard is about =
     let its : Some (Category r.facts.category) ≡ Some object = about in
     let same : Category r.facts.category ≡ object = cc its in
     can_list old last r one can done shard (subst (λ o. IsShardOf last o shard) (sym same) is)
-can_second old last (row.Bid r) one can done object shard is about = tt
-can_second old last (row.Comment r) one can done object shard is about = tt
-can_second old last (row.Buy r) one can done object shard is about = tt
+can_second old last r one can done object shard is about = tt

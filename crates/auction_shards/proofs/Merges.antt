@@ -1,5 +1,5 @@
 -- A slice merged into the shard of its object leaves the shards of one auction.
-use Rattle.std.proofs.Common.{◌≡◌, ℕ, zero, suc, ◌<◌, ◌==◌, Bool, true, false, cond, List, [], ◌∷◌, Option, Some, None, length, map, get_or, set, refl, sym, ap, subst, ◌∙◌, arith}
+use Rattle.std.proofs.Common.{◌≡◌, ℕ, zero, suc, ◌<◌, ◌==◌, Bool, true, false, cond, List, ◌∷◌, Option, Some, None, length, map, get_or, set, refl, sym, ap, subst, ◌∙◌, arith}
 use Rattle.std.proofs.lemmas.List.{length-map, length-set, map-set}
 use Rattle.std.specs.Prelude.{IsSome, is_some}
 use Rattle.indexmap.specs.IndexMap.{get}
@@ -18,11 +18,9 @@ use Rattle.auction_shards.specs.Shards.{AreOfOne, opening_in, value_on}
 -- what no slice changes of a shard stays of all
 field_stays : {X : Type 0} (f : ShardState → X) (pair : Object × Slice) → ((state : ShardState) → f (with_slice state pair) ≡ f state)
     → (states : List ShardState) (s t : ℕ) → f (state_at (set states s (with_slice (state_at states s) pair)) t) ≡ f (state_at states t)
-field_stays f pair same [] s t = refl
 field_stays f pair same (state ∷ states) zero zero = same state
-field_stays f pair same (state ∷ states) zero (suc t) = refl
-field_stays f pair same (state ∷ states) (suc s) zero = refl
 field_stays f pair same (state ∷ states) (suc s) (suc t) = field_stays f pair same states s t
+field_stays f pair same states s t = refl
 
 module _ (states : List ShardState) (pair : Object × Slice) where
   pub as_many : length (after_merge states pair) ≡ length states

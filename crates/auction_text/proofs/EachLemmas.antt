@@ -34,10 +34,6 @@ pub all_made_at_end : {X E : Type 0} (made left : List (Result X E)) (xs : List 
 all_made_at_end {X} {E} made left xs so_far none =
     sym (append-nil (map Ok xs)) ∙ ap (λ (l : List (Result X E)). map Ok xs ++ l) (sym none) ∙ so_far
 
-pub none_left : {X : Type 0} (xs : List X) (n : ℕ) → n ≡ length xs → n ≡ 0 → xs ≡ []
-none_left [] n len none = refl
-none_left (x ∷ xs) n len none = absurd (omega (arith, len, none))
-
 module _ {X : Type 0} (of : ℕ → List X) where
   -- one list more
   pub each_more : (lists : List (Vec X)) (list : Vec X) (place : ℕ) → AreEach of lists → length lists ≡ place → list.items ≡ of place → AreEach of (lists ++ list ∷ [])

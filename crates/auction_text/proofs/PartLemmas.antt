@@ -1,21 +1,22 @@
 -- The entries of one worker after the other.
 use Rattle.std.proofs.Common.{◌≡◌, ◌<◌, ◌≤◌, ◌+◌, ◌==◌, ◌∙◌, ℕ, Bool, true, false, cond, nat_lt, not, List, [], ◌∷◌, ◌++◌, refl, sym, ap, arith, inl, inr, eq-eqb}
-use Rattle.std.proofs.lemmas.Bool.{Decides.{nat_tests}, and_parts, cases_Bool, cases_order}
-use Rattle.std.proofs.lemmas.List.{Elements.{filter-append}, Sorted.{ranks_by}, append-nil}
-use Rattle.std.specs.{Cmp.{IsStrictWeakOrder, nat_cmp_is}, List.{AllByRecursion, filter}}
-use Rattle.std.specs.{List.Sorted.{ties}, declared.cmp.Ordering.TheVariants.{Less}}
+use Rattle.std.proofs.lemmas.Bool.{and_parts, cases_Bool, cases_order, not-true}
+use Rattle.std.proofs.lemmas.{Bool.Decides.{nat_tests}, List.{Elements.{filter-append}, append-nil}}
+use Rattle.std.{proofs.lemmas.List.Sorted.{ranks_by}, specs.Cmp.{IsStrictWeakOrder, nat_cmp_is}}
+use Rattle.std.specs.List.{Sorted.{ties}, AllByRecursion, filter}
+use Rattle.std.specs.declared.cmp.Ordering.TheVariants.{Less}
 use Rattle.phase_laws.specs.Order.{part}
 use Rattle.auction_rows.specs.declared.rows.Entry.{Entry}
 use Rattle.worker_journals.specs.Journals.{entry_worker}
 use Rattle.auction_text.proofs.ReplyOrder.{precedence_total}
-use Rattle.auction_text.proofs.SortLemmas.{NoneBefore, not_false, one_in_order, ties-sorted, up-sorted}
+use Rattle.auction_text.proofs.SortLemmas.{NoneBefore, one_in_order, ties-sorted, up-sorted}
 use Rattle.auction_text.{proofs.TurnLemmas.{sorted-append}, specs.Order.{comes_before, in_order}}
 
 less_first : (a b : Entry) → a.worker < b.worker → comes_before a b ≡ true
 less_first a b less = rw (sym (nat_cmp_is a.worker b.worker Less less)) refl
 
 never : (b : Bool) → b ≡ true → not b ≡ true → ⊥
-never b holds fails = absurd (cc (sym holds ∙ not_false b fails))
+never b holds fails = absurd (cc (sym holds ∙ not-true b fails))
 
 -- those that tie are of one worker
 tie_worker : (t e : Entry) → ties comes_before t e ≡ true → e.worker ≡ t.worker

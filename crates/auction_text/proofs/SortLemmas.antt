@@ -1,15 +1,11 @@
 -- There is one list in order, and a sort finds it.
-use Rattle.std.proofs.Common.{◌≡◌, ◌∷◌, ◌∙◌, ◌<◌, ◌≤◌, ◌+◌, ℕ, zero, suc, Bool, true, false, cond, List, [], length, refl, sym, ap, subst, arith, get_or, inl, inr, not}
-use Rattle.std.proofs.lemmas.Bool.{cases_Bool, and_parts, false_from_ne_true, false≢true}
+use Rattle.std.proofs.Common.{◌≡◌, ◌∷◌, ◌∙◌, ◌<◌, ◌≤◌, ◌+◌, ℕ, zero, suc, Bool, true, false, cond, List, [], length, refl, sym, ap, subst, arith, get_or, inl, inr}
+use Rattle.std.proofs.lemmas.Bool.{cases_Bool, and_parts, false_from_ne_true, false≢true, not-true}
 use Rattle.std.proofs.lemmas.List.Sorted.{IsPermutation-cons, IsPermutation-middle, IsPermutation-refl, IsPermutation-trans, sorted_far}
 use Rattle.std.specs.{Cmp.{IsStrictWeakOrder}, List.{AllByRecursion, filter}}
 use Rattle.std.specs.List.Sorted.{IsPermutation, IsSortedBy, IsStableBy, ties}
 use Rattle.auction_text.specs.Order.{put_in, sorted}
 use Rattle.phase_laws.proofs.OrderLemmas.{all-cond}
-
-pub not_false : (b : Bool) → not b ≡ true → b ≡ false
-not_false true e = sym e
-not_false false e = refl
 
 -- the first that a filter keeps is one of the list
 first_if : {X : Type 0} (P : X → Type 0) (b : Bool) (y x : X) (kept rest : List X) → P y → (kept ≡ x ∷ rest → P x) → cond b (y ∷ kept) kept ≡ x ∷ rest → P x
@@ -24,8 +20,7 @@ first_kept P p (y ∷ ys) x rest all e = first_if P (p y) y x (filter p ys) rest
 pub kept_either : {X : Type 0} (b c : Bool) (x y : X) (l : List X) → (b ≡ true → c ≡ true → false ≡ true) →
     cond b (y ∷ cond c (x ∷ l) l) (cond c (x ∷ l) l) ≡ cond c (x ∷ cond b (y ∷ l) l) (cond b (y ∷ l) l)
 kept_either true true x y l never = absurd (cc (never refl refl))
-kept_either true false x y l never = refl
-kept_either false c x y l never = refl
+kept_either b c x y l never = refl
 
 rest_if : {X : Type 0} (b : Bool) (x : X) (l m : List X) → cond b (x ∷ l) l ≡ cond b (x ∷ m) m → l ≡ m
 rest_if true x l m e = cc e
@@ -64,10 +59,9 @@ module _ {X : Type 0} (lt : X → X → Bool) (order : IsStrictWeakOrder lt) whe
   up_from_sorted xs up = up_of xs (sorted_far lt order xs up)
 
   at_next : (xs : List X) → IsUp xs → (k : ℕ) (d : X) → suc k < length xs → lt (get_or xs (suc k) d) (get_or xs k d) ≡ false
-  at_next [] up k d within = absurd (omega arith)
-  at_next (x ∷ []) up k d within = absurd (omega arith)
   at_next (x ∷ y ∷ ys) up zero d within = up.0.0
   at_next (x ∷ y ∷ ys) up (suc k) d within = at_next (y ∷ ys) up.1 k d (omega arith)
+  at_next xs up k d within = absurd (omega arith)
 
   pub sorted_from_up : (xs : List X) → IsUp xs → IsSortedBy lt xs
   sorted_from_up xs up k d low within =
@@ -106,8 +100,8 @@ module _ {X : Type 0} (lt : X → X → Bool) (order : IsStrictWeakOrder lt) whe
 
   never_both : (t x y : X) → lt y x ≡ true → ties lt t y ≡ true → ties lt t x ≡ true → false ≡ true
   never_both t x y before tie_y tie_x =
-      let y_t : lt y t ≡ false = not_false (lt y t) (and_parts _ _ tie_y).1 in
-      let t_x : lt t x ≡ false = not_false (lt t x) (and_parts _ _ tie_x).0 in
+      let y_t : lt y t ≡ false = not-true (lt y t) (and_parts _ _ tie_y).1 in
+      let t_x : lt t x ≡ false = not-true (lt t x) (and_parts _ _ tie_x).0 in
       sym (order.chain y t x y_t t_x) ∙ before
 
   ties-put_in : (t x : X) (xs : List X) → filter (ties lt t) (put_in lt x xs) ≡ filter (ties lt t) (x ∷ xs)

@@ -1,8 +1,8 @@
 -- Lists in order that are put together: from the elements in turn and the late ones, and from two lists of which one goes first.
 use Rattle.std.proofs.Common.{◌≡◌, ◌<◌, ◌+◌, ◌∷◌, ℕ, drop, get_or, length, ◌++◌, ◌∙◌, Bool, true, false, cond, List, [], Option, Some, None, refl, sym, ap, inl, inr}
-use Rattle.std.proofs.lemmas.{Bool.{cases_Bool, and_parts}, List.{at_drop_more}}
+use Rattle.std.proofs.lemmas.{Bool.{cases_Bool, and_parts, not-true}, List.{at_drop_more}}
 use Rattle.std.specs.{Cmp.{IsStrictWeakOrder}, List.{Sorted.{ties}, AllByRecursion, filter}}
-use Rattle.auction_text.proofs.SortLemmas.{IsUp, NoneBefore, kept_either, none_put_in, none_weaker, not_false, one_in_order, put_in-first, ties-sorted, up-sorted}
+use Rattle.auction_text.proofs.SortLemmas.{IsUp, NoneBefore, kept_either, none_put_in, none_weaker, one_in_order, put_in-first, ties-sorted, up-sorted}
 use Rattle.auction_text.specs.Order.{put_in, sorted}
 use Rattle.auction_text.specs.inner.Turns.{front, in_turn, is_late, late, rest}
 
@@ -103,8 +103,8 @@ module _ {X : Type 0} (lt : X → X → Bool) (order : IsStrictWeakOrder lt) whe
   -- what ties with one does not tie with another that comes before it
   not_both : (t x y : X) → lt x y ≡ true → ties lt t y ≡ true → ties lt t x ≡ true → false ≡ true
   not_both t x y less tie_y tie_x =
-      let x_t : lt x t ≡ false = not_false (lt x t) (and_parts _ _ tie_x).1 in
-      let t_y : lt t y ≡ false = not_false (lt t y) (and_parts _ _ tie_y).0 in
+      let x_t : lt x t ≡ false = not-true (lt x t) (and_parts _ _ tie_x).1 in
+      let t_y : lt t y ≡ false = not-true (lt t y) (and_parts _ _ tie_y).0 in
       sym (order.chain x t y x_t t_y) ∙ less
 
   none_tie : (t x : X) (ys : List X) → IsBeforeAll x ys → AllByRecursion (λ y. ties lt t y ≡ true → ties lt t x ≡ true → false ≡ true) ys
@@ -146,8 +146,8 @@ module _ {X : Type 0} (lt : X → X → Bool) (order : IsStrictWeakOrder lt) whe
   late_ties t last x [] more all = tt
   late_ties t last x (y ∷ ys) more all = (
     (λ tie_y tie_x.
-        let x_t : lt x t ≡ false = not_false (lt x t) (and_parts _ _ tie_x).1 in
-        let t_y : lt t y ≡ false = not_false (lt t y) (and_parts _ _ tie_y).0 in
+        let x_t : lt x t ≡ false = not-true (lt x t) (and_parts _ _ tie_x).1 in
+        let t_y : lt t y ≡ false = not-true (lt t y) (and_parts _ _ tie_y).0 in
         sym (order.chain last x y more (order.chain x t y x_t t_y)) ∙ all.0),
     late_ties t last x ys more all.1,
   )

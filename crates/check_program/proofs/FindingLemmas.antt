@@ -1,6 +1,5 @@
 -- What is found of a history, by the text of its rows and scripts, and what is said of it.
-use Rattle.std.proofs.Common.{◌≡◌, ℕ, List, Option, Some, None, subst, sym}
-use Rattle.std.specs.Prelude.{IfSome, Ok}
+use Rattle.std.{proofs.Common.{◌≡◌, ℕ, List, Option, Some, subst, sym}, specs.Prelude.{IfSome, Ok}}
 use Rattle.auction_rows.specs.Book.{Book}
 use Rattle.auction_rows.specs.declared.{values.Opening.Opening, requests.Request.Request, requests.Opened.Opened}
 use Rattle.auction_text.specs.Scripts.{input_of}
@@ -29,9 +28,8 @@ module _ (options : Options) (rows : List Opened) (scripts : List (List Request)
       → IfSome left (λ text. IsVerdict opening start scripts options.order text line verdict)
       → IfSome left (λ text. IsAccepted opening start scripts options.order text → verdict ≡ Replays)
       → IfSome read (λ input. IfSome left (λ text. IsFound options input text line verdict))
-  known None left reads found accepted = tt
-  known (Some input) None reads found accepted = tt
   known (Some input) (Some text) reads found accepted = here input text reads found accepted
+  known read left reads found accepted = tt
 
   -- a text that says it of this line tells it
   pub tells : (read left : Option (List ℕ)) (asked : List (List Request)) → scripts ≡ asked

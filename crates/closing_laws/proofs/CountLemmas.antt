@@ -118,24 +118,17 @@ module _ (book : Book) (worker : ℕ) (counters : Counters) (counts : CountsOf b
   pub own_commit : (request : Request) (refused : Option Refusal)
       → (let given = answer_unless refused (answer book worker request) in CountsOf (book ++ option_to_list (row_of worker request given)) worker (counters_after counters given))
   own_commit (StoreItem facts time) None = own_if (worker == worker) _ (eq-eqb worker worker refl) (eq-eqb worker worker refl)
-  own_commit (StoreItem facts time) (Some reason) = uncounted
   own_commit (StoreBid bidder item amount time) None = own_if (worker == worker) _ (eq-eqb worker worker refl) (eq-eqb worker worker refl)
-  own_commit (StoreBid bidder item amount time) (Some reason) = uncounted
   own_commit (StoreComment author about item stars) None = own_if (worker == worker) _ (eq-eqb worker worker refl) (eq-eqb worker worker refl)
-  own_commit (StoreComment author about item stars) (Some reason) = uncounted
   own_commit (BuyNow buyer item quantity time) None = own_if (worker == worker) _ (eq-eqb worker worker refl) (eq-eqb worker worker refl)
-  own_commit (BuyNow buyer item quantity time) (Some reason) = uncounted
   own_commit (ViewItem item) None = at (facts_of book item) where
     at : (facts : Option Facts) → CountsOf (book ++ option_to_list (row_of worker (ViewItem item) (item_seen book item facts))) worker (counters_after counters (item_seen book item facts))
     at None = uncounted
     at (Some facts) = uncounted
-  own_commit (ViewItem item) (Some reason) = uncounted
   own_commit (ViewBids item) None = uncounted
-  own_commit (ViewBids item) (Some reason) = uncounted
   own_commit (ViewCategory category) None = uncounted
-  own_commit (ViewCategory category) (Some reason) = uncounted
   own_commit (ViewUser user) None = uncounted
-  own_commit (ViewUser user) (Some reason) = uncounted
+  own_commit request refused = uncounted
 
   other_if : (b : Bool) (one : Row) → worker_is worker one ≡ false → CountsOf (book ++ option_to_list (row_if b one)) worker counters
   other_if true one other = other_row one other
@@ -145,14 +138,7 @@ module _ (book : Book) (worker : ℕ) (counters : Counters) (counts : CountsOf b
   pub other_commit : (by : ℕ) (request : Request) (refused : Option Refusal) → (by == worker) ≡ false
       → CountsOf (book ++ option_to_list (row_of by request (answer_unless refused (answer book by request)))) worker counters
   other_commit by (StoreItem facts time) None other = other_if (by == by) _ other
-  other_commit by (StoreItem facts time) (Some reason) other = no_row
   other_commit by (StoreBid bidder item amount time) None other = other_if (by == by) _ other
-  other_commit by (StoreBid bidder item amount time) (Some reason) other = no_row
   other_commit by (StoreComment author about item stars) None other = other_if (by == by) _ other
-  other_commit by (StoreComment author about item stars) (Some reason) other = no_row
   other_commit by (BuyNow buyer item quantity time) None other = other_if (by == by) _ other
-  other_commit by (BuyNow buyer item quantity time) (Some reason) other = no_row
-  other_commit by (ViewItem item) refused other = no_row
-  other_commit by (ViewBids item) refused other = no_row
-  other_commit by (ViewCategory category) refused other = no_row
-  other_commit by (ViewUser user) refused other = no_row
+  other_commit by request refused other = no_row

@@ -57,27 +57,17 @@ sum_near y z = omega (arith, ints)
 -- after its slice is merged there is room for one less
 room_after : (object : Object) (s : Slice) (v : Value) (n : ℕ) → IsOfKind object s → HasAtMost MOST_COMMITS s → HasRoomFor object v (suc n) → HasRoomFor object (merged_with s v) n
 room_after (Item id) (slice.Item s) v n kind few room = (room.0, omega (arith, room.1, few))
-room_after (Item id) (slice.User s) v n kind few room = absurd kind
-room_after (Item id) (slice.Category s) v n kind few room = absurd kind
-room_after (User user) (slice.Item s) v n kind few room = absurd kind
 room_after (User user) (slice.User s) v n kind few room = (omega (arith, room.0, few.0), omega (arith, room.1, few.1, sum_near v.comments.rating s.rating))
-room_after (User user) (slice.Category s) v n kind few room = absurd kind
-room_after (Category category) (slice.Item s) v n kind few room = absurd kind
-room_after (Category category) (slice.User s) v n kind few room = absurd kind
 room_after (Category category) (slice.Category s) v n kind few room = tt
+room_after object s v n kind few room = absurd kind
 
 can_merge : (states : List ShardState) (object : Object) (s : Slice) (n : ℕ) → IsOfKind object s → HasAtMost MOST_COMMITS s → HasRoomFor object (value_on states object) (suc n) → CanMerge states (object, s)
 can_merge states (Item id) (slice.Item s) n kind few room = (room.0, omega (arith, room.1, few))
-can_merge states (Item id) (slice.User s) n kind few room = absurd kind
-can_merge states (Item id) (slice.Category s) n kind few room = absurd kind
-can_merge states (User user) (slice.Item s) n kind few room = absurd kind
 can_merge states (User user) (slice.User s) n kind few room =
     let v = value_on states (User user) in
     (fits_signed_from_abs w64 (v.comments.rating +ℤ s.rating) (omega (arith, room.1, few.1, sum_near v.comments.rating s.rating)), omega (arith, room.0, few.0))
-can_merge states (User user) (slice.Category s) n kind few room = absurd kind
-can_merge states (Category category) (slice.Item s) n kind few room = absurd kind
-can_merge states (Category category) (slice.User s) n kind few room = absurd kind
 can_merge states (Category category) (slice.Category s) n kind few room = tt
+can_merge states object s n kind few room = absurd kind
 
 -- how many are left, after the first
 first_counts : (b : Bool) (n : ℕ) → b ≡ true → cond b 1 0 + n ≡ suc n

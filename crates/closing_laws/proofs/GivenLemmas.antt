@@ -1,13 +1,11 @@
 -- What the boxes gave back: the shards after the lines of the transactions, which leave hot objects alone.
-use Rattle.std.proofs.Common.{◌≡◌, ℕ, ◌==◌, ◌&&◌, Bool, true, false, cond, not, List, [], ◌∷◌, filter, fold, map, length, ◌<◌, refl, sym, ap, ◌∙◌}
-use Rattle.std.{proofs.{Math.Nat.{mod-lt}, lemmas.Bool.{false≢true}}, specs.Option.{option_map_or}}
-use Rattle.auction_rows.{proofs.RequestLemmas.{same_object-true}, specs.Footprint.{is_hot}}
-use Rattle.auction_rows.specs.declared.requests.Object.{TheVariants.{Item, User, Category}, Object}
-use Rattle.auction_rows.specs.Requests.{number_of as object_number, same_object, shard_of}
-use Rattle.item_shards.proofs.EntryLemmas.{padded_leaves, few_done}
-use Rattle.item_shards.specs.Contents.{Contents, changed, target, after_act, after_acts, with_facts, item_listed, bid_on, comment_about, bought_of}
-use Rattle.item_shards.specs.Events.{Event, AddItem, ListItem, Bid, Comment, Buy, Look}
-use Rattle.item_shards.specs.{Values.{Value}, Writing.{acts_of, is_cold_in, is_done_on}}
+use Rattle.std.proofs.Common.{◌≡◌, ℕ, ◌==◌, ◌&&◌, Bool, true, false, cond, not, List, [], ◌∷◌, Option, Some, None, filter, fold, map, length, ◌<◌, refl, ap, ◌∙◌}
+use Rattle.std.{proofs.Math.Nat.{mod-lt}, specs.Option.{option_map_or}}
+use Rattle.auction_rows.specs.{Footprint.{is_hot}, declared.requests.Object.{Object}}
+use Rattle.auction_rows.specs.Requests.{number_of as object_number, shard_of}
+use Rattle.item_shards.proofs.{EntryLemmas.{padded_leaves, few_done}, StandingLemmas.{kept_after}}
+use Rattle.item_shards.specs.{Contents.{Contents, target, after_act, after_acts}, Events.{Event}}
+use Rattle.item_shards.specs.Writing.{acts_of, is_cold_in, is_done_on}
 use Rattle.shard_boxes.specs.Lines.{acts_in, after_lines, after_line}
 use Rattle.shard_boxes.specs.States.{ShardState, state_at}
 use Rattle.phase_transactions.specs.Txns.{Setting, Txn, hot_of, takes, line_on}
@@ -15,20 +13,12 @@ use Rattle.closing_laws.{proofs.ListLemmas.{all_txns, box, list_is}, specs.Histo
 use Rattle.closing_laws.specs.Phases.{Phase, HasClosed, value_on}
 
 module _ (here : Object → Bool) (object : Object) (away : here object ≡ false) where
-  -- a change of another object
-  left_alone : (contents : Contents) (about : Object) (change : Value → Value) → here about ≡ true → changed about change contents object ≡ contents object
-  left_alone contents about change is = at (same_object about object) refl where
-    at : (b : Bool) → same_object about object ≡ b → cond b (change (contents object)) (contents object) ≡ contents object
-    at true same = absurd (false≢true (sym away ∙ ap here (sym (same_object-true about object same)) ∙ is))
-    at false same = refl
-
+  -- an act on another object
   act_alone : (contents : Contents) (act : Event) → option_map_or here (target act) false ≡ true → after_act contents act object ≡ contents object
-  act_alone contents (AddItem id facts) is = left_alone contents (Item id) (with_facts facts) is
-  act_alone contents (ListItem category entry) is = left_alone contents (Category category) (item_listed entry) is
-  act_alone contents (Bid id entry) is = left_alone contents (Item id) (bid_on entry) is
-  act_alone contents (Comment user stars) is = left_alone contents (User user) (comment_about stars) is
-  act_alone contents (Buy id quantity) is = left_alone contents (Item id) (bought_of quantity) is
-  act_alone contents (Look shown) is = refl
+  act_alone contents act is = kept_after (λ o. not (here o)) contents object (ap not away) act (at (target act) is) where
+    at : (about : Option Object) → option_map_or here about false ≡ true → option_map_or (λ o. not (here o)) about false ≡ false
+    at None is = refl
+    at (Some about) is = ap not is
 
   acts_alone : (acts : List Event) (contents : Contents) → after_acts contents (filter (λ act. option_map_or here (target act) false) acts) object ≡ contents object
   acts_alone [] contents = refl

@@ -27,9 +27,8 @@ module _ {R Op : Type 0} {IsRecord : R → Type 0} {identity : R} {apply : R →
   keeps_if a (Some x) is = laws.apply_keeps_record a x is
 
   commute_if : (a : R) (x y : Option Op) → applied_if (applied_if a x) y ≡ applied_if (applied_if a y) x
-  commute_if a None y = refl
-  commute_if a (Some x) None = refl
   commute_if a (Some x) (Some y) = laws.applications_commute a x y
+  commute_if a x y = refl
 
   merge_if : (a b : R) (x : Option Op) → merge a (applied_if b x) ≡ applied_if (merge a b) x
   merge_if a b None = refl
@@ -101,13 +100,11 @@ bids_next id book (row.Buy r) = ap (λ (v : Value). v.bids) (value_next book (ro
   at false = refl
 
 comments_next : (user : ℕ) (book : Book) (one : Row) → (value (book ++ one ∷ []) (User user)).comments ≡ applied_if user_laws (value book (User user)).comments (row_stars user one)
-comments_next user book (row.Item r) = ap (λ (v : Value). v.comments) (value_next book (row.Item r) (User user))
-comments_next user book (row.Bid r) = ap (λ (v : Value). v.comments) (value_next book (row.Bid r) (User user))
 comments_next user book (row.Comment r) = ap (λ (v : Value). v.comments) (value_next book (row.Comment r) (User user)) ∙ at (r.about == user) where
   at : (b : Bool) → (cond b (comment_about r.stars (value book (User user))) (value book (User user))).comments ≡ applied_if user_laws (value book (User user)).comments (cond b (Some r.stars) None)
   at true = refl
   at false = refl
-comments_next user book (row.Buy r) = ap (λ (v : Value). v.comments) (value_next book (row.Buy r) (User user))
+comments_next user book one = ap (λ (v : Value). v.comments) (value_next book one (User user))
 
 items_next : (category : ℕ) (book : Book) (one : Row) → (value (book ++ one ∷ []) (Category category)).items ≡ applied_if category_laws (value book (Category category)).items (row_listing category one)
 items_next category book (row.Item r) = ap (λ (v : Value). v.items) (value_next book (row.Item r) (Category category)) ∙ at (r.facts.category == category) where
@@ -115,9 +112,7 @@ items_next category book (row.Item r) = ap (λ (v : Value). v.items) (value_next
       ≡ applied_if category_laws (value book (Category category)).items (cond b (Some (item_entry r)) None)
   at true = refl
   at false = refl
-items_next category book (row.Bid r) = ap (λ (v : Value). v.items) (value_next book (row.Bid r) (Category category))
-items_next category book (row.Comment r) = ap (λ (v : Value). v.items) (value_next book (row.Comment r) (Category category))
-items_next category book (row.Buy r) = ap (λ (v : Value). v.items) (value_next book (row.Buy r) (Category category))
+items_next category book one = ap (λ (v : Value). v.items) (value_next book one (Category category))
 
 module _ (book : Book) (entries : List Entry) (workers : List ℕ) (ordered : IsOrderedBy (λ v w. v < w) workers)
     (there : AllByRecursion (λ entry. list_any (λ w. entry_worker entry == w) workers ≡ true) entries) where

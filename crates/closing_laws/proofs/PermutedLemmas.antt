@@ -20,11 +20,10 @@ module _ {X V : Type 0} (step : V → X → V) (commute : (v : V) (x y : X) → 
   -- two elements changed over
   exchanged : (xs : List X) (i j : ℕ) (v : V) (d : X) → i < j → j < length xs → fold step v (set (set xs i (get_or xs j d)) j (get_or xs i d)) ≡ fold step v xs
   exchanged [] i j v d less within = absurd (omega (arith, within))
-  exchanged (x ∷ xs) zero zero v d less within = absurd (omega (arith, less))
   exchanged (x ∷ xs) zero (suc j) v d less within =
       through (set xs j x) v (get_or xs j d) ∙ replaced xs j v x d (omega (arith, within)) ∙ sym (through xs v x)
-  exchanged (x ∷ xs) (suc i) zero v d less within = absurd (omega (arith, less))
   exchanged (x ∷ xs) (suc i) (suc j) v d less within = exchanged xs i j (step v x) d (omega (arith, less)) (omega (arith, within))
+  exchanged xs i j v d less within = absurd (omega (arith, less))
 
   first : (xs : List X) → 0 < length xs → X
   first [] some = absurd (omega (arith, some))

@@ -28,14 +28,9 @@ changed_over {merge = merge} laws r a b = laws.merge_associative r a b ∙ ap (m
 
 merges_commute : (v : Value) (a b : Slice) → merged_with b (merged_with a v) ≡ merged_with a (merged_with b v)
 merges_commute v (slice.Item a) (slice.Item b) = ap (λ (s : ItemSlice). record v { bids = s }) (changed_over item_laws v.bids a b)
-merges_commute v (slice.Item a) (slice.User b) = refl
-merges_commute v (slice.Item a) (slice.Category b) = refl
-merges_commute v (slice.User a) (slice.Item b) = refl
 merges_commute v (slice.User a) (slice.User b) = ap (λ (s : UserSlice). record v { comments = s }) (changed_over user_laws v.comments a b)
-merges_commute v (slice.User a) (slice.Category b) = refl
-merges_commute v (slice.Category a) (slice.Item b) = refl
-merges_commute v (slice.Category a) (slice.User b) = refl
 merges_commute v (slice.Category a) (slice.Category b) = ap (λ (s : CategorySlice). record v { items = s }) (changed_over category_laws v.items a b)
+merges_commute v a b = refl
 
 either_commutes : (b c : Bool) (v : Value) (x y : Slice) → cond c (merged_with y (cond b (merged_with x v) v)) (cond b (merged_with x v) v) ≡ cond b (merged_with x (cond c (merged_with y v) v)) (cond c (merged_with y v) v)
 either_commutes true true v x y = merges_commute v x y

@@ -1,22 +1,18 @@
 -- The rows of two commits, which are published one after the other.
-use Rattle.std.proofs.Common.{◌≡◌, ◌<◌, ◌≤◌, List, [], ◌∷◌, ◌++◌, Option, Some, None, length, All, sym, ap, subst, ◌∙◌, arith, length-append}
+use Rattle.std.proofs.Common.{◌≡◌, ◌<◌, ◌≤◌, List, [], ◌∷◌, ◌++◌, length, All, sym, ap, subst, ◌∙◌, arith, length-append}
 use Rattle.std.proofs.lemmas.List.Elements.{All-from_recursion, recursion_from_All, filter_map-append}
-use Rattle.std.specs.List.{AllByRecursion, cons_option}
+use Rattle.std.specs.List.{AllByRecursion}
 use Rattle.auction_rows.proofs.HistoryLemmas.{book_after-replays, book_parts, rows_go_on}
 use Rattle.auction_rows.specs.Book.{Book, worker_of}
 use Rattle.auction_rows.specs.History.{GoOn, ReplaysFrom, book_after, row_of_entry, rows_of}
 use Rattle.auction_rows.specs.declared.{values.Opening.Opening, rows.Row.Row, rows.Entry.Entry}
 use Rattle.auction_window.specs.Published.{book_of}
-use Rattle.item_shards.specs.Serial.{CanFollow}
+use Rattle.item_shards.{proofs.CountLemmas.{of_kind}, specs.Serial.{CanFollow}}
 use Rattle.phase_floor.specs.States.{JoinedState, IsBookOf}
 use Rattle.phase_laws.proofs.{ListLemmas.{all-left, all-right}, OrderLemmas.{all-weaker}}
 
 rows_few : (es : List Entry) → length (rows_of es) ≤ length es
-rows_few [] = omega arith
-rows_few (e ∷ es) = at (row_of_entry e) (rows_few es) where
-  at : (o : Option Row) → length (rows_of es) ≤ length es → length (cons_option o (rows_of es)) ≤ length (e ∷ es)
-  at None few = omega (arith, few)
-  at (Some r) few = omega (arith, few)
+rows_few es = of_kind row_of_entry es
 
 -- the rows of a run of two commits are a book
 pub run_rows : (opening start : Opening) (rows : Book) (history es : List Entry) (state : JoinedState) → opening ≡ start → rows ≡ [] → es ≡ history → ReplaysFrom opening rows history

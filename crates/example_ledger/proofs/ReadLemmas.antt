@@ -1,5 +1,5 @@
 -- What is read of a line.
-use Rattle.std.proofs.Common.{◌≡◌, ◌⊎◌, inl, inr, ◌<◌, ◌^◌, ℕ, zero, suc, slice_index, List, Option, None, Some, IsSomeAnd, IsUtf8, codes, refl, sym, ◌∙◌, subst, arith}
+use Rattle.std.proofs.Common.{◌≡◌, ◌⊎◌, inl, inr, ◌<◌, ◌^◌, ℕ, suc, slice_index, List, Option, None, Some, IsSomeAnd, IsUtf8, codes, refl, sym, ◌∙◌, subst, arith}
 use Rattle.example_ledger.proofs.WordLemmas.{words_are_text}
 use Rattle.example_ledger.specs.Log.{words, line_of, HasNoBlank, IsInRange}
 use Rattle.example_ledger.specs.declared.ledger.LedgerRequest.{LedgerRequest}
@@ -18,30 +18,20 @@ pub record HasWords (q : LedgerRequest) (text : List ℕ) : Type 0 where
   pub kind : ((word ≡ codes "add") × (q ≡ Add account amount)) ⊎ ((word ≡ codes "take") × (q ≡ Take account amount))
 
 add_no_blank : HasNoBlank (codes "add")
-add_no_blank zero lt e = omega (arith, e)
-add_no_blank (suc zero) lt e = omega (arith, e)
-add_no_blank (suc (suc zero)) lt e = omega (arith, e)
 add_no_blank (suc (suc (suc i))) lt e = omega (arith, lt)
+add_no_blank i lt e = omega (arith, e)
 
 take_no_blank : HasNoBlank (codes "take")
-take_no_blank zero lt e = omega (arith, e)
-take_no_blank (suc zero) lt e = omega (arith, e)
-take_no_blank (suc (suc zero)) lt e = omega (arith, e)
-take_no_blank (suc (suc (suc zero))) lt e = omega (arith, e)
 take_no_blank (suc (suc (suc (suc i)))) lt e = omega (arith, lt)
+take_no_blank i lt e = omega (arith, e)
 
 add_ascii : (i : ℕ) → slice_index (codes "add") i < 128
-add_ascii zero = omega arith
-add_ascii (suc zero) = omega arith
-add_ascii (suc (suc zero)) = omega arith
 add_ascii (suc (suc (suc i))) = omega arith
+add_ascii i = omega arith
 
 take_ascii : (i : ℕ) → slice_index (codes "take") i < 128
-take_ascii zero = omega arith
-take_ascii (suc zero) = omega arith
-take_ascii (suc (suc zero)) = omega arith
-take_ascii (suc (suc (suc zero))) = omega arith
 take_ascii (suc (suc (suc (suc i)))) = omega arith
+take_ascii i = omega arith
 
 pub line_words : (q : LedgerRequest) (text : List ℕ) → IsInRange q → line_of q ≡ Some text → HasWords q text
 line_words (Add to amount) text fits e =

@@ -1,11 +1,12 @@
 -- The lines of texts.
 use Rattle.std.proofs.Common.{◌≡◌, ℕ, zero, suc, ◌+◌, ◌<◌, ◌≤◌, ◌==◌, Bool, true, false, cond, List, [], ◌∷◌, ◌++◌, Option, Some, None, length, take, get_or, append_assoc, refl, subst, sym, ap, ◌∙◌, arith}
-use Rattle.std.proofs.lemmas.List.{length-append}
+use Rattle.std.proofs.lemmas.Bool.{false_from_ne_true}
+use Rattle.std.proofs.lemmas.List.{length-append, append-nil, append_cancel_right}
 use Rattle.std.specs.Io.BufRead.{take_through, drop_through, DropsThrough}
 use Rattle.std.specs.{Io.KnownBytes.{Consumes, IsAtEnd, Keeps}, Prelude.{decimal, codes, ⊤, IfSome}}
 use Rattle.auction_rows.specs.declared.rows.Entry.{Entry}
 use Rattle.auction_text.specs.Replies.{history_line, reply_text}
-use Rattle.history_check.proofs.NumberLemmas.{numbers_apart, take_front}
+use Rattle.history_check.proofs.NumberLemmas.{numbers_apart}
 use Rattle.history_check.specs.CommitIds.{line_at, Fits, commit_id_of}
 use Rattle.history_check.specs.Texts.{with_byte, lines_of, history_lines}
 use Rattle.history_check.specs.{declared.lines.CommitId.{CommitId}, inner.Reading.{ReadsLine}}
@@ -48,10 +49,6 @@ next_read old new cleared line empty takes drops some = line_read old new line (
 
 -- ---- a line in what a reader holds
 
-not_true : (b : Bool) → (b ≡ true → ⊥) → b ≡ false
-not_true true never = absurd (never refl)
-not_true false never = refl
-
 -- what stands up to the first line feed is the first line
 front_line : (shown rest : List ℕ) (place : ℕ) → place < length shown → (get_or shown place 0 == 10) ≡ true → ((k : ℕ) → k < place → (get_or shown k 0 == 10) ≡ true → ⊥)
     → lines_of (take (place + 1) shown ++ rest) ≡ take (place + 1) shown ∷ lines_of rest
@@ -62,7 +59,7 @@ front_line (byte ∷ shown) rest (suc place) within here before =
     let next : suc place + 1 ≡ suc (place + 1) = omega arith in
     let left = take (place + 1) shown ++ rest in
     subst (λ n. lines_of (take n (byte ∷ shown) ++ rest) ≡ take n (byte ∷ shown) ∷ lines_of rest) (sym next)
-    (ap (λ b. cond b ((byte ∷ []) ∷ lines_of left) (with_byte byte (lines_of left))) (not_true (byte == 10) (before 0 (omega arith))) ∙ ap (with_byte byte) more)
+    (ap (λ b. cond b ((byte ∷ []) ∷ lines_of left) (with_byte byte (lines_of left))) (false_from_ne_true (byte == 10) (before 0 (omega arith))) ∙ ap (with_byte byte) more)
 
 pub held_line : (old new : Option (List ℕ)) (shown : List ℕ) (place : ℕ) → place < length shown → (get_or shown place 0 == 10) ≡ true → ((k : ℕ) → k < place → (get_or shown k 0 == 10) ≡ true → ⊥)
     → Consumes old new (take (place + 1) shown) → ReadsLine old new true (take (place + 1) shown)
@@ -117,10 +114,6 @@ left_read text old new history line before next = at old before.1 next where
       let same : rest ≡ before.0 = cc is_old in
       (lines_of next.0, before.2 ∙ ap (λ rest. history_lines history ++ lines_of rest) (sym same) ∙ ap (λ lines. history_lines history ++ lines) next.2)
 
-pub append_nil : {X : Type 0} (xs : List X) → xs ++ [] ≡ xs
-append_nil [] = refl
-append_nil (x ∷ xs) = ap (λ ys. x ∷ ys) (append_nil xs)
-
 pub all_read : (text : List ℕ) (old new : Option (List ℕ)) (history : List Entry) (line : List ℕ) → HasRead (Some text) old history
     → ReadsLine old new false line → history_lines history ≡ lines_of text
 all_read text old new history line before next = at old before.1 next where
@@ -128,7 +121,7 @@ all_read text old new history line before next = at old before.1 next where
   at None is_old next = absurd (cc is_old)
   at (Some rest) is_old next =
       let same : rest ≡ before.0 = cc is_old in
-      sym (before.2 ∙ ap (λ rest. history_lines history ++ lines_of rest) (sym same) ∙ ap (λ lines. history_lines history ++ lines) next ∙ append_nil (history_lines history))
+      sym (before.2 ∙ ap (λ rest. history_lines history ++ lines_of rest) (sym same) ∙ ap (λ lines. history_lines history ++ lines) next ∙ append-nil (history_lines history))
 
 pub history_lines_length : (history : List Entry) → length (history_lines history) ≡ length history
 history_lines_length [] = refl
@@ -139,11 +132,6 @@ long_read text now history before =
     omega (arith, ap length before.2, length-append (history_lines history) (lines_of before.0), history_lines_length history)
 
 -- ---- places of lines
-
-pub feed_apart : (t u : List ℕ) → t ++ 10 ∷ [] ≡ u ++ 10 ∷ [] → t ≡ u
-feed_apart t u same =
-    let longs : length t ≡ length u = omega (arith, ap length same, length-append t (10 ∷ []), length-append u (10 ∷ [])) in
-    sym (take_front t (10 ∷ [])) ∙ (λ k. take (longs k) (same k)) ∙ take_front u (10 ∷ [])
 
 -- a line is of one place and one text
 pub line_apart : (p q : CommitId) (t u : List ℕ) → Fits p → Fits q → line_at p t ≡ line_at q u → (p ≡ q) × (t ≡ u)
@@ -158,7 +146,7 @@ line_apart p q t u f g same =
     (decimal p.index ++ 32 ∷ (t ++ 10 ∷ []))
     (decimal q.index ++ 32 ∷ (u ++ 10 ∷ [])) (omega (arith, f.worker)) (omega (arith, g.worker)) number.1 in
     let index = numbers_apart p.index q.index (t ++ 10 ∷ []) (u ++ 10 ∷ []) (omega (arith, f.index)) (omega (arith, g.index)) worker.1 in
-    (λ k. record { phase = phase.0 k; number = number.0 k; worker = worker.0 k; index = index.0 k }, feed_apart t u index.1)
+    (λ k. record { phase = phase.0 k; number = number.0 k; worker = worker.0 k; index = index.0 k }, append_cancel_right t u (10 ∷ []) index.1)
 
 -- the same text, from its first part on
 in_turn : (a b c d r s : List ℕ) → (((a ++ 32 ∷ b) ++ 32 ∷ c) ++ 32 ∷ d) ++ (32 ∷ []) ++ r ++ s ≡ a ++ 32 ∷ (b ++ 32 ∷ (c ++ 32 ∷ (d ++ 32 ∷ (r ++ s))))

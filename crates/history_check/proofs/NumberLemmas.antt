@@ -1,8 +1,10 @@
 -- Numbers in decimal, and the space after one.
-use Rattle.std.proofs.Common.{◌≡◌, ℕ, zero, suc, ◌+◌, ◌<◌, ◌==◌, ◌&&◌, ◌⊎◌, ◌^◌, Bool, true, false, not, cond, List, [], ◌∷◌, ◌++◌, Some, None, length, take, drop, get_or, refl, subst, sym, ap, ◌∙◌, inl, inr, arith, rules}
+use Rattle.std.proofs.Common.{◌≡◌, ℕ, suc, ◌+◌, ◌<◌, ◌==◌, ◌&&◌, ◌⊎◌, ◌^◌, Bool, true, false, not, cond, List, [], ◌∷◌, ◌++◌, Some, None, length, take, drop, get_or, refl, subst, sym, ap, ◌∙◌, inl, inr, arith, rules}
+use Rattle.std.proofs.Math.Seq.{take-append_seam}
 use Rattle.std.proofs.lemmas.Bool.{eqb-true, eqb-false, false≢true, and_parts, and_from, ltb-true, lt-ltb, cases_eq}
 use Rattle.std.proofs.lemmas.Fmt.{digits_decimal, digits_value-decimal, decimal-digits_value, decimal_nonempty, first_decimal, decimal_digit}
-use Rattle.std.proofs.lemmas.{List.{Quantifiers.{position-Some}, length-append}, Option.{same_Some}}
+use Rattle.std.proofs.lemmas.List.{length-append, drop_more, take-append-drop}
+use Rattle.std.proofs.lemmas.{List.Quantifiers.{position-Some}, Option.{same_Some}}
 use Rattle.std.proofs.lemmas.Str.Parse.{IsNumeralModel, numerals_by_value}
 use Rattle.std.specs.{Char.{is_ascii_digit}, List.{list_all, position, prefix_len}}
 use Rattle.std.specs.{Prelude.{decimal, nat_lt}, Str.Parse.{digits_value}}
@@ -104,10 +106,6 @@ space_there n rest fits = space_after (decimal n) rest (digits_decimal own n fit
 pub space_is : (bytes : List ℕ) (n : ℕ) (rest : List ℕ) (space : ℕ) → n < 2 ^ 64 → bytes ≡ decimal n ++ 32 ∷ rest → Some space ≡ position is_space bytes → space ≡ length (decimal n)
 space_is bytes n rest space fits is e = same_Some space (length (decimal n)) (e ∙ ap (position is_space) is ∙ space_there n rest fits)
 
-pub take_front : (xs ys : List ℕ) → take (length xs) (xs ++ ys) ≡ xs
-take_front [] ys = refl
-take_front (x ∷ xs) ys = ap (λ zs. x ∷ zs) (take_front xs ys)
-
 one_more : (n : ℕ) → n + 1 ≡ suc n
 one_more n = omega arith
 
@@ -119,18 +117,13 @@ drop_front : (xs : List ℕ) (y : ℕ) (ys : List ℕ) → drop (length xs + 1) 
 drop_front xs y ys = ap (λ n. drop n (xs ++ y ∷ ys)) (one_more (length xs)) ∙ drop_past xs y ys
 
 pub front_is : (bytes : List ℕ) (n : ℕ) (rest : List ℕ) (space : ℕ) → bytes ≡ decimal n ++ 32 ∷ rest → space ≡ length (decimal n) → take space bytes ≡ decimal n
-front_is bytes n rest space is here = (λ k. take (here k) (is k)) ∙ take_front (decimal n) (32 ∷ rest)
+front_is bytes n rest space is here = (λ k. take (here k) (is k)) ∙ take-append_seam (decimal n) (32 ∷ rest)
 
 pub rest_is : (bytes : List ℕ) (n : ℕ) (rest : List ℕ) (space : ℕ) → bytes ≡ decimal n ++ 32 ∷ rest → space ≡ length (decimal n) → drop (space + 1) bytes ≡ rest
 rest_is bytes n rest space is here = (λ k. drop (here k + 1) (is k)) ∙ drop_front (decimal n) 32 rest
 
-cut_past : (bytes : List ℕ) (i : ℕ) → i < length bytes → take i bytes ++ get_or bytes i 0 ∷ drop (suc i) bytes ≡ bytes
-cut_past [] i less = absurd (omega arith)
-cut_past (x ∷ xs) zero less = refl
-cut_past (x ∷ xs) (suc i) less = ap (λ zs. x ∷ zs) (cut_past xs i (omega arith))
-
 cut : (bytes : List ℕ) (i : ℕ) → i < length bytes → take i bytes ++ get_or bytes i 0 ∷ drop (i + 1) bytes ≡ bytes
-cut bytes i less = ap (λ n. take i bytes ++ get_or bytes i 0 ∷ drop n bytes) (one_more i) ∙ cut_past bytes i less
+cut bytes i less = ap (λ xs. take i bytes ++ xs) (sym (drop_more bytes i 0 less)) ∙ take-append-drop i bytes
 
 pub split_here : (bytes : List ℕ) (space : ℕ) → Some space ≡ position is_space bytes → bytes ≡ take space bytes ++ 32 ∷ drop (space + 1) bytes
 split_here bytes space e =
@@ -150,7 +143,7 @@ no_number n fits e = (let none : None ≡ Some n = e ∙ text_number n fits in a
 pub numbers_apart : (m n : ℕ) (r s : List ℕ) → m < 2 ^ 64 → n < 2 ^ 64 → decimal m ++ 32 ∷ r ≡ decimal n ++ 32 ∷ s → (m ≡ n) × (r ≡ s)
 numbers_apart m n r s fits other same =
     let long : length (decimal m) ≡ length (decimal n) = space_is (decimal m ++ 32 ∷ r) n s (length (decimal m)) other same (sym (space_there m r fits)) in
-    let texts : decimal m ≡ decimal n = sym (take_front (decimal m) (32 ∷ r)) ∙ front_is (decimal m ++ 32 ∷ r) n s (length (decimal m)) same long in (
+    let texts : decimal m ≡ decimal n = sym (take-append_seam (decimal m) (32 ∷ r)) ∙ front_is (decimal m ++ 32 ∷ r) n s (length (decimal m)) same long in (
       sym (digits_value-decimal own m fits) ∙ ap (digits_value 10) texts ∙ digits_value-decimal own n other,
       sym (drop_front (decimal m) 32 r) ∙ rest_is (decimal m ++ 32 ∷ r) n s (length (decimal m)) same long,
     )

@@ -4,8 +4,7 @@ use Rattle.std.proofs.lemmas.{Bool.{eqb-true, and_from}, List.Elements.{All-head
 use Rattle.std.proofs.lemmas.List.Folds.{list_all-append}
 use Rattle.std.specs.Fmt.{signed_decimal, digits, digits_onto, digit_glyph}
 use Rattle.std.specs.{List.{flat_map, list_all, All}, Prelude.{decimal, codes, nat_lt}}
-use Rattle.auction_rows.specs.Name.{IsPrinting}
-use Rattle.auction_rows.specs.declared.replies.Refusal.TheVariants.{NoSuchUser, NoSuchCategory, NoSuchItem, BelowStart, Closed, SoldOut, NotEnough}
+use Rattle.auction_rows.specs.{Name.{IsPrinting}, declared.replies.Refusal.TheVariants.{NoSuchUser}}
 use Rattle.auction_rows.specs.declared.replies.Reply.TheVariants.{ItemStored, BidStored, CommentStored, Bought, ItemSeen, BidsSeen, CategorySeen, UserSeen, Refused}
 use Rattle.auction_rows.specs.declared.replies.{Refusal.Refusal, Reply.Reply, BidShown.BidShown, ItemShown.ItemShown}
 use Rattle.auction_rows.specs.Refusals.{refusal_text}
@@ -112,12 +111,7 @@ printing_one (byte ∷ text) all =
 
 refusal_one : (why : Refusal) → IsOneLine (refusal_text why)
 refusal_one NoSuchUser = refl
-refusal_one NoSuchCategory = refl
-refusal_one NoSuchItem = refl
-refusal_one BelowStart = refl
-refusal_one Closed = refl
-refusal_one SoldOut = refl
-refusal_one NotEnough = refl
+refusal_one why = refl
 
 pub reply_one : (reply : Reply) → ShowsName reply → IsOneLine (reply_text reply)
 reply_one (ItemStored id) named = id_one (codes "item ") id.worker id.serial refl

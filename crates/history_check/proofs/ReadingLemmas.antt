@@ -36,10 +36,9 @@ module _ (scripts : List (List Request)) (old new : Replay) (line text : List �
       → (entry : Entry) × (commit_id_of entry ≡ commit_id) × (text ≡ reply_text entry.reply) × HasTaken opening start scripts order (history ++ entry ∷ []) new))
       → IfOk result (λ is_right. OnTrue is_right ((opening : Opening) (start : Book) (order : Order) (history : List Entry) → HasTaken opening start scripts order history old
       → (entry : Entry) × (history_line entry ≡ line) × HasTaken opening start scripts order (history ++ entry ∷ []) new))
-  right_line (Err fault) right = tt
-  right_line (Ok false) right = tt
   right_line (Ok true) right = λ opening start order history taken.
       let told = right opening start order history taken in (told.0, line_is told.0 told.1 told.2, told.3)
+  right_line result right = tt
 
   pub wrong_line : (result : Result Bool CheckFault)
       → IfOk result (λ is_right. OnFalse is_right ((line : List ℕ) → IsLineOf line commit_id text
@@ -47,9 +46,8 @@ module _ (scripts : List (List Request)) (old new : Replay) (line text : List �
       → IsSomeAnd new.wrong (IsWrong opening start scripts order history line)))
       → IfOk result (λ is_right. OnFalse is_right ((opening : Opening) (start : Book) (order : Order) (history : List Entry) → HasTaken opening start scripts order history old
       → IsSomeAnd new.wrong (IsWrong opening start scripts order history line)))
-  wrong_line (Err fault) wrong = tt
-  wrong_line (Ok true) wrong = tt
   wrong_line (Ok false) wrong = wrong line read
+  wrong_line result wrong = tt
 
 -- what holds of what a value is, if there is one
 pub some_there : {X : Type 0} (o : Option X) (P : X → Type 0) → IsSomeAnd o P → IsSome o

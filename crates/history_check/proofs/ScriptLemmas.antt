@@ -1,5 +1,5 @@
 -- The requests of scripts, and their marks.
-use Rattle.std.proofs.Common.{◌≡◌, ℕ, zero, suc, ◌+◌, ◌<◌, ◌≤◌, ◌==◌, ◌&&◌, ◌⊎◌, Bool, true, false, cond, List, [], Some, length, get_or, set, refl, subst, sym, ap, ◌∙◌, inl, inr, arith}
+use Rattle.std.proofs.Common.{◌≡◌, ℕ, zero, suc, ◌+◌, ◌<◌, ◌≤◌, ◌==◌, ◌&&◌, ◌⊎◌, Bool, true, false, cond, List, [], Some, length, get_or, set, refl, sym, ap, ◌∙◌, inl, inr, arith, below_more}
 use Rattle.std.proofs.lemmas.Bool.{cases_lt, eqb-true, eq-eqb, false≢true, and_left, and_right}
 use Rattle.std.proofs.lemmas.List.{get_or_default, get_or-set_same, get_or-set_other}
 use Rattle.std.proofs.lemmas.Option.{slice_get_within, unwrap_or-slice_get}
@@ -42,10 +42,7 @@ script_there scripts i script less is = unwrap_or-slice_get scripts i [] ∙ sym
 
 -- what holds of the workers before one, and of that one, holds of those up to it
 pub one_worker_more : (P : ℕ → ℕ → Type 0) (n : ℕ) → ((w i : ℕ) → w < n → P w i) → ((i : ℕ) → P n i) → (w i : ℕ) → w < n + 1 → P w i
-one_worker_more P n before here w i less = at (cases_lt w n) where
-  at : (w < n) ⊎ (n ≤ w) → P w i
-  at (inl earlier) = before w i earlier
-  at (inr later) = let same : n ≡ w = omega (arith, less, later) in subst (λ w. P w i) same (here i)
+one_worker_more P n before here w i less = below_more (λ v. P v i) n (λ v. before v i) (here i) w less
 
 -- ---- marks
 
@@ -99,9 +96,8 @@ wide_new (suc n) row len zero less = len
 wide_new (suc n) row len (suc k) less = wide_new n row len k (omega arith)
 
 none_marked : (n worker : ℕ) → get_or (replicate n false) worker false ≡ false
-none_marked zero worker = refl
-none_marked (suc n) zero = refl
 none_marked (suc n) (suc worker) = none_marked n worker
+none_marked n worker = refl
 
 pub unmarked_new : (n wide worker index : ℕ) → is_marked (replicate n (replicate wide false)) worker index ≡ false
 unmarked_new zero wide worker index = refl

@@ -1,6 +1,6 @@
 -- What is found of a whole text.
 use Rattle.std.proofs.Common.{◌≡◌, ℕ, ◌+◌, ◌<◌, ◌≤◌, Bool, true, false, cond, List, [], ◌∷◌, ◌++◌, Some, None, length, refl, subst, sym, ap, ◌∙◌, arith}
-use Rattle.std.proofs.lemmas.Bool.{ltb-true, ltb-false, lt-ltb}
+use Rattle.std.proofs.lemmas.{Bool.{ltb-true, ltb-false, lt-ltb}, List.{append-nil}}
 use Rattle.std.proofs.lemmas.List.Sums.{sum_by-append, sum_by-cons}
 use Rattle.std.proofs.lemmas.Option.{slice_get_within, none-some, same_Some}
 use Rattle.std.specs.{List.{AllByRecursion}, Prelude.{count_by, nat_lt}}
@@ -10,8 +10,7 @@ use Rattle.auction_rows.specs.declared.{values.Opening.Opening, requests.Request
 use Rattle.auction_text.specs.Replies.{history_line, reply_text}
 use Rattle.run_laws.specs.Serving.{script_of}
 use Rattle.history_check.proofs.EntryLemmas.{same_request, own_request}
-use Rattle.history_check.proofs.LineLemmas.{append_nil, entry_line, line_apart}
-use Rattle.history_check.proofs.TurnLemmas.{ordered_before}
+use Rattle.history_check.proofs.{LineLemmas.{entry_line, line_apart}, TurnLemmas.{ordered_before}}
 use Rattle.history_check.specs.Checking.{GoWell, IsAccepted, OfLine, OfRequest, IsWrong, IsVerdict}
 use Rattle.history_check.specs.{CommitIds.{Fits, entry_with_id, commit_id_of}, Orders.{MayPrecede}}
 use Rattle.history_check.specs.{Scripts.{request_at, is_of}, Texts.{history_lines, lines_of}}
@@ -153,13 +152,13 @@ module _ (opening : Opening) (start : Book) (scripts : List (List Request)) (ord
     at [] split lines = no_first line is.rest lines
     at (e ∷ after) split lines = not_wrong is.before e after line why split (cons-first (history_line e) line (history_lines after) is.rest lines) is.wrong
   found line (Lacks worker index) is =
-      (let more = begins is.history [] is.go_well (sym is.lines_are ∙ sym (append_nil (history_lines is.history))) in absurd (at more.0 more.1 more.2)) where
+      (let more = begins is.history [] is.go_well (sym is.lines_are ∙ sym (append-nil (history_lines is.history))) in absurd (at more.0 more.1 more.2)) where
         at : (after : List Entry) → ok.history ≡ is.history ++ after → history_lines after ≡ [] → ⊥
         at (e ∷ after) split lines = no_first (history_line e) (history_lines after) (sym lines)
         at [] split lines =
             omega (
               arith,
               is.in_no_line,
-              ap (count_by (is_of worker index)) (split ∙ append_nil is.history),
+              ap (count_by (is_of worker index)) (split ∙ append-nil is.history),
               ok.once worker index ∙ ap (λ b. cond b 1 0) (lt-ltb index (length (script_of scripts worker)) is.has_request),
             )

@@ -2,12 +2,13 @@
 use Rattle.std.proofs.Common.{◌≡◌, ℕ, zero, suc, ◌+◌, ◌<◌, ◌≤◌, ◌||◌, min, false, cond, if◌then◌else◌, List, [], ◌∷◌, ◌++◌, map, filter, take, length, get_or, refl, sym, ap, ◌∙◌, arith, add-one}
 use Rattle.std.proofs.{Math.Seq.{take-suc}, lemmas.Bool.{lt-leb}}
 use Rattle.std.proofs.lemmas.List.{get_or-take, get_or-map, length-take, length-map, map-append, take-map, take_min}
-use Rattle.std.specs.{List.{IsDistinct, AllByRecursion, list_any}, Prelude.{nat_le}}
+use Rattle.std.specs.{List.{IsDistinct, list_any}, Prelude.{nat_le}}
 use Rattle.auction_rows.proofs.RequestLemmas.{eq_is_same, same_either_way}
 use Rattle.auction_rows.specs.{Requests.{same_object}, declared.requests.Object.{Object}}
 use Rattle.auction_rows.specs.contracts.requests.ObjectPartialEq.TheImpl.{eq-value as object_eq}
 use Rattle.hot_choice.specs.declared.choice.Candidate.{Candidate}
 use Rattle.hot_choice.specs.inner.Ranking.{candidate, hot_ones}
+use Rattle.phase_laws.proofs.ListLemmas.{all-get_or}
 
 -- ---- gathering
 
@@ -19,18 +20,13 @@ module _ (threshold : ℕ) (items : List Candidate) (row : Object × ℕ) (rows 
 
 -- ---- taking the first
 
-all_or : {X : Type 0} (P : X → Type 0) (xs : List X) (i : ℕ) (d : X) → AllByRecursion P xs → i < length xs → P (get_or xs i d)
-all_or P [] i d all less = absurd (omega arith)
-all_or P (x ∷ xs) zero d all less = all.0
-all_or P (x ∷ xs) (suc i) d all less = all_or P xs i d all.1 (omega arith)
-
 -- of distinct objects none stands among those before it
 none_before : (objects : List Object) (i : ℕ) (d : Object) → IsDistinct same_object objects → i < length objects → list_any (same_object (get_or objects i d)) (take i objects) ≡ false
 unfolding IsDistinct
 none_before [] i d distinct less = absurd (omega arith)
 none_before (x ∷ xs) zero d distinct less = refl
 none_before (x ∷ xs) (suc i) d distinct less =
-    ap (λ b. b || list_any (same_object (get_or xs i d)) (take i xs)) (same_either_way (get_or xs i d) x ∙ all_or (λ y. same_object x y ≡ false) xs i d distinct.0 (omega arith))
+    ap (λ b. b || list_any (same_object (get_or xs i d)) (take i xs)) (same_either_way (get_or xs i d) x ∙ all-get_or (λ y. same_object x y ≡ false) xs i d (omega arith) distinct.0)
     ∙ none_before xs i d distinct.1 (omega arith)
 
 any_is : (object : Object) (keys : List Object) → list_any (object_eq.it object) keys ≡ list_any (same_object object) keys

@@ -15,14 +15,9 @@ and_then_equal Greater = refl
 
 object_order_is : (a b : Object) → object_order.it a b ≡ object_cmp a b
 object_order_is (Item i) (Item j) = refl
-object_order_is (Item i) (User user) = refl
-object_order_is (Item i) (Category category) = refl
-object_order_is (User user) (Item j) = refl
 object_order_is (User user) (User other) = and_then_equal (nat_cmp user other)
-object_order_is (User user) (Category category) = refl
-object_order_is (Category category) (Item j) = refl
-object_order_is (Category category) (User user) = refl
 object_order_is (Category category) (Category other) = and_then_equal (nat_cmp category other)
+object_order_is a b = refl
 
 order_is : (a b : Candidate) → candidate_order.it a b ≡ candidate_cmp a b
 order_is a b = ap (ordering_then (nat_cmp b.heat.0 a.heat.0)) (object_order_is a.object b.object)

@@ -56,13 +56,7 @@ module _ (opening : Opening) (number shards : ℕ) (rooms : ItemId → Bool) (co
 
   looks_can : (saw : Option (Facts × ℕ)) (answered : Reply) (request : Request) → AllByRecursion Can (looks_of saw answered request)
   looks_can saw answered (StoreItem facts time) = tt
-  looks_can saw answered (StoreBid bidder item amount time) = (λ e. tt, tt)
-  looks_can saw answered (StoreComment author about item stars) = (λ e. tt, tt)
-  looks_can saw answered (BuyNow buyer item quantity time) = (λ e. tt, tt)
-  looks_can saw answered (ViewItem item) = (λ e. tt, tt)
-  looks_can saw answered (ViewBids item) = (λ e. tt, tt)
-  looks_can saw answered (ViewCategory category) = (λ e. tt, tt)
-  looks_can saw answered (ViewUser user) = (λ e. tt, tt)
+  looks_can saw answered request = (λ e. tt, tt)
 
   module _ (few : length book < 2 ^ 59) (worker : ℕ) where
     abbrev IsRoomFor : Reply → Type 0
@@ -112,13 +106,7 @@ module _ (opening : Opening) (number shards : ℕ) (rooms : ItemId → Bool) (co
 
     refused_can : (request : Request) (reason : Refusal) → AllByRecursion Can (writes_if (row_of worker request (Refused reason)))
     refused_can (StoreItem facts time) reason = tt
-    refused_can (StoreBid bidder item amount time) reason = tt
-    refused_can (StoreComment author about item given) reason = tt
-    refused_can (BuyNow buyer item quantity time) reason = tt
-    refused_can (ViewItem item) reason = tt
-    refused_can (ViewBids item) reason = tt
-    refused_can (ViewCategory category) reason = tt
-    refused_can (ViewUser user) reason = tt
+    refused_can request reason = tt
 
     writes_can : (request : Request) (refused : Option Refusal) → refusal opening book request ≡ refused → IsRoomFor (answer_unless refused (answer book worker request))
         → AllByRecursion Can (writes_if (row_of worker request (answer_unless refused (answer book worker request))))

@@ -8,10 +8,9 @@ use Rattle.item_shards.specs.declared.shard.{Shard.{Shard}, acts.Act.{Act}}
 
 -- a list of two is its two elements
 pub two_of : (acts : List Act) (a b : Act) → length acts ≡ 2 → acts ≡ get_or acts 0 a ∷ get_or acts 1 b ∷ []
-two_of [] a b is = absurd (cc)
-two_of (x ∷ []) a b is = absurd (cc)
 two_of (x ∷ y ∷ []) a b is = refl
 two_of (x ∷ y ∷ z ∷ acts) a b is = absurd (omega arith)
+two_of acts a b is = absurd (cc)
 
 -- what can be done after the first act can be done on the shard that it leaves
 pub can_next : (old new : Shard) (first second : Event) → IsSameShard old new → rooms new ≡ rooms old → contents new ≡ after_act (contents old) first

@@ -19,10 +19,8 @@ use Rattle.item_shards.specs.Writing.{looks_of, writes_of, writes_if, acts_of, i
 
 -- the looks at nothing leave the contents
 pub padded_leaves : (contents : Contents) (acts : List Event) → length acts ≤ 2 → after_acts contents (padded acts) ≡ after_acts contents acts
-padded_leaves contents [] few = refl
-padded_leaves contents (act ∷ []) few = refl
-padded_leaves contents (act ∷ other ∷ []) few = refl
 padded_leaves contents (act ∷ other ∷ more ∷ acts) few = absurd (omega (arith, few))
+padded_leaves contents acts few = refl
 
 -- an entry has at most two acts
 with_row : (looks : List Event) (b : Bool) (one : Row) → length looks + length (writes_of one) ≤ 2 → length (looks ++ writes_if (row_if b one)) ≤ 2

@@ -32,9 +32,7 @@ module _ (number shards : ℕ) (hot : List Object) (contents : Contents) where
   writes_hold : (one : Option Row) → AllByRecursion (λ act. is_done_on number shards hot act ≡ true → IsTrueAct contents act) (writes_if one)
   writes_hold None = tt
   writes_hold (Some (row.Item r)) = (λ e. tt, (λ e. tt, tt))
-  writes_hold (Some (row.Bid r)) = (λ e. tt, tt)
-  writes_hold (Some (row.Comment r)) = (λ e. tt, tt)
-  writes_hold (Some (row.Buy r)) = (λ e. tt, tt)
+  writes_hold one = (λ e. tt, tt)
 
   module _ (opening : Opening) (book : Book) (stands : ContentsStandsFor number shards contents book hot) where
     at_object : (object : Object) → here object ≡ true → contents object ≡ value book object

@@ -2,7 +2,7 @@
 use Rattle.std.proofs.Common.{◌≡◌, ℕ, zero, suc, ◌+◌, ◌*◌, ◌<◌, ◌≤◌, ◌==◌, Bool, true, false, cond, not, ◌&&◌, List, [], ◌∷◌, ◌++◌, All, map, Option, Some, None, option_to_list, is_some, is_none, length, take, drop, fold, get_or, refl, sym, ap, subst, ◌∙◌, arith, append_assoc}
 use Rattle.std.proofs.lemmas.Bool.{eqb-true, eq-eqb, false≢true}
 use Rattle.std.proofs.lemmas.List.{length-append, take-append-drop, length-take-le, append-nil}
-use Rattle.std.proofs.lemmas.List.Elements.{All-push}
+use Rattle.std.proofs.lemmas.List.Elements.{All-push, recursion_from_All}
 use Rattle.std.proofs.lemmas.List.Sums.{fold_push, sum_by-append, sum_by-cons, sum_by_push}
 use Rattle.std.specs.List.{AllByRecursion, cons_option}
 use Rattle.std.specs.Prelude.{◌↔◌, Result, Ok, Err, IfOk, OnOk, IsOkUnless, IsErrOf, IsErrAnd, IsTrue}
@@ -215,13 +215,9 @@ module _ (start : Opening) where
       let rest = rows_again (with_opened start book (opened_of row)) rows goes.1 known.1 in
       ((one.0, rest.0), rest.1 ∙ ap (λ b. b ++ rows) one.1 ∙ append_assoc book (row ∷ []) rows)
 
-by_recursion : {X : Type 0} (P : X → Type 0) (xs : List X) → All P xs → AllByRecursion P xs
-by_recursion P [] known = tt
-by_recursion P (x ∷ xs) known = (known 0 x (omega arith), by_recursion P xs (λ k d within. known (suc k) d (omega (arith, within))))
-
 pub opened_again : (start : Opening) (book : Book) → IsBook start book → All (λ row. worker_of row < 16) book
     → AreRows start (map opened_of book) × (opening_rows start (map opened_of book) ≡ book)
-opened_again start book is known = rows_again start [] book is (by_recursion (λ row. worker_of row < 16) book known)
+opened_again start book is known = rows_again start [] book is (recursion_from_All (λ row. worker_of row < 16) book known)
 
 -- ---- answers
 

@@ -32,9 +32,8 @@ no_row_added start book opened none row =
     false≢true (sym (ap is_some none) ∙ made start book opened ∙ (λ i. not (row.store i) && is_none (row.accepted i)))
 
 both : (view : Bool) (refused : Option Refusal) → (not view && is_none refused) ≡ true → (view ≡ false) × (refused ≡ None)
-both true refused e = absurd (false≢true e)
 both false None e = (refl, refl)
-both false (Some reason) e = absurd (false≢true e)
+both view refused e = absurd (false≢true e)
 
 pub row_added : (start : Opening) (book : Book) (opened : Opened) (row : Row) → opened.worker < 16 → row_at start book opened ≡ Some row
     → IsRow start book opened × (with_opened start book opened ≡ book ++ row ∷ [])

@@ -13,8 +13,8 @@ use Rattle.auction_rows.specs.Refusals.{number_refusal, item_refusal, refusal, f
 use Rattle.auction_rows.specs.Replies.{reply, row_of}
 use Rattle.auction_rows.specs.Requests.{is_view, item_of, shard_of}
 use Rattle.auction_rows.specs.declared.requests.Object.TheVariants.{Item, User, Category}
-use Rattle.auction_rows.specs.declared.requests.Request.TheVariants.{StoreItem, StoreBid, StoreComment, BuyNow, ViewItem, ViewBids, ViewCategory, ViewUser}
-use Rattle.auction_rows.specs.declared.{values.Opening.Opening, requests.ItemId.ItemId, requests.Facts.Facts, requests.Object.Object, requests.Request.Request, replies.Reply.Reply, rows.Row.Row}
+use Rattle.auction_rows.specs.declared.requests.Request.TheVariants.{ViewItem, ViewBids, ViewCategory, ViewUser}
+use Rattle.auction_rows.specs.declared.{values.Opening.Opening, requests.ItemId.ItemId, requests.Facts.Facts, requests.Object.Object, requests.Request.Request, replies.Reply.Reply, rows.ItemRow.ItemRow, rows.BidRow.BidRow, rows.CommentRow.CommentRow, rows.BuyRow.BuyRow, rows.Row.Row}
 use Rattle.auction_rows.specs.declared.rows.Row.TheVariants as row
 use Rattle.auction_rows.specs.Book as book
 use Rattle.auction_rows.proofs.HistoryLemmas.{own_row, stored_by as commit_is, rows_go_on, book_parts}
@@ -64,9 +64,7 @@ goes_on start b worker request r is =
 
 pub worker_is : (r : Row) → worker_of r ≡ (commit_of r).worker
 worker_is (row.Item r) = refl
-worker_is (row.Bid r) = refl
-worker_is (row.Comment r) = refl
-worker_is (row.Buy r) = refl
+worker_is r = refl
 
 pub worker_of_added : (start : Opening) (b : Book) (worker : ℕ) (request : Request) (r : Row) → row_of worker request (reply start b worker request) ≡ Some r → worker_of r ≡ worker
 worker_of_added start b worker request r is = worker_is r ∙ ap (λ e. e.worker) (commit_is b worker request (refusal start b request) r is)
@@ -120,46 +118,39 @@ either_way (Err e) p = p
 
 -- ---- counts
 
-count_more : {R : Type 0} (p : R → Bool) (rs : List R) (r : R) → count_by p (rs ++ r ∷ []) ≡ cond (p r) (count_by p rs + 1) (count_by p rs)
+pub count_more : {R : Type 0} (p : R → Bool) (rs : List R) (r : R) → count_by p (rs ++ r ∷ []) ≡ cond (p r) (count_by p rs + 1) (count_by p rs)
 count_more p rs r = sum_by-append (λ x. cond (p x) 1 0) rs (r ∷ []) ∙ at (p r) where
   at : (b : Bool) → count_by p rs + (0 + cond b 1 0) ≡ cond b (count_by p rs + 1) (count_by p rs)
   at true = refl
   at false = omega arith
 
+-- how many of these a worker has
+abbrev stores : ℕ → List ItemRow → List BidRow → List CommentRow → List BuyRow → StoreCounts
+stores worker items bids comments buys = record {
+  items = count_by (λ x. x.id.worker == worker) items;
+  bids = count_by (λ x. x.id.worker == worker) bids;
+  comments = count_by (λ x. x.id.worker == worker) comments;
+  buys = count_by (λ x. x.id.worker == worker) buys;
+}
+
 -- one more row is counted among its worker's
 pub stored_next : (b : Book) (r : Row) (worker : ℕ) → stored_by (b ++ r ∷ []) worker ≡ cond (worker_of r == worker) (counted r (stored_by b worker)) (stored_by b worker)
 stored_next b (row.Item r) worker =
-    let one = row.Item r in
-    (λ i. record {
-      items = (ap (count_by (λ x. x.id.worker == worker)) (this_kind as_item b one r refl) ∙ count_more (λ x. x.id.worker == worker) (book.item_rows b) r) i;
-      bids = count_by (λ x. x.id.worker == worker) (other_kind as_bid b one refl i);
-      comments = count_by (λ x. x.id.worker == worker) (other_kind as_comment b one refl i);
-      buys = count_by (λ x. x.id.worker == worker) (other_kind as_buy b one refl i);
-    }) ∙ through (λ (n : ℕ). record (stored_by b worker) { items = n }) (r.id.worker == worker) _ _
+    let made = λ (n : ℕ). record (stored_by b worker) { items = n } in
+    (λ i. stores worker (this_kind as_item b (row.Item r) r refl i) (other_kind as_bid b (row.Item r) refl i) (other_kind as_comment b (row.Item r) refl i) (other_kind as_buy b (row.Item r) refl i))
+    ∙ ap made (count_more (λ x. x.id.worker == worker) (book.item_rows b) r) ∙ through made (r.id.worker == worker) _ _
 stored_next b (row.Bid r) worker =
-    let one = row.Bid r in
-    (λ i. record {
-      items = count_by (λ x. x.id.worker == worker) (other_kind as_item b one refl i);
-      bids = (ap (count_by (λ x. x.id.worker == worker)) (this_kind as_bid b one r refl) ∙ count_more (λ x. x.id.worker == worker) (book.bid_rows b) r) i;
-      comments = count_by (λ x. x.id.worker == worker) (other_kind as_comment b one refl i);
-      buys = count_by (λ x. x.id.worker == worker) (other_kind as_buy b one refl i);
-    }) ∙ through (λ (n : ℕ). record (stored_by b worker) { bids = n }) (r.id.worker == worker) _ _
+    let made = λ (n : ℕ). record (stored_by b worker) { bids = n } in
+    (λ i. stores worker (other_kind as_item b (row.Bid r) refl i) (this_kind as_bid b (row.Bid r) r refl i) (other_kind as_comment b (row.Bid r) refl i) (other_kind as_buy b (row.Bid r) refl i))
+    ∙ ap made (count_more (λ x. x.id.worker == worker) (book.bid_rows b) r) ∙ through made (r.id.worker == worker) _ _
 stored_next b (row.Comment r) worker =
-    let one = row.Comment r in
-    (λ i. record {
-      items = count_by (λ x. x.id.worker == worker) (other_kind as_item b one refl i);
-      bids = count_by (λ x. x.id.worker == worker) (other_kind as_bid b one refl i);
-      comments = (ap (count_by (λ x. x.id.worker == worker)) (this_kind as_comment b one r refl) ∙ count_more (λ x. x.id.worker == worker) (book.comment_rows b) r) i;
-      buys = count_by (λ x. x.id.worker == worker) (other_kind as_buy b one refl i);
-    }) ∙ through (λ (n : ℕ). record (stored_by b worker) { comments = n }) (r.id.worker == worker) _ _
+    let made = λ (n : ℕ). record (stored_by b worker) { comments = n } in
+    (λ i. stores worker (other_kind as_item b (row.Comment r) refl i) (other_kind as_bid b (row.Comment r) refl i) (this_kind as_comment b (row.Comment r) r refl i) (other_kind as_buy b (row.Comment r) refl i))
+    ∙ ap made (count_more (λ x. x.id.worker == worker) (book.comment_rows b) r) ∙ through made (r.id.worker == worker) _ _
 stored_next b (row.Buy r) worker =
-    let one = row.Buy r in
-    (λ i. record {
-      items = count_by (λ x. x.id.worker == worker) (other_kind as_item b one refl i);
-      bids = count_by (λ x. x.id.worker == worker) (other_kind as_bid b one refl i);
-      comments = count_by (λ x. x.id.worker == worker) (other_kind as_comment b one refl i);
-      buys = (ap (count_by (λ x. x.id.worker == worker)) (this_kind as_buy b one r refl) ∙ count_more (λ x. x.id.worker == worker) (book.buy_rows b) r) i;
-    }) ∙ through (λ (n : ℕ). record (stored_by b worker) { buys = n }) (r.id.worker == worker) _ _
+    let made = λ (n : ℕ). record (stored_by b worker) { buys = n } in
+    (λ i. stores worker (other_kind as_item b (row.Buy r) refl i) (other_kind as_bid b (row.Buy r) refl i) (other_kind as_comment b (row.Buy r) refl i) (this_kind as_buy b (row.Buy r) r refl i))
+    ∙ ap made (count_more (λ x. x.id.worker == worker) (book.buy_rows b) r) ∙ through made (r.id.worker == worker) _ _
 
 pub stored_few : (b : Book) (worker : ℕ) → length b < 16000000 → AreFew (stored_by b worker)
 stored_few b worker few = (
@@ -209,14 +200,11 @@ counted_in auction b worker holds below = get_or_from_slice_get auction.stored w
 
 -- a view adds no row
 pub view_adds_none : (worker : ℕ) (request : Request) (answered : Reply) → is_view request ≡ true → row_of worker request answered ≡ None
-view_adds_none worker (StoreItem facts time) answered view = absurd (false≢true view)
-view_adds_none worker (StoreBid bidder item amount time) answered view = absurd (false≢true view)
-view_adds_none worker (StoreComment author about item stars) answered view = absurd (false≢true view)
-view_adds_none worker (BuyNow buyer item quantity time) answered view = absurd (false≢true view)
 view_adds_none worker (ViewItem item) answered view = refl
 view_adds_none worker (ViewBids item) answered view = refl
 view_adds_none worker (ViewCategory category) answered view = refl
 view_adds_none worker (ViewUser user) answered view = refl
+view_adds_none worker request answered view = absurd (false≢true view)
 
 -- ---- the empty book
 

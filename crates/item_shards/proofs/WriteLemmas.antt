@@ -52,21 +52,15 @@ can_once_prepared old new r same shown can room =
 module _ (start : Opening) (number shards : ℕ) (rooms : ItemId → Bool) (contents : Contents) where
   pub first_can : (r : Row) → AllByRecursion (CanActOn start number shards rooms contents) (writes_of r) → CanActOn start number shards rooms contents (first_act (writes_of r))
   first_can (row.Item r) can = can.0
-  first_can (row.Bid r) can = can.0
-  first_can (row.Comment r) can = can.0
-  first_can (row.Buy r) can = can.0
+  first_can r can = can.0
 
   -- the second can be done whatever is there then
   pub second_can : (r : Row) → AllByRecursion (CanActOn start number shards rooms contents) (writes_of r) → (after : Contents) → CanActOn start number shards rooms after (second_act (writes_of r))
   second_can (row.Item r) can after = can.1.0
-  second_can (row.Bid r) can after = tt
-  second_can (row.Comment r) can after = tt
-  second_can (row.Buy r) can after = tt
+  second_can r can after = tt
 
 -- ---- what they do
 
 pub both_done : (contents : Contents) (r : Row) → after_act (after_act contents (first_act (writes_of r))) (second_act (writes_of r)) ≡ after_acts contents (writes_of r)
 both_done contents (row.Item r) = refl
-both_done contents (row.Bid r) = refl
-both_done contents (row.Comment r) = refl
-both_done contents (row.Buy r) = refl
+both_done contents r = refl

@@ -1,6 +1,6 @@
 -- A part of an input that is read line by line, from what was taken for it.
 use Rattle.std.proofs.Common.{arith, ◌≡◌, ◌≤◌, ◌+◌, ◌∷◌, ◌∙◌, [], ℕ, Bool, List, Option, None, Some, Result, Ok, Err, true, false, length, vec_len, refl, sym, ap, subst, inl, inr}
-use Rattle.std.proofs.lemmas.{Bool.{cases_Bool}, List.{append-nil}}
+use Rattle.std.proofs.lemmas.{Bool.{cases_Bool}, List.{append-nil}, Option.{same_Some}}
 use Rattle.csv.specs.Reading.{default_config, records}
 use Rattle.auction_rows.specs.declared.requests.Opened.{Opened}
 use Rattle.record_reading.proofs.{AskingLemmas.{ask_is, ask_none}, LateRows.{request_after}}
@@ -32,21 +32,15 @@ no_row_in : (workers place : ℕ) (rows : List (List (List ℕ))) (one : Said) �
 no_row_in workers place [] one is = absurd (cc is)
 no_row_in workers place (fields ∷ []) one is =
     no_row_in_one (worker_of workers fields) (read_record workers place true fields) one (λ said reads. request_after workers place fields said reads) is
-no_row_in workers place (fields ∷ second ∷ rest) one is = rw (← same_some _ one is) refl
-  where
-    same_some : (a b : Said) → Some a ≡ Some b → a ≡ b
-    same_some a b e = cc e
+no_row_in workers place (fields ∷ second ∷ rest) one is = rw (← same_Some _ one is) refl
 
 -- after a request no line says a row
 no_late_row : (workers place : ℕ) (line : List ℕ) (one : Said) → line_says workers place true line ≡ Some one → row_said one ≡ None
 unfolding line_says
 no_late_row workers place line one is = elim (cases_Bool (is_long line)) [
-  | inl long ↦ rw (← same_some _ one (rw long at is)) refl
+  | inl long ↦ rw (← same_Some _ one (rw long at is)) refl
   | inr short ↦ no_row_in workers place (records default_config line) one (rw short at is)
 ]
-  where
-    same_some : (a b : Said) → Some a ≡ Some b → a ≡ b
-    same_some a b e = cc e
 
 rows_then : (o : Option Said) (blank : List Said) (others : Said → List Said) → ((one : Said) → o ≡ Some one → row_said one ≡ None) → rows_said blank ≡ []
     → ((one : Said) → rows_said (others one) ≡ []) → rows_said (then_say o blank others) ≡ []
@@ -70,9 +64,8 @@ fresh_lines all taken left none zero is = record { said = []; front = is; asked 
 
 -- the input is of as many workers after a part
 pub keeps_workers : {R : Type 0} (how : LineStop) (taken : Taken) (lines : LineBuffer R) (workers : ℕ) → taken.workers ≡ workers → KeepsLiveWorkers workers (end_at how (left_after taken lines))
-keeps_workers stop.Full taken lines workers same = same
-keeps_workers (stop.Fault fault) taken lines workers same = same
 keeps_workers stop.End taken lines workers same = tt
+keeps_workers how taken lines workers same = same
 
 module _ {R : Type 0} (rem : R → Option (List ℕ)) (all : List Said) (taken : Taken) (lines : LineBuffer R) (to : List ℕ) (known : lines_left rem lines ≡ Some to) where
   goes_on_with : (said : List Record) → taken.requests ≡ requests_in said → GoesOnWith rem said (left_after taken lines) (yet_said taken to)

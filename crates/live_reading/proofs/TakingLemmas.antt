@@ -1,6 +1,7 @@
 -- What is taken of an input, record by record.
 use Rattle.std.proofs.Common.{arith, ◌≡◌, ◌<◌, ◌≤◌, ◌||◌, ◌+◌, ◌∷◌, ◌++◌, [], not, ℕ, Bool, List, length, true, false, refl, if◌then◌else◌, inl, inr}
-use Rattle.std.proofs.lemmas.{Bool.{cases_Bool}, List.{Sums.{sum_by-append}, length-append}}
+use Rattle.std.proofs.lemmas.{Bool.{cases_Bool, or_right}, List.{length-append}}
+use Rattle.std.proofs.lemmas.List.Sums.{sum_by-append}
 use Rattle.record_reading.specs.Asking.{Asked, requests_in, with_record}
 use Rattle.record_reading.specs.declared.record.Record.{Record}
 
@@ -20,8 +21,4 @@ row_more one asked = elim (cases_Bool one.is_row) [
 -- if a request was taken, it is known that one was
 pub knows_more : (requests new : ℕ) (begun is_row : Bool) → (0 < requests → begun ≡ true) → new ≡ requests + (if is_row then 0 else 1) → 0 < new → (begun || not is_row) ≡ true
 knows_more requests new begun true knows is some = let before : begun ≡ true = knows (omega (arith, some, is)) in rw before refl
-knows_more requests new begun false knows is some = or_true begun
-  where
-    or_true : (b : Bool) → (b || true) ≡ true
-    or_true true = refl
-    or_true false = refl
+knows_more requests new begun false knows is some = or_right begun true refl

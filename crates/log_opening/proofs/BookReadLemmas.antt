@@ -2,8 +2,7 @@
 use Rattle.std.proofs.Common.{arith, ◌≡◌, ◌≤◌, ◌+◌, ◌^◌, ◌∷◌, [], ℕ, suc, List, Ok, false, nat_lt, length, map, refl, ap}
 use Rattle.std.proofs.lemmas.{Bool.{lt-leb}, List.{append-nil}}
 use Rattle.std.specs.List.{AllByRecursion, range_with_len}
-use Rattle.csv.specs.Machine.{next_record}
-use Rattle.csv.specs.Reading.{default_config, records, records_from, strip_bom}
+use Rattle.csv.specs.Reading.{default_config, records, strip_bom}
 use Rattle.auction_rows.specs.{Book.{Book}, declared.rows.Row.{Row}}
 use Rattle.auction_rows.specs.declared.rows.Row.TheVariants.{Item, Bid, Comment, Buy}
 use Rattle.item_shards.specs.OpeningRows.{opened_of}
@@ -12,19 +11,16 @@ use Rattle.auction_text.specs.RowLines.{row_line, rows_text}
 use Rattle.auction_text.specs.Scripts.{asked_in, input_of, read_records, rows, script}
 use Rattle.log_opening.proofs.RowLineLemmas.{IsReadAs, line_read, said_of}
 use Rattle.log_opening.specs.ReadBack.{IsWritten, book_asked}
+use Rattle.record_reading.proofs.LineLemmas.{none_in_none}
 
 pub written_read : (workers : ℕ) (row : Row) → workers ≤ 2 ^ 32 → IsWritten workers row → IsReadAs (row_line row) (said_of row)
 written_read workers row few written = line_read row (omega (arith, few, written.0)) written.1
-
-pub none_read : records default_config [] ≡ []
-unfolding records_from next_record
-none_read = refl
 
 -- the records of a book's lines say its rows
 all_read : (workers place : ℕ) (book : Book) → workers ≤ 2 ^ 32 → AllByRecursion (IsWritten workers) book → place + length book ≤ MOST_RECORDS + 1
     → read_records workers place false (records default_config (lines row_line book)) ≡ Ok (map said_of book)
 unfolding read_records
-all_read workers place [] few all room = rw none_read refl
+all_read workers place [] few all room = rw none_in_none refl
 all_read workers place (row ∷ book) few all room =
     let one = written_read workers row few all.0 in
     let reads = one.reads (lines row_line book) in

@@ -1,12 +1,12 @@
 -- A prefix of a log is refused only for want of memory, or by a read or a write that failed.
-use Rattle.std.proofs.Common.{arith, All, ◌≡◌, ◌≢◌, ◌&&◌, ◌⊎◌, ◌≤◌, ◌<◌, ◌+◌, ◌∙◌, ◌∷◌, ◌++◌, [], ℕ, zero, suc, List, Ok, Err, Result, true, inl, inr, map, take, drop, length, slice_get, slice_index, nat_le, refl, sym, ap, subst, append_assoc}
+use Rattle.std.proofs.Common.{arith, All, ◌≡◌, ◌≢◌, ◌&&◌, ◌⊎◌, ◌≤◌, ◌<◌, ◌+◌, ◌∙◌, ◌∷◌, ◌++◌, [], ℕ, List, Ok, Err, Result, true, inl, inr, map, take, drop, length, slice_get, slice_index, nat_le, refl, sym, ap, subst, append_assoc}
 use Rattle.std.proofs.Math.Seq.{drop-append_seam, take-append_seam, take-length}
 use Rattle.std.proofs.lemmas.Bool.{and_parts, eq-eqb, false≢true, leb-true}
-use Rattle.std.proofs.lemmas.List.{append_cancel_left, get_or-append-add, get_or_append_left, length-append, map-append, take-append-drop}
+use Rattle.std.proofs.lemmas.List.{append_cancel_left, get_or-append-add, get_or_append_left, length-append, map-append, take-append-drop, take-take}
 use Rattle.std.proofs.lemmas.List.{Elements.{recursion_from_All}, Sums.{sum_by-append}}
 use Rattle.std.{proofs.lemmas.Option.{none-some}, specs.List.{AllByRecursion, list_all}}
 use Rattle.auction_rows.specs.{Book.{Book, worker_of}, History.{IsBook}}
-use Rattle.auction_rows.specs.declared.rows.Row.TheVariants.{Item, Bid, Comment, Buy}
+use Rattle.auction_rows.specs.declared.rows.Row.TheVariants.{Item}
 use Rattle.auction_rows.specs.declared.{values.Opening.Opening, requests.Opened.Opened, rows.Row.Row}
 use Rattle.item_shards.proofs.OpeningBookLemmas.{adds}
 use Rattle.item_shards.specs.OpeningRows.{AreRows, IsRow, opened_of, opening_rows, rows_by, with_opened}
@@ -18,7 +18,7 @@ use Rattle.auction_text.specs.ReadFault.TheVariants as read
 use Rattle.log_opening.proofs.AcceptedLemmas.{folded, grown, joined, rest_are}
 use Rattle.log_opening.proofs.BookReadLemmas.{book_read}
 use Rattle.log_opening.proofs.PartLemmas.{ended, line_counted, whole_rows}
-use Rattle.log_opening.proofs.RecoveryLemmas.{front, front_all, front_goes_on, text_alone}
+use Rattle.log_opening.proofs.RecoveryLemmas.{front, front_goes_on, text_alone}
 use Rattle.log_opening.proofs.{SameRowsLemmas.{again, same_book, same_ok}, TailLemmas.{tail_cut}}
 use Rattle.log_opening.specs.{CutRows.{begins_row, is_cut_row}, Lines.{AreLines, AreWholeLines}}
 use Rattle.log_opening.specs.Opening.{AreNotRows, IsForMemory, IsRefused, counted_after}
@@ -26,6 +26,7 @@ use Rattle.log_opening.specs.Parts.{AreRowsFrom, HasNoEnd, rows_from}
 use Rattle.log_opening.specs.ReadBack.{IsWritten, book_asked}
 use Rattle.log_opening.specs.declared.opening.OpenFault.{OpenFault}
 use Rattle.log_opening.specs.declared.opening.OpenFault.TheVariants as fault
+use Rattle.phase_laws.proofs.ListLemmas.{all-right, all-take}
 
 ok_or_err : {A E : Type 0} (x : A) (e : E) (r : Result A E) → r ≡ Ok x → r ≡ Err e → ⊥
 ok_or_err x e r one other = cc (sym one ∙ other)
@@ -63,23 +64,11 @@ lines_joined xs ys x y = record { within = omega arith; ended = at y.ended; rest
   at (inl none) = first none x.ended
   at (inr some) = inr (length xs + some.0, (omega (arith, some.1.0, length-append xs ys), get_or-append-add xs ys some.0 0 ∙ some.1.1))
 
-take_fewer : (xs : Book) (a b : ℕ) → a ≤ b → take a (take b xs) ≡ take a xs
-take_fewer xs zero b low = refl
-take_fewer xs (suc a) zero low = absurd (omega (arith, low))
-take_fewer [] (suc a) (suc b) low = refl
-take_fewer (x ∷ xs) (suc a) (suc b) low = ap (λ (more : Book). x ∷ more) (take_fewer xs a b (omega (arith, low)))
-
-all_behind : (P : Row → Type 0) (xs ys : Book) → AllByRecursion P (xs ++ ys) → AllByRecursion P ys
-all_behind P [] ys all = all
-all_behind P (x ∷ xs) ys all = all_behind P xs ys all.1
-
 -- ---- requests of a book's rows
 
 opened_worker : (row : Row) → (opened_of row).worker ≡ worker_of row
 opened_worker (Item row) = refl
-opened_worker (Bid row) = refl
-opened_worker (Comment row) = refl
-opened_worker (Buy row) = refl
+opened_worker row = refl
 
 -- a request among those of written rows is of one of the workers
 worker_at : (workers : ℕ) (book : Book) (good : List Opened) (bad : Opened) (rest : List Opened) → AllByRecursion (IsWritten workers) book → map opened_of book ≡ good ++ bad ∷ rest → bad.worker < workers
@@ -102,9 +91,7 @@ one_by row worker is = rw (eq-eqb (worker_of row) worker is) refl
 counted_input : (before : ℕ) (of : ReadFault) → IsInputFault (counted_after before of) → IsInputFault of
 counted_input before (read.Line place cause) is = tt
 counted_input before (read.Worker place) is = tt
-counted_input before read.Read is = is
-counted_input before read.Memory is = is
-counted_input before read.Long is = is
+counted_input before of is = is
 
 -- ---- bytes of a log behind its first rows
 
@@ -122,7 +109,7 @@ module _ (opening : Opening) (limit workers : ℕ) (book : Book) (few : workers 
 
   first_is : first ≡ take before.count book
   first_is = same_book opening workers first (take before.count book) few first_is_book (front_goes_on opening [] book before.count is_book) first_written
-      (front_all (IsWritten workers) book before.count written) before.is
+      (all-take (IsWritten workers) before.count book written) before.is
 
   -- Lines are the text of the next rows of the book.
   record AreNext : Type 0 where
@@ -140,14 +127,14 @@ module _ (opening : Opening) (limit workers : ℕ) (book : Book) (few : workers 
       (omega (arith, ap length before.is, length-append (lines row_line first) bytes)) in
       let more = drop before.count (take after.count book) in
       let whole : take after.count book ≡ first ++ more =
-      sym (take-append-drop before.count (take after.count book)) ∙ ap (λ (xs : Book). xs ++ more) (take_fewer book before.count after.count not_less ∙ sym first_is) in
+      sym (take-append-drop before.count (take after.count book)) ∙ ap (λ (xs : Book). xs ++ more) (take-take before.count after.count book not_less ∙ sym first_is) in
       record {
         more = more;
         last = after.count;
         whole = whole;
         are = append_cancel_left (lines row_line first) bytes (lines row_line more) (after.is ∙ ap (lines row_line) whole ∙ sym (joined first more));
         is_one = subst (IsBook opening) whole (front_goes_on opening [] book after.count is_book);
-        all = subst (AllByRecursion (IsWritten workers)) whole (front_all (IsWritten workers) book after.count written);
+        all = subst (AllByRecursion (IsWritten workers)) whole (all-take (IsWritten workers) after.count book written);
       }
 
   module _ (short : length bytes ≤ 65536) (next : AreNext) where
@@ -156,7 +143,7 @@ module _ (opening : Opening) (limit workers : ℕ) (book : Book) (few : workers 
 
     asks : input_of workers bytes ≡ Ok asked
     asks = ap (input_of workers) (next.are ∙ sym (text_alone next.more))
-        ∙ book_read workers next.more (omega (arith, few)) (all_behind (IsWritten workers) first next.more next.all) (omega (arith, short, ap length next.are, line_counted next.more))
+        ∙ book_read workers next.more (omega (arith, few)) (all-right (IsWritten workers) first next.more next.all) (omega (arith, short, ap length next.are, line_counted next.more))
 
     both : map opened_of (first ++ next.more) ≡ map opened_of first ++ map opened_of next.more
     both = map-append opened_of first next.more
@@ -184,7 +171,7 @@ module _ (opening : Opening) (limit workers : ℕ) (book : Book) (few : workers 
       is_row = (rest_are opening first good (bad ∷ rest) (subst (AreRowsFrom opening first) split are_rows)).0
 
       own : bad.worker < workers
-      own = worker_at workers next.more good bad rest (all_behind (IsWritten workers) first next.more next.all) split
+      own = worker_at workers next.more good bad rest (all-right (IsWritten workers) first next.more next.all) split
 
       has_room : limit ≤ rows_by at bad.worker → ⊥
       has_room full =
@@ -236,10 +223,8 @@ module _ (opening : Opening) (limit workers : ℕ) (book : Book) (few : workers 
       let same : r.asked ≡ asked short next = same_ok r.asked (asked short next) (input_of workers bytes) r.read (asks short next) in
       let split = sym (ap (λ (a : Asked). a.rows) same) ∙ r.first.split in
       absurd (false≢true (sym (is_row short next r.first.good r.first.bad r.first.rest split).store ∙ r.first.not_taken (own short next r.first.good r.first.bad r.first.rest split)))
-  never_in (fault.Row number add.Memory) behind short r = tt
   never_in (fault.Line line) behind short r = absurd (none_is_other r.asked r.added r.at short r.are_lines r.read r.added_is r.differs.differs)
-  never_in fault.Memory behind short r = tt
-  never_in fault.Write behind short r = tt
+  never_in why behind short r = tt
 
 pub never : (opening : Opening) (limit workers : ℕ) (book : Book) (n : ℕ) (why : OpenFault) → workers ≤ 16 → IsBook opening book → All (IsWritten workers) book → ((worker : ℕ) → rows_by book worker ≤ limit)
     → IsRefused why limit workers opening (take n (rows_text book [])) → IsForMemory why

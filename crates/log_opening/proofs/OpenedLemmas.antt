@@ -3,10 +3,11 @@ use Rattle.std.proofs.Common.{arith, All, ◌≡◌, ◌≤◌, ◌∙◌, [], �
 use Rattle.std.proofs.lemmas.List.Elements.{recursion_from_All}
 use Rattle.auction_rows.specs.{Book.{Book}, History.{IsBook}, declared.values.Opening.{Opening}}
 use Rattle.auction_text.specs.{Replies.{lines}, RowLines.{row_line, rows_text}}
-use Rattle.log_opening.proofs.RecoveryLemmas.{front, front_all, front_goes_on, text_alone}
+use Rattle.log_opening.proofs.RecoveryLemmas.{front, front_goes_on, text_alone}
 use Rattle.log_opening.{proofs.SameRowsLemmas.{same_book}, specs.Lines.{AreWholeLines}}
 use Rattle.log_opening.specs.{Opening.{OpensWith}, ReadBack.{IsWritten}, Recovery.{AreFirstOf}}
 use Rattle.log_opening.specs.declared.opening.LoggedAuction.{LoggedAuction}
+use Rattle.phase_laws.proofs.ListLemmas.{all-take}
 
 pub opens_first : (opening : Opening) (workers : ℕ) (book rows : Book) (n : ℕ) (opened : LoggedAuction) → workers ≤ 16 → IsBook opening book → All (IsWritten workers) book → opened.auction.opening ≡ opening
     → length opened.auction.counters ≡ workers → OpensWith (Some (take n (rows_text book []))) rows opened → AreFirstOf book n rows
@@ -21,6 +22,6 @@ opens_first opening workers book rows n opened few is written same_opening same_
       count = f.count;
       within = f.within;
       rows_are = same_book opening workers rows (take f.count book) few (subst (λ (o : Opening). IsBook o rows) same_opening opens.start.is_of.is_book) (front_goes_on opening [] book f.count is) own
-          (front_all (IsWritten workers) book f.count all) lines_are;
+          (all-take (IsWritten workers) f.count book all) lines_are;
       begins = λ accepted within fits. f.begins accepted within (subst (λ (xs : List ℕ). length xs ≤ n) (text_alone (take accepted book)) fits);
     }

@@ -228,6 +228,4 @@ fault_place workers text fault is = at fault refl where
   at : (f : ReadFault) → fault ≡ f → place_of fault ≤ 16000000
   at (read.Line place cause) same = told (is (subst IsInputFault (sym same) tt))
   at (read.Worker place) same = told (is (subst IsInputFault (sym same) tt))
-  at read.Read same = omega (arith, ap place_of same)
-  at read.Memory same = omega (arith, ap place_of same)
-  at read.Long same = omega (arith, ap place_of same)
+  at f same = omega (arith, ap place_of same)

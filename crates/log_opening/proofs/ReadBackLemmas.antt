@@ -11,7 +11,7 @@ use Rattle.auction_text.specs.Fields.{is_numeral, item_id, number, quantity}
 use Rattle.record_reading.specs.inner.PlainLines.{is_plain}
 use Rattle.byte_texts.specs.Labels.{id_text}
 
-digit_is : (d : ℕ) → d < 10 → is_ascii_digit (48 + d) ≡ true
+pub digit_is : (d : ℕ) → d < 10 → is_ascii_digit (48 + d) ≡ true
 digit_is d few = and_from _ _ (le-leb 48 (48 + d) (omega arith)) (le-leb (48 + d) 57 (omega (arith, few)))
 
 one_digit : (n : ℕ) → n < 10 → list_all is_ascii_digit ((48 + n) ∷ []) ≡ true

@@ -1,5 +1,5 @@
 -- How far a text is read, and what it opens.
-use Rattle.std.proofs.Common.{◌≡◌, ◌⊎◌, ◌≤◌, ◌<◌, ◌+◌, ◌-◌, ◌++◌, ℕ, true, List, [], ◌∷◌, Option, Some, None, All, Result, Ok, Err, IsErr, IsErrAnd, IfErr, IfOk, IfSome, inl, inr, drop, length, slice_index, take, refl, sym, ap, subst, ◌∙◌, arith, append_assoc}
+use Rattle.std.proofs.Common.{◌≡◌, ◌⊎◌, ◌≤◌, ◌<◌, ◌+◌, ◌-◌, ◌++◌, ℕ, true, List, [], ◌∷◌, Option, Some, None, All, Result, Ok, Err, IfErr, IfOk, IfSome, inl, inr, drop, length, slice_index, take, refl, sym, ap, subst, ◌∙◌, arith, append_assoc}
 use Rattle.std.proofs.Math.Seq.{drop-append_seam, paste, take-append-add, take-append_seam, take-length}
 use Rattle.std.proofs.lemmas.Grind.{common_steps}
 use Rattle.std.proofs.lemmas.List.{append-nil, get_or-append-add, get_or_append_left, length-append, length-take-le, take_all}
@@ -20,16 +20,7 @@ use Rattle.log_opening.specs.declared.opening.{LoggedAuction.{LoggedAuction}, Op
 use Rattle.log_opening.specs.declared.parts.ReadRows.{ReadRows}
 use Rattle.log_opening.specs.inner.Reading.{HasRead, IsReadTo, OpensReading, ReadsRows, TellsRows, TellsSome}
 use Rattle.log_opening.specs.declared.opening.OpenFault.TheVariants as fault
-
--- what holds of an error
-pub error_is : {T E : Type 0} (result : Result T E) (fault : E) (P : E → Type 0) → IsErr result × IsErrAnd result (λ x. x ≡ fault) → P fault → IfErr result P
-error_is (Ok x) fault P is holds = tt
-error_is (Err x) fault P is holds = subst P (sym is.1) holds
-
--- what holds of known bytes
-pub of_known : (known : Option (List ℕ)) (P : List ℕ → Type 0) → ((all : List ℕ) → known ≡ Some all → P all) → IfSome known P
-of_known None P each = tt
-of_known (Some all) P each = each all refl
+use Rattle.part_log.proofs.TellingLemmas.{of_known}
 
 at_end : (known : Option (List ℕ)) (left : List ℕ) → known ≡ Some left → IsAtEnd known → left ≡ []
 at_end None left is end = absurd (cc is)

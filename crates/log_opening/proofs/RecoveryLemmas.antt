@@ -12,6 +12,7 @@ use Rattle.auction_text.specs.{RowLines.{row_line, row_text, rows_text}, Scripts
 use Rattle.log_opening.proofs.BookReadLemmas.{book_read}
 use Rattle.log_opening.proofs.PrefixLemmas.{Prints, line_first, prints_at, row_prints}
 use Rattle.log_opening.specs.{Lines.{AreWholeLines}, ReadBack.{IsWritten}, Recovery.{OpensTo}}
+use Rattle.phase_laws.proofs.ListLemmas.{all-take}
 
 -- the first rows, whose lines are whole
 pub record Front (book : Book) (n whole : ℕ) : Type 0 where
@@ -91,11 +92,6 @@ front_goes_on opening book rows zero go = tt
 front_goes_on opening book [] (suc k) go = tt
 front_goes_on opening book (row ∷ rows) (suc k) go = (go.0, front_goes_on opening (after_entry opening book (commit_of row)) rows k go.1)
 
-pub front_all : (P : Row → Type 0) (rows : List Row) (k : ℕ) → AllByRecursion P rows → AllByRecursion P (take k rows)
-front_all P rows zero all = tt
-front_all P [] (suc k) all = tt
-front_all P (row ∷ rows) (suc k) all = (all.0, front_all P rows k all.1)
-
 pub text_alone : (book : Book) → rows_text book [] ≡ lines row_line book
 text_alone book = ap (λ (l : List Row). lines row_line l) (append-nil book)
 
@@ -107,12 +103,12 @@ opens_to opening workers book n whole few is known written short are =
     let rows = take f.count book in
     let text : take whole (take n (rows_text book [])) ≡ rows_text rows [] = ap (λ (xs : List ℕ). take whole (take n xs)) (text_alone book) ∙ f.is ∙ sym (text_alone rows) in
     let long : length rows ≤ MOST_RECORDS = grind (arith, common_steps) in
-    let again = opened_again opening rows (front_goes_on opening [] book f.count is) (All-from_recursion (λ row. worker_of row < 16) rows (front_all (λ row. worker_of row < 16) book f.count (recursion_from_All (λ row. worker_of row < 16) book known))) in
+    let again = opened_again opening rows (front_goes_on opening [] book f.count is) (All-from_recursion (λ row. worker_of row < 16) rows (all-take (λ row. worker_of row < 16) f.count book (recursion_from_All (λ row. worker_of row < 16) book known))) in
     record {
       count = f.count;
       within = f.within;
       text = text;
-      read = ap (input_of workers) text ∙ book_read workers rows few (front_all (IsWritten workers) book f.count all) long;
+      read = ap (input_of workers) text ∙ book_read workers rows few (all-take (IsWritten workers) f.count book all) long;
       are_rows = again.0;
       opens = again.1;
       begins = λ accepted within fits. f.begins accepted within (subst (λ (xs : List ℕ). length xs ≤ n) (text_alone (take accepted book)) fits);

@@ -50,6 +50,22 @@ no_mark worker line fits = digits_no_bom (decimal worker) 44 line (digits worker
 below_64 : (n : ℕ) → n < 2 ^ 32 → n < 2 ^ 64
 below_64 n fits = omega (arith, fits)
 
+-- six fields of a line, and its end
+six_read : (line w word x y z t rest : List ℕ) → line ≡ w ++ (44 ∷ (word ++ (44 ∷ (x ++ (44 ∷ (y ++ (44 ∷ (z ++ (44 ∷ (t ++ ((10 ∷ []) ++ rest)))))))))))
+    → is_plain w ≡ true → is_plain word ≡ true → is_plain x ≡ true → is_plain y ≡ true → is_plain z ≡ true → is_plain t ≡ true → ReadsFirst line (w ∷ word ∷ x ∷ y ∷ z ∷ t ∷ []) rest
+six_read line w word x y z t rest is plain_w plain_word plain_x plain_y plain_z plain_t =
+    let r5 = t ++ ((10 ∷ []) ++ rest) in
+    let r4 = z ++ (44 ∷ r5) in
+    let r3 = y ++ (44 ∷ r4) in
+    let r2 = x ++ (44 ∷ r3) in
+    let r1 = word ++ (44 ∷ r2) in
+    let one : HasRead line (w ∷ []) r1 = rw is (first_and_comma w r1 plain_w) in
+    let two = next_and_comma line (w ∷ []) word r2 one plain_word in
+    let three = next_and_comma line (w ∷ word ∷ []) x r3 two plain_x in
+    let four = next_and_comma line (w ∷ word ∷ x ∷ []) y r4 three plain_y in
+    let five = next_and_comma line (w ∷ word ∷ x ∷ y ∷ []) z r5 four plain_z in
+    last_and_end line (w ∷ word ∷ x ∷ y ∷ z ∷ []) t (10 ∷ []) rest five plain_t (inl refl)
+
 abbrev bid_word : List ℕ
 bid_word = 43 ∷ 98 ∷ 105 ∷ 100 ∷ []
 
@@ -69,19 +85,8 @@ bid_read row worker fits =
     let few = below_64 row.bidder fits.bidder in
     record {
       fields = decimal w ∷ bid_word ∷ b ∷ i ∷ a ∷ t ∷ [];
-      reads = λ rest.
-          let line = row_line (Bid row) ++ rest in
-          let r5 = t ++ ((10 ∷ []) ++ rest) in
-          let r4 = a ++ (44 ∷ r5) in
-          let r3 = i ++ (44 ∷ r4) in
-          let r2 = b ++ (44 ∷ r3) in
-          let r1 = bid_word ++ (44 ∷ r2) in
-          let one : HasRead line (decimal w ∷ []) r1 = rw (bid_line row rest) (first_and_comma (decimal w) r1 (plain_number w (below_64 w worker))) in
-          let two = next_and_comma line (decimal w ∷ []) bid_word r2 one refl in
-          let three = next_and_comma line (decimal w ∷ bid_word ∷ []) b r3 two (plain_number row.bidder few) in
-          let four = next_and_comma line (decimal w ∷ bid_word ∷ b ∷ []) i r4 three (plain_item row.item.worker row.item.serial fits.item_worker fits.item_serial) in
-          let five = next_and_comma line (decimal w ∷ bid_word ∷ b ∷ i ∷ []) a r5 four (plain_number row.amount fits.amount) in
-          last_and_end line (decimal w ∷ bid_word ∷ b ∷ i ∷ a ∷ []) t (10 ∷ []) rest five (plain_number row.time fits.time) (inl refl);
+      reads = λ rest. six_read (row_line (Bid row) ++ rest) (decimal w) bid_word b i a t rest (bid_line row rest) (plain_number w (below_64 w worker)) refl (plain_number row.bidder few)
+          (plain_item row.item.worker row.item.serial fits.item_worker fits.item_serial) (plain_number row.amount fits.amount) (plain_number row.time fits.time);
       unmarked = λ rest. rw (bid_line row rest) (no_mark w _ worker);
       says = λ workers place below. row_says kind.Bid (said_of (Bid row)).request w bid_word (b ∷ i ∷ a ∷ t ∷ []) worker refl refl
           (rw (number_of 32 row.bidder fits.bidder few, item_of row.item.worker row.item.serial fits.item_worker fits.item_serial, number_of 64 row.amount fits.amount fits.amount, number_of 64 row.time fits.time fits.time) refl)
@@ -108,19 +113,8 @@ buy_read row worker fits =
     let most : row.quantity < 2 ^ 64 = omega (arith, fits.few) in
     record {
       fields = decimal w ∷ buy_word ∷ b ∷ i ∷ q ∷ t ∷ [];
-      reads = λ rest.
-          let line = row_line (Buy row) ++ rest in
-          let r5 = t ++ ((10 ∷ []) ++ rest) in
-          let r4 = q ++ (44 ∷ r5) in
-          let r3 = i ++ (44 ∷ r4) in
-          let r2 = b ++ (44 ∷ r3) in
-          let r1 = buy_word ++ (44 ∷ r2) in
-          let one : HasRead line (decimal w ∷ []) r1 = rw (buy_line row rest) (first_and_comma (decimal w) r1 (plain_number w (below_64 w worker))) in
-          let two = next_and_comma line (decimal w ∷ []) buy_word r2 one refl in
-          let three = next_and_comma line (decimal w ∷ buy_word ∷ []) b r3 two (plain_number row.buyer few) in
-          let four = next_and_comma line (decimal w ∷ buy_word ∷ b ∷ []) i r4 three (plain_item row.item.worker row.item.serial fits.item_worker fits.item_serial) in
-          let five = next_and_comma line (decimal w ∷ buy_word ∷ b ∷ i ∷ []) q r5 four (plain_number row.quantity most) in
-          last_and_end line (decimal w ∷ buy_word ∷ b ∷ i ∷ q ∷ []) t (10 ∷ []) rest five (plain_number row.time fits.time) (inl refl);
+      reads = λ rest. six_read (row_line (Buy row) ++ rest) (decimal w) buy_word b i q t rest (buy_line row rest) (plain_number w (below_64 w worker)) refl (plain_number row.buyer few)
+          (plain_item row.item.worker row.item.serial fits.item_worker fits.item_serial) (plain_number row.quantity most) (plain_number row.time fits.time);
       unmarked = λ rest. rw (buy_line row rest) (no_mark w _ worker);
       says = λ workers place below. row_says kind.BuyNow (said_of (Buy row)).request w buy_word (b ∷ i ∷ q ∷ t ∷ []) worker refl refl
           (rw (number_of 32 row.buyer fits.buyer few, item_of row.item.worker row.item.serial fits.item_worker fits.item_serial, quantity_of row.quantity fits.some fits.few, number_of 64 row.time fits.time fits.time) refl)
@@ -276,19 +270,8 @@ comment_read row worker fits =
     let given = stars_back row.stars in
     record {
       fields = decimal w ∷ comment_word ∷ a ∷ b ∷ i ∷ s ∷ [];
-      reads = λ rest.
-          let line = row_line (Comment row) ++ rest in
-          let r5 = s ++ ((10 ∷ []) ++ rest) in
-          let r4 = i ++ (44 ∷ r5) in
-          let r3 = b ++ (44 ∷ r4) in
-          let r2 = a ++ (44 ∷ r3) in
-          let r1 = comment_word ++ (44 ∷ r2) in
-          let one : HasRead line (decimal w ∷ []) r1 = rw (comment_line row rest) (first_and_comma (decimal w) r1 (plain_number w (below_64 w worker))) in
-          let two = next_and_comma line (decimal w ∷ []) comment_word r2 one refl in
-          let three = next_and_comma line (decimal w ∷ comment_word ∷ []) a r3 two (plain_number row.author (below_64 row.author fits.author)) in
-          let four = next_and_comma line (decimal w ∷ comment_word ∷ a ∷ []) b r4 three (plain_number row.about (below_64 row.about fits.about)) in
-          let five = next_and_comma line (decimal w ∷ comment_word ∷ a ∷ b ∷ []) i r5 four (plain_item row.item.worker row.item.serial fits.item_worker fits.item_serial) in
-          last_and_end line (decimal w ∷ comment_word ∷ a ∷ b ∷ i ∷ []) s (10 ∷ []) rest five given.1 (inl refl);
+      reads = λ rest. six_read (row_line (Comment row) ++ rest) (decimal w) comment_word a b i s rest (comment_line row rest) (plain_number w (below_64 w worker)) refl
+          (plain_number row.author (below_64 row.author fits.author)) (plain_number row.about (below_64 row.about fits.about)) (plain_item row.item.worker row.item.serial fits.item_worker fits.item_serial) given.1;
       unmarked = λ rest. rw (comment_line row rest) (no_mark w _ worker);
       says = λ workers place below. row_says kind.Comment (said_of (Comment row)).request w comment_word (a ∷ b ∷ i ∷ s ∷ []) worker refl refl
           (rw (number_of 32 row.author fits.author (below_64 row.author fits.author), number_of 32 row.about fits.about (below_64 row.about fits.about), item_of row.item.worker row.item.serial fits.item_worker fits.item_serial, given.0) refl)

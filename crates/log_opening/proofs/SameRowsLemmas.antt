@@ -8,8 +8,9 @@ use Rattle.item_shards.proofs.OpeningBookLemmas.{opened_again}
 use Rattle.item_shards.specs.OpeningRows.{AreRows, opened_of, opening_rows}
 use Rattle.auction_text.specs.{Record.{Record}, Records.{read_record}, Replies.{lines}}
 use Rattle.auction_text.specs.{RowLines.{row_line}, Scripts.{rows}}
-use Rattle.log_opening.proofs.BookReadLemmas.{none_read, rows_said, written_read}
-use Rattle.log_opening.{proofs.RowLineLemmas.{said_of}, specs.ReadBack.{IsWritten}}
+use Rattle.log_opening.proofs.{BookReadLemmas.{rows_said, written_read}, RowLineLemmas.{said_of}}
+use Rattle.log_opening.specs.ReadBack.{IsWritten}
+use Rattle.record_reading.proofs.LineLemmas.{none_in_none}
 
 pub same_ok : {A E : Type 0} (x y : A) (r : Result A E) → r ≡ Ok x → r ≡ Ok y → x ≡ y
 same_ok x y r one other = cc (sym one ∙ other)
@@ -24,10 +25,10 @@ module _ (workers : ℕ) (few : workers ≤ 2 ^ 32) where
   same_said [] [] x y same = refl
   same_said [] (b ∷ ys) x y same =
       let two = written_read workers b few y.0 in
-      absurd (none_is_some two.fields (records default_config (lines row_line ys)) _ none_read (same ∙ two.reads (lines row_line ys)))
+      absurd (none_is_some two.fields (records default_config (lines row_line ys)) _ none_in_none (same ∙ two.reads (lines row_line ys)))
   same_said (a ∷ xs) [] x y same =
       let one = written_read workers a few x.0 in
-      absurd (none_is_some one.fields (records default_config (lines row_line xs)) _ none_read (sym same ∙ one.reads (lines row_line xs)))
+      absurd (none_is_some one.fields (records default_config (lines row_line xs)) _ none_in_none (sym same ∙ one.reads (lines row_line xs)))
   same_said (a ∷ xs) (b ∷ ys) x y same =
       let one = written_read workers a few x.0 in
       let two = written_read workers b few y.0 in

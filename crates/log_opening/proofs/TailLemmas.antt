@@ -1,7 +1,7 @@
 -- What a prefix of a log has behind its whole lines is a cut row.
-use Rattle.std.proofs.Common.{arith, ◌≡◌, ◌==◌, ◌||◌, ◌≤◌, ◌<◌, ◌+◌, ◌-◌, ◌*◌, ◌/◌, ◌%◌, ◌^◌, ◌∷◌, ◌++◌, ◌∙◌, [], ℕ, ℤ, pos, negsuc, ◌≤ℤ◌, zero, suc, List, Bool, true, false, codes, length, take, drop, slice_index, refl, ap, subst, append_assoc, inl, inr, All}
+use Rattle.std.proofs.Common.{arith, ◌≡◌, ◌==◌, ◌≤◌, ◌<◌, ◌+◌, ◌-◌, ◌*◌, ◌/◌, ◌%◌, ◌^◌, ◌∷◌, ◌++◌, ◌∙◌, [], ℕ, ℤ, pos, negsuc, ◌≤ℤ◌, zero, suc, List, true, codes, length, take, drop, slice_index, refl, ap, subst, append_assoc, inl, inr, All}
 use Rattle.std.proofs.Math.Seq.{drop-append-add}
-use Rattle.std.proofs.lemmas.Bool.{and_from, and_parts, cases_Bool, cases_lt, leb-true, le-leb}
+use Rattle.std.proofs.lemmas.Bool.{and_from, and_parts, cases_Bool, cases_lt, leb-true, le-leb, or_right, or_left}
 use Rattle.std.proofs.lemmas.Fmt.{decimal_digit, decimal_step, length-decimal-le}
 use Rattle.std.proofs.lemmas.{Grind.{common_steps}, List.{append-nil, get_or-take}}
 use Rattle.std.{proofs.lemmas.List.Elements.{recursion_from_All}, specs.Char.{is_ascii_digit}}
@@ -11,7 +11,7 @@ use Rattle.auction_rows.specs.declared.rows.Row.TheVariants.{Item, Bid, Comment,
 use Rattle.auction_text.specs.{Fields.{is_printing}, Replies.{lines}}
 use Rattle.auction_text.specs.RowLines.{byte_in_quotes, offer_text, quoted, row_line, row_text, rows_text, terms_text}
 use Rattle.byte_texts.specs.Labels.{labelled, labelled_id}
-use Rattle.log_opening.proofs.PrefixLemmas.{line_first, row_prints}
+use Rattle.log_opening.proofs.{PrefixLemmas.{line_first, row_prints}, ReadBackLemmas.{digit_is}}
 use Rattle.log_opening.proofs.{RecoveryLemmas.{none_whole, take_past}, RowLineLemmas.{is_true_of}}
 use Rattle.log_opening.specs.CutRows.{begins_row, has_at, has_digit_at, is_cut_row}
 use Rattle.log_opening.specs.{Lines.{AreWholeLines}, ReadBack.{IsInRange, IsWritten}}
@@ -143,16 +143,6 @@ digit_there text n at is = elim (cases_lt at (length (take n text))) [
       grind (arith, common_steps)
   | inr past ↦ rw (le-leb (length (take n text)) at past) refl
 ]
-
-digit_is : (d : ℕ) → d < 10 → is_ascii_digit (48 + d) ≡ true
-digit_is d few = and_from _ _ (le-leb 48 (48 + d) (omega arith)) (le-leb (48 + d) 57 (omega (arith, few)))
-
-or_right : (a b : Bool) → b ≡ true → (a || b) ≡ true
-or_right true b e = refl
-or_right false b e = e
-
-or_left : (a b : Bool) → a ≡ true → (a || b) ≡ true
-or_left a b e = rw e refl
 
 front_begins : (text : List ℕ) (worker n : ℕ) → worker < 16 → Begins text worker → begins_row (take n text) ≡ true
 front_begins text worker n few begins = elim (cases_lt worker 10) [

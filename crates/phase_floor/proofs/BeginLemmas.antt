@@ -1,5 +1,5 @@
 -- What a phase begins with.
-use Rattle.std.proofs.Common.{◌≡◌, ◌+◌, ◌<◌, ◌≤◌, ℕ, zero, suc, Bool, true, false, IsTrue, Option, List, [], ◌∷◌, map, length, get_or, drop, refl, sym, ap, ◌∙◌, subst, arith}
+use Rattle.std.proofs.Common.{◌≡◌, ◌+◌, ◌<◌, ◌≤◌, ℕ, suc, Bool, true, false, IsTrue, Option, List, [], ◌∷◌, map, length, get_or, drop, refl, sym, ap, ◌∙◌, subst, arith}
 use Rattle.std.{proofs.lemmas.{Bool.{false≢true}, List.{get_or-map}}, specs.Global.{Vec}}
 use Rattle.auction_rows.specs.{Footprint.{is_hot}, declared.requests.Object.TheVariants.{Item}}
 use Rattle.auction_rows.specs.declared.{values.Opening.Opening, requests.Facts.Facts, requests.Object.Object}
@@ -142,9 +142,8 @@ kit_cold joined floor w room given kit same is cold = subst (λ (k : Kit). IsEmp
 
 -- in empty stashes nothing waits
 nothing_waits : (quotas : List ℕ) (w : ℕ) → length (stash_at (map empty_stash quotas) w).requests ≡ 0
-nothing_waits [] w = refl
-nothing_waits (quota ∷ quotas) zero = refl
 nothing_waits (quota ∷ quotas) (suc w) = nothing_waits quotas w
+nothing_waits quotas w = refl
 
 pub not_too_long : (limit : ℕ) (counters : List Counters) (quotas : List ℕ) → ¬ IsTooLong limit counters [] quotas → ¬ IsTooLong limit counters (map empty_stash quotas) quotas
 not_too_long limit counters quotas short (w, low, more) =
@@ -152,7 +151,7 @@ not_too_long limit counters quotas short (w, low, more) =
     short (w, low, omega (arith, more, nothing_waits quotas w, none))
 
 -- an empty stash for each quota has room for it, whatever is hot
-room_for_all : (hots : List (Object × Hot)) (left room : ℕ) → left ≤ room → HasStashRoom hots left room
+pub room_for_all : (hots : List (Object × Hot)) (left room : ℕ) → left ≤ room → HasStashRoom hots left room
 room_for_all [] left room is = tt
 room_for_all (hot ∷ hots) left room is = is
 

@@ -1,5 +1,5 @@
 -- Shards in which nothing is stored.
-use Rattle.std.proofs.Common.{◌≡◌, ℕ, zero, suc, ◌+◌, ◌*◌, ◌<◌, ◌≤◌, List, [], length, map, replicate, refl, sym, ap, ◌∙◌, subst, arith, unsigned_abs}
+use Rattle.std.proofs.Common.{◌≡◌, ℕ, suc, ◌+◌, ◌*◌, ◌<◌, ◌≤◌, List, [], length, map, replicate, refl, sym, ap, ◌∙◌, subst, arith, unsigned_abs}
 use Rattle.std.proofs.lemmas.{Int.{ints}, List.{length-map}}
 use Rattle.auction_rows.specs.declared.requests.Object.TheVariants.{Item, User}
 use Rattle.auction_rows.specs.declared.values.Opening.{Opening}
@@ -27,10 +27,9 @@ opened_of_blank opening count n state h = record {
   };
 }
 
-none_counted : (workers w : ℕ) → counters_at (replicate workers no_counters) w ≡ no_counters
-none_counted zero w = refl
-none_counted (suc workers) zero = refl
+pub none_counted : (workers w : ℕ) → counters_at (replicate workers no_counters) w ≡ no_counters
 none_counted (suc workers) (suc w) = none_counted workers w
+none_counted workers w = refl
 
 module _ (opening : Opening) (limit : ℕ) (shards : List Shard) (counters : List Counters) (count workers : ℕ) (blank : AreBlank opening count count (map state_of shards))
     (len : length shards ≡ count) (counted : counters ≡ replicate workers no_counters) where

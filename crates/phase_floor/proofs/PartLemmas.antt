@@ -1,7 +1,8 @@
 -- The parts of receipts, with one receipt more.
 use Rattle.std.proofs.Common.{◌≡◌, Bool, true, false, List, [], ◌∷◌, ◌++◌, map, refl, ap, sym, ◌∙◌}
+use Rattle.std.proofs.lemmas.List.{map_push}
 use Rattle.auction_rows.specs.declared.requests.Object.{Object}
-use Rattle.shard_boxes.{proofs.Each.{map_push}, specs.Keys.{KeyState}}
+use Rattle.shard_boxes.specs.Keys.{KeyState}
 use Rattle.worker_journals.specs.Journals.{JournalView}
 use Rattle.worker_slices.specs.{Stashes.{StashState}, declared.counters.Counters.{Counters}}
 use Rattle.worker_slices.specs.declared.slices.Hot.{Hot}

@@ -5,7 +5,7 @@ use Rattle.std.proofs.lemmas.List.Sorted.{All-permutation, IsPermutation-refl, I
 use Rattle.std.specs.List.{Sorted.{IsPermutation}, AllByRecursion, flat_map}
 use Rattle.phase_laws.{proofs.ListLemmas.{all-append, every_from}, specs.Replay.{SawInTurn}}
 use Rattle.auction_rows.specs.{Book.{Book}, History.{book_after}}
-use Rattle.auction_rows.specs.declared.requests.Object.TheVariants.{Item, User, Category}
+use Rattle.auction_rows.specs.declared.requests.Object.TheVariants.{Item}
 use Rattle.auction_rows.specs.declared.{values.Opening.Opening, requests.Facts.Facts, requests.Object.Object, rows.Entry.Entry}
 use Rattle.item_shards.specs.declared.shard.slices.Slice.{Slice}
 use Rattle.shard_boxes.specs.States.{ShardState, state_at}
@@ -41,8 +41,7 @@ all_once (receipt ∷ receipts) =
 
 exists_known : (opening : Opening) (states : List ShardState) (object : Object) → DoesExist opening states object → IsKnown opening object
 exists_known opening states (Item id) exists = tt
-exists_known opening states (User user) exists = exists
-exists_known opening states (Category category) exists = exists
+exists_known opening states object exists = exists
 
 slices_numbered : (opening : Opening) (states : List ShardState) (slices : List (Object × Hot)) → DoAllExist opening states (hot_objects (stocks_of slices))
     → AllByRecursion (λ pair. IsKnown opening pair.0) (slices_in slices)

@@ -5,7 +5,7 @@ use Rattle.std.proofs.lemmas.List.{get_or-set_same, get_or-set_other, take-appen
 use Rattle.std.proofs.lemmas.List.Sums.{sum_by-append}
 use Rattle.auction_rows.specs.{Book.{Book}, declared.rows.Row.{Row}}
 use Rattle.auction_rows.specs.declared.rows.Row.TheVariants as row
-use Rattle.item_shards.proofs.SerialLemmas.{one_more, stored_next}
+use Rattle.item_shards.proofs.SerialLemmas.{one_more, stored_next, count_more}
 use Rattle.item_shards.specs.{Counting.{worker_of, stored_by, counted}, OpeningRows.{rows_by}}
 use Rattle.item_shards.specs.declared.serial.StoreCounts.{StoreCounts}
 use Rattle.worker_slices.specs.declared.counters.Counters.{Counters}
@@ -19,16 +19,11 @@ abbrev of_counts : StoreCounts → ℕ → Counters
 of_counts counts commits = record { items = counts.items; bids = counts.bids; comments = counts.comments; buys = counts.buys; commits = commits }
 
 rows_more : (b : Book) (r : Row) (w : ℕ) → rows_by (b ++ r ∷ []) w ≡ cond (worker_of r == w) (rows_by b w + 1) (rows_by b w)
-rows_more b r w = sum_by-append (λ x. cond (worker_of x == w) 1 0) b (r ∷ []) ∙ at (worker_of r == w) where
-  at : (t : Bool) → rows_by b w + (0 + cond t 1 0) ≡ cond t (rows_by b w + 1) (rows_by b w)
-  at true = refl
-  at false = omega arith
+rows_more b r w = count_more (λ x. worker_of x == w) b r
 
 counted_as : (r : Row) (counts : StoreCounts) (n : ℕ) → of_counts (counted r counts) (n + 1) ≡ with_row r (of_counts counts n)
 counted_as (row.Item r) counts n = refl
-counted_as (row.Bid r) counts n = refl
-counted_as (row.Comment r) counts n = refl
-counted_as (row.Buy r) counts n = refl
+counted_as r counts n = refl
 
 pub counters_next : (b : Book) (r : Row) (w : ℕ) → counters_in (b ++ r ∷ []) w ≡ cond (worker_of r == w) (with_row r (counters_in b w)) (counters_in b w)
 counters_next b r w = (λ i. of_counts (stored_next b r w i) (rows_more b r w i)) ∙ at (worker_of r == w) where

@@ -6,9 +6,8 @@ use Rattle.std.proofs.lemmas.List.Elements.{All-from_recursion, recursion_from_A
 use Rattle.std.proofs.lemmas.Option.{none-some}
 use Rattle.phase_laws.proofs.ListLemmas.{all-append}
 use Rattle.auction_rows.{proofs.HistoryLemmas.{longer_book}, specs.Book.{Book}}
-use Rattle.auction_rows.specs.{History.{IsBook, GoOn}, Replies.{row_of}, Requests.{is_view}}
-use Rattle.auction_rows.specs.declared.{values.Opening.Opening, requests.Request.Request, replies.Refusal.Refusal, replies.Reply.Reply, rows.Row.Row}
-use Rattle.auction_rows.specs.declared.requests.Request.TheVariants as request
+use Rattle.auction_rows.specs.History.{IsBook, GoOn}
+use Rattle.auction_rows.specs.declared.{values.Opening.Opening, replies.Refusal.Refusal, rows.Row.Row}
 use Rattle.auction_rows.specs.declared.rows.Row.TheVariants as row
 use Rattle.item_shards.proofs.SerialLemmas.{stored_next}
 use Rattle.item_shards.specs.{Counting.{worker_of, stored_by, counted}, Writing.{writes_of}}
@@ -22,7 +21,7 @@ use Rattle.phase_transactions.specs.Workers.{no_counters}
 use Rattle.closing_laws.specs.Standing.{StandFor, AreCountersOf, AreOfWorkers, counters_at, stores}
 use Rattle.phase_floor.proofs.{BookSize.{size_at_most}, Kept.{are_opened}}
 use Rattle.phase_floor.proofs.RowActs.{can_write, ready_next, stand_next}
-use Rattle.phase_floor.specs.{Adding.{KeepsBooks, with_counted}, Resuming.{with_row}}
+use Rattle.phase_floor.specs.{Adding.{with_counted}, Resuming.{with_row}}
 use Rattle.phase_floor.specs.States.{JoinedState, AreOfABook, AreWithinMost, IsBookOf, IsKept, IsWithinMost, joined_of, states_of}
 use Rattle.phase_floor.specs.inner.Rows.{CanTake, AreReady, HaveRoom}
 
@@ -33,15 +32,11 @@ counts c = record { items = c.items; bids = c.bids; comments = c.comments; buys 
 
 counted_as : (r : Row) (c : Counters) → counted r (counts c) ≡ counts (with_row r c)
 counted_as (row.Item r) c = refl
-counted_as (row.Bid r) c = refl
-counted_as (row.Comment r) c = refl
-counted_as (row.Buy r) c = refl
+counted_as r c = refl
 
 stores_as : (r : Row) (c : Counters) → (stores (with_row r c) ≡ stores c + 1) × ((with_row r c).commits ≡ c.commits + 1)
 stores_as (row.Item r) c = (omega arith, refl)
-stores_as (row.Bid r) c = (omega arith, refl)
-stores_as (row.Comment r) c = (omega arith, refl)
-stores_as (row.Buy r) c = (omega arith, refl)
+stores_as r c = (omega arith, refl)
 
 module _ (b : Book) (w : ℕ) (c : Counters) where
   told : CountsOf b w c → stored_by b w ≡ counts c
@@ -174,9 +169,6 @@ module _ (state : JoinedState) (r : Row) (kept : IsKept state.opening state.limi
   own_book : AreOfWorkers (length state.counters) take.book
   own_book = recursion_from_All (λ row. worker_of row < length state.counters) take.book take.is_of.own
 
-  pub is_ready : AreReady state.opening (states_of state)
-  is_ready = ready state.opening state.limit (states_of state) state.counters r kept
-
   pub writes : CanWriteOn (states_of state) r
   writes = can state.opening state.limit (states_of state) state.counters r kept take.book take.is_of.is_book own_book take.is_of.stands take.goes_on take.own
 
@@ -197,10 +189,6 @@ module _ (state : JoinedState) (r : Row) (kept : IsKept state.opening state.limi
       stands = stand_more state.opening state.limit state.shards new state.counters r kept done take.own b of.stands;
     }
 
--- shards that show what they showed stand for the same books
-pub still : (state : JoinedState) (new : List Shard) → map state_of new ≡ states_of state → KeepsBooks state (with_parts state new state.counters)
-still state new same = record { books = λ book stands. subst (λ states. StandFor states state.counters book []) (sym same) stands; counters = refl }
-
 -- what a counted row leaves of counters of which one is read and put back
 pub counted_back : (r : Row) (counters : List Counters) (w : ℕ) (now before : Counters) → w ≡ worker_of r → w < length counters → before ≡ get_or counters w before → now ≡ with_row r before
     → set counters w now ≡ with_counted r counters
@@ -208,17 +196,6 @@ counted_back r counters w now before is low read counts =
     ap (set counters w) (counts ∙ ap (with_row r) (get_or_read counters w before low read no_counters)) ∙ ap (λ n. set counters n (with_row r (counters_at counters n))) is
 
 -- ---- replies
-
--- a view adds no row
-pub view_adds_none : (worker : ℕ) (request : Request) (answered : Reply) → is_view request ≡ true → row_of worker request answered ≡ None
-view_adds_none worker (request.StoreItem facts time) answered view = absurd (false≢true view)
-view_adds_none worker (request.StoreBid bidder item amount time) answered view = absurd (false≢true view)
-view_adds_none worker (request.StoreComment author about item stars) answered view = absurd (false≢true view)
-view_adds_none worker (request.BuyNow buyer item quantity time) answered view = absurd (false≢true view)
-view_adds_none worker (request.ViewItem item) answered view = refl
-view_adds_none worker (request.ViewBids item) answered view = refl
-view_adds_none worker (request.ViewCategory category) answered view = refl
-view_adds_none worker (request.ViewUser user) answered view = refl
 
 -- what is not refused and adds no row is a view
 pub view_without_row : (view : Bool) (refused : Option Refusal) (row : Option Row) → is_some row ≡ (not view && is_none refused) → refused ≡ None → row ≡ None → view ≡ true

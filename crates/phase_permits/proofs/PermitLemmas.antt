@@ -2,10 +2,9 @@
 use Rattle.std.proofs.Common.{◌≡◌, ℕ, Bool, true, false, List, [], ◌∷◌, length, Result, Ok, Err, refl, sym, ap, subst, ◌∙◌}
 use Rattle.std.proofs.lemmas.Bool.{false≢true}
 use Rattle.auction_rows.specs.{History.{rows_of}, Replies.{row_of}}
-use Rattle.auction_rows.specs.declared.requests.Request.TheVariants.{StoreItem, StoreBid, StoreComment, BuyNow, ViewItem, ViewBids, ViewCategory, ViewUser}
+use Rattle.auction_rows.specs.declared.requests.Request.TheVariants.{StoreItem}
 use Rattle.auction_rows.specs.declared.{requests.Object.Object, requests.Request.Request, replies.Reply.Reply}
-use Rattle.item_shards.specs.Events.{Event, AddItem, ListItem, Bid, Comment, Buy, Look}
-use Rattle.item_shards.specs.Writing.{writes_if}
+use Rattle.item_shards.specs.{Events.{Event, Look}, Writing.{writes_if}}
 use Rattle.shard_boxes.specs.States.{ShardState}
 use Rattle.phase_transactions.specs.Performing.{HasCommitted, HasFailed, HasPerformed}
 use Rattle.phase_transactions.specs.Txns.{Setting, is_put_off}
@@ -80,22 +79,12 @@ performed_explained initial old new request index (Err fault) failed is = fail_e
 -- where nothing is hot, no request is put off, and no slice is written
 pub none_put_off : (request : Request) → is_put_off [] request ≡ false
 none_put_off (StoreItem facts time) = refl
-none_put_off (StoreBid bidder item amount time) = refl
-none_put_off (StoreComment author about item stars) = refl
-none_put_off (BuyNow buyer item quantity time) = refl
-none_put_off (ViewItem item) = refl
-none_put_off (ViewBids item) = refl
-none_put_off (ViewCategory category) = refl
-none_put_off (ViewUser user) = refl
+none_put_off request = refl
 
 no_slices : (acts : List Event) → slices_after_acts [] acts ≡ []
 no_slices [] = refl
-no_slices (AddItem id facts ∷ acts) = no_slices acts
-no_slices (ListItem category entry ∷ acts) = no_slices acts
-no_slices (Bid id entry ∷ acts) = no_slices acts
-no_slices (Comment user stars ∷ acts) = no_slices acts
-no_slices (Buy id quantity ∷ acts) = no_slices acts
 no_slices (Look shown ∷ acts) = no_slices acts
+no_slices (act ∷ acts) = no_slices acts
 
 kind_stays : (joined : Bool) (initial : List ShardState) (old new : WorkerState) (request : Request) (index : ℕ) (result : Result Unit PermitFault) → HasPerformed initial old new request index result → IsEmptyIf joined old.slices → IsEmptyIf joined new.slices
 kind_stays false initial old new request index result performed cold = tt

@@ -1,6 +1,6 @@
 -- The first stashed request, taken out of the stash and put back.
 use Rattle.std.proofs.Common.{◌≡◌, ℕ, ◌+◌, ◌<◌, List, [], ◌∷◌, ◌++◌, Some, None, length, take, drop, refl, sym, ap, subst, ◌∙◌, arith}
-use Rattle.std.specs.Prelude.{slice_get}
+use Rattle.std.{proofs.lemmas.List.{same_from_push}, specs.Prelude.{slice_get}}
 use Rattle.auction_rows.specs.declared.requests.Request.{Request}
 use Rattle.shard_boxes.specs.{Keys.{KeyState, seat_at}, States.{ShardState}}
 use Rattle.phase_transactions.specs.Performing.{HasCommitted, HasCommittedSome, HasFailed, HasFailedFirst, HasPerformedFirstSome, IsCause}
@@ -14,26 +14,12 @@ pub no_first : {A : Type 0} (items : List A) → None ≡ slice_get items 0 → 
 no_first [] is = refl
 no_first (item ∷ items) is = absurd (cc)
 
--- what was taken out last is known by what is left
-no_end : {A : Type 0} (items : List A) (last : A) → [] ≡ items ++ last ∷ [] → ⊥
-no_end [] last e = cc
-no_end (item ∷ items) last e = cc
-
-same_end : {A : Type 0} (one other : List A) (last end : A) → one ++ last ∷ [] ≡ other ++ end ∷ [] → (one ≡ other) × (last ≡ end)
-same_end [] [] last end e = (refl, cc)
-same_end [] (item ∷ items) last end e = absurd (no_end items end (cc))
-same_end (item ∷ items) [] last end e = absurd (no_end items last (cc))
-same_end (item ∷ items) (other ∷ others) last end e =
-    let same : item ≡ other = cc in
-    let rest = same_end items others last end (cc) in
-    (λ i. same i ∷ rest.0 i, rest.1)
-
 same_stash : (one other : List (ℕ × Request)) (done done' : List (ℕ × Request)) → 0 < length one → 0 < length other → drop 1 one ≡ drop 1 other → done ++ take 1 one ≡ done' ++ take 1 other
     → (one ≡ other) × (done ≡ done')
 same_stash [] other done done' some some' rest taken = absurd (omega (arith, some))
 same_stash (item ∷ items) [] done done' some some' rest taken = absurd (omega (arith, some'))
 same_stash (item ∷ items) (other ∷ others) done done' some some' rest taken =
-    let same = same_end done done' item other taken in
+    let same = same_from_push done done' item other taken in
     (λ i. same.1 i ∷ rest i, same.0)
 
 -- so a worker is known by what it is after its first request is taken out of the stash

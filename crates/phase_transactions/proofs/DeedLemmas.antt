@@ -6,8 +6,7 @@ use Rattle.auction_rows.specs.declared.{requests.Facts.Facts, requests.Object.Ob
 use Rattle.item_shards.specs.{Contents.{Contents, target}, Events.{Event}}
 use Rattle.item_shards.specs.Looking.{IsTrueAct, event_at}
 use Rattle.item_shards.specs.Writing.{is_cold_in, is_done_on, padded}
-use Rattle.item_shards.specs.declared.shard.acts.Act.{Act}
-use Rattle.item_shards.specs.declared.shard.acts.Act.TheVariants.{AddItem, ListItem, Bid, Comment, Buy, Look}
+use Rattle.item_shards.specs.declared.shard.acts.Act.{TheVariants.{Look}, Act}
 use Rattle.item_shards.specs.declared.shard.acts.Look.TheVariants as look
 use Rattle.item_shards.specs.Events as event
 use Rattle.item_shards.specs.Shown as shown
@@ -34,15 +33,10 @@ module _ (hots : List (Object × Hot)) (shards t : ℕ) where
 
 -- an act whose look showed what is there is the event of the act there
 pub event_is : (seen : Option (Facts × ℕ)) (reply : Reply) (contents : Contents) (act : Act) → IsTrueAct contents (event_with seen reply act) → event_at contents act ≡ event_with seen reply act
-event_is seen reply contents (AddItem id facts) is = refl
-event_is seen reply contents (ListItem category entry) is = refl
-event_is seen reply contents (Bid id entry) is = refl
-event_is seen reply contents (Comment user stars) is = refl
-event_is seen reply contents (Buy id quantity) is = refl
-event_is seen reply contents (Look look.Nothing) is = refl
 event_is seen reply contents (Look (look.Facts id)) is = ap (λ facts. event.Look (shown.Facts id facts)) (sym is)
 event_is seen reply contents (Look (look.Left id)) is = ap (λ stock. event.Look (shown.Left id stock)) (sym is)
 event_is seen reply contents (Look (look.Item id)) is = ap (λ view. event.Look (shown.Item id view)) (sym is)
 event_is seen reply contents (Look (look.Bids id)) is = ap (λ view. event.Look (shown.Bids id view)) (sym is)
 event_is seen reply contents (Look (look.Category category)) is = ap (λ view. event.Look (shown.Category category view)) (sym is)
 event_is seen reply contents (Look (look.User user)) is = ap (λ view. event.Look (shown.User user view)) (sym is)
+event_is seen reply contents act is = refl

@@ -1,5 +1,5 @@
 -- What a store does can be done on the shards in which its objects lie, as they were taken.
-use Rattle.std.proofs.Common.{◌≡◌, ℕ, ◌-◌, ◌<◌, Bool, true, false, cond, List, length, Option, Some, None, IsSome, option_map, refl, sym, ap, subst, ◌∙◌, arith}
+use Rattle.std.proofs.Common.{◌≡◌, ℕ, ◌-◌, ◌<◌, Bool, false, cond, List, length, Option, Some, None, IsSome, option_map, refl, sym, ap, subst, ◌∙◌, arith}
 use Rattle.std.proofs.lemmas.{Bool.{or_parts, leb-false, ltb-false}, Option.{same_Some}}
 use Rattle.std.specs.{Option.{option_or}, Prelude.{nat_le, nat_lt}}
 use Rattle.auction_rows.{proofs.RefusalLemmas.{in_range}, specs.Refusals.{number_refusal}}
@@ -34,9 +34,8 @@ bid_stored start bidder item amount time bought None free = absurd (none_not_som
 bid_stored start bidder item amount time bought (Some facts) free = refl
 
 enough_if : (closed many : Bool) → cond closed (Some Closed) (cond many (Some NotEnough) None) ≡ None → many ≡ false
-enough_if true many is = absurd (cc)
-enough_if false true is = absurd (cc)
 enough_if false false is = refl
+enough_if closed many is = absurd (cc)
 
 left_to_buy : (start : Opening) (buyer : ℕ) (item : ItemId) (quantity time : ℕ) (value : Value) (facts : Option Facts) → value.facts ≡ facts
     → refusal_by start (option_map (λ f. (f, f.quantity - value.bought)) facts) (BuyNow buyer item quantity time) ≡ None → HasInStock value quantity

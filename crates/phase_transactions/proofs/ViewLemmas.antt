@@ -50,16 +50,13 @@ other_only hots shards homes object none at cold = record { at = at; cold = cold
 
 only_home : (w : WorkerState) (shards : ℕ) (request : Request) (homes : Homes) (object : Object) → viewed request ≡ Some object → is_put_off (hot_objects w.slices) request ≡ false → AreHomesOf w shards request homes
     → (h : Home) × IsOnlyHome w.slices shards homes object h
-only_home w shards (StoreItem facts time) homes object is goes are = absurd (cc)
-only_home w shards (StoreBid bidder item amount time) homes object is goes are = absurd (cc)
-only_home w shards (StoreComment author about item stars) homes object is goes are = absurd (cc)
-only_home w shards (BuyNow buyer item quantity time) homes object is goes are = absurd (cc)
 only_home w shards (ViewItem item) homes object is goes are = (homes.item, subst (λ o. IsOnlyHome w.slices shards homes o homes.item) (same_Some (Item item) object is) (item_only w.slices shards homes (Item item) are.0 are.1 (no_other _ goes)))
 only_home w shards (ViewBids item) homes object is goes are = (homes.item, subst (λ o. IsOnlyHome w.slices shards homes o homes.item) (same_Some (Item item) object is) (item_only w.slices shards homes (Item item) are.0 are.1 (no_other _ goes)))
 only_home w shards (ViewCategory category) homes object is goes are =
     (homes.other, subst (λ o. IsOnlyHome w.slices shards homes o homes.other) (same_Some (Category category) object is) (other_only w.slices shards homes (Category category) are.0 are.1 (no_other _ goes)))
 only_home w shards (ViewUser user) homes object is goes are =
     (homes.other, subst (λ o. IsOnlyHome w.slices shards homes o homes.other) (same_Some (User user) object is) (other_only w.slices shards homes (User user) are.0 are.1 (no_other _ goes)))
+only_home w shards request homes object is goes are = absurd (cc)
 
 shard_cold : (hots : List (Object × Hot)) (shards : ℕ) (object : Object) (h : Home) → IsHomeOf hots shards object h → is_hot (hot_objects hots) object ≡ false → (n : ℕ) × (shard_at h ≡ Some n)
 shard_cold hots shards object home.Nowhere at cold = absurd at
@@ -150,7 +147,6 @@ module _ {N : Type 0} (step : Step) (w : WorkerState) (request : Request) (b : B
   on_one openings = go took begun.taken.taken (begun.taken.numbers ∙ its_home.1.only n its_shard.1)
     where
       go : (its : Taken N) → AllByRecursion (IsAsTaken initial step.workers w.key) (held_in its) → numbers_of (held_in its) ≡ n ∷ [] → IsOnOne request its
-      go taken.Nothing all numbers = absurd (cc)
       go (taken.One one) all numbers =
           let number : one.number ≡ n = (cc) in
           let lies : LiesIn one.shard object =
@@ -159,7 +155,7 @@ module _ {N : Type 0} (step : Step) (w : WorkerState) (request : Request) (b : B
             here = λ other is. subst (LiesIn one.shard) (same_Some object other (sym (shows_one request view).1 ∙ is)) lies;
             allowed = subst (λ start. number_refusal start request ≡ None) (sym (all.0.opening_is ∙ openings one.number all.0.known)) begun.may.allowed;
           }
-      go (taken.Two one other) all numbers = absurd (cc)
+      go its all numbers = absurd (cc)
 
   -- what it did is a commit
   view_answered : (index : ℕ) (reply : Reply) (found : ReadSet) → ((counters : Counters) (worker : ℕ) → IsReplyTo counters worker request reply) → IsAnswered (setting_of w (length initial)) w.counters (txn_of w number request index reply found)

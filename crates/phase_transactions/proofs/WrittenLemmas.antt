@@ -1,6 +1,6 @@
 -- The acts that are dealt to the shards that were taken are those that are done there, and can be done there, and the clocks that were found are theirs.
 use Rattle.std.proofs.Common.{◌≡◌, ◌≢◌, ℕ, max, ◌<◌, ◌≤◌, ◌==◌, ◌||◌, Bool, true, false, cond, List, [], ◌∷◌, Option, Some, None, refl, sym, ap, subst, ◌∙◌, ◌⊎◌, inl, inr, arith}
-use Rattle.std.proofs.{Math.Bool.{or-false}, lemmas.Bool.{eq-eqb, ne_eqb, false≢true}}
+use Rattle.std.proofs.{Math.Bool.{or-false}, lemmas.Bool.{eq-eqb, ne_eqb, false≢true, or_right}}
 use Rattle.std.{proofs.lemmas.Bool.Decides.{eqb_tells}, specs.List.{AllByRecursion, list_any}}
 use Rattle.phase_laws.specs.{Numbers.{greatest_by}, Replay.{SawInTurn}}
 use Rattle.item_shards.specs.{Acting.{CanActIn}, Contents.{Contents, after_act}, Events.{Event}}
@@ -150,9 +150,8 @@ module _ (seen : Option (Facts × ℕ)) (reply : Reply) (x y : Act) where
 two_lines : (b c : Bool) (number index before after : ℕ) (x y : List Event) → (b || (c || false)) ≡ true
     → cond b (record { number = number; before = before; index = index; acts = first_two x }) (cond c (record { number = number; before = after; index = index; acts = first_two y }) no_line)
     ≡ record { number = number; before = cond b before (cond c after 0); index = index; acts = first_two (cond b x (cond c y [])) }
-two_lines true c number index before after x y here = refl
-two_lines false true number index before after x y here = refl
 two_lines false false number index before after x y here = absurd (false≢true here)
+two_lines b c number index before after x y here = refl
 
 one_line : (b : Bool) (number index before : ℕ) (x : List Event) → b ≡ true
     → cond b (record { number = number; before = before; index = index; acts = first_two x }) no_line ≡ record { number = number; before = cond b before 0; index = index; acts = first_two (cond b x []) }
@@ -175,15 +174,11 @@ le_in f (n ∷ ns) t here = go (eqb_tells n t) (λ more. le_in f ns t more)
     go (inl h) again = let same = ap f h.1 in omega (arith, same)
     go (inr h) again = let below = again (ap (λ b. b || list_any (λ s. s == t) ns) (sym h.0) ∙ here) in omega (arith, below)
 
-true_or : (b : Bool) → (b || true) ≡ true
-true_or true = refl
-true_or false = refl
-
 bounded : (f : ℕ → ℕ) (ns : List ℕ) (m : ℕ) → ((t : ℕ) → list_any (λ s. s == t) ns ≡ true → f t ≤ m) → greatest_by f ns ≤ m
 bounded f [] m all = omega arith
 bounded f (n ∷ ns) m all =
     let first = all n (ap (λ b. b || list_any (λ s. s == n) ns) (eq-eqb n n refl)) in
-    let more = bounded f ns m (λ t here. all t (ap (λ b. (n == t) || b) here ∙ true_or (n == t))) in
+    let more = bounded f ns m (λ t here. all t (ap (λ b. (n == t) || b) here ∙ or_right (n == t) true refl)) in
     omega (arith, first, more)
 
 pub greatest_same : (f : ℕ → ℕ) (ns ms : List ℕ) → ((t : ℕ) → list_any (λ s. s == t) ns ≡ list_any (λ s. s == t) ms) → greatest_by f ns ≡ greatest_by f ms

@@ -1,5 +1,5 @@
 -- The tasks of workers, one after the other.
-use Rattle.std.proofs.Common.{inl, inr, ◌≡◌, ℕ, zero, suc, ◌+◌, ◌<◌, ◌≤◌, Bool, List, [], ◌∷◌, ◌++◌, map, length, drop, get_or, refl, sym, ap, subst, ◌∙◌, append_assoc, arith}
+use Rattle.std.proofs.Common.{inl, inr, ◌≡◌, ℕ, suc, ◌+◌, ◌<◌, ◌≤◌, Bool, List, [], ◌∷◌, ◌++◌, map, length, drop, get_or, refl, sym, ap, subst, ◌∙◌, append_assoc, arith, drop-cons}
 use Rattle.std.proofs.lemmas.{List.{map-append, length-map}, Slice.Zip.{AllZip-long}}
 use Rattle.std.specs.List.{AllByRecursion, AllZip}
 use Rattle.std.specs.Prelude.{OnOk, IfErr, Result, unwrap_or, None, Some, Ok, Err}
@@ -16,13 +16,9 @@ use Rattle.phase_workers.specs.inner.Answers.{without_fault, fault_or, first_fau
 -- the next of the scripts that are left
 pub next_script : (scripts : List (List Request)) (n m : ℕ) (script : List Request) → n < length scripts → script ≡ get_or scripts n script → m ≡ n + 1 →
     drop n scripts ≡ script ∷ drop m scripts
-next_script [] n m script less is one = absurd (omega (arith, less))
-next_script (x ∷ xs) zero m script less is one =
-    let e : 1 ≡ m = omega (arith, one) in
-    ap (λ own. own ∷ xs) (sym is) ∙ ap (λ k. script ∷ drop k (x ∷ xs)) e
-next_script (x ∷ xs) (suc n) m script less is one =
-    let e : suc (n + 1) ≡ m = omega (arith, one) in
-    next_script xs n (n + 1) script (omega (arith, less)) is refl ∙ ap (λ k. script ∷ drop k (x ∷ xs)) e
+next_script scripts n m script less is one =
+    let e : suc n ≡ m = omega (arith, one) in
+    drop-cons scripts n script less ∙ ap (λ own. own ∷ drop (suc n) scripts) (sym is) ∙ ap (λ k. script ∷ drop k scripts) e
 
 pub next_within : (n left rest all : ℕ) → left + 1 ≡ rest → n + rest ≡ all → n < all
 next_within n left rest all one so_far = omega (arith, one, so_far)
@@ -61,9 +57,8 @@ module _ {D : Type 0} (of : D → Task) (takes : Bool) (initial : List ShardStat
 
   done_by : (owns : List D) (receipts : List WorkerState) → AllZip Keeps owns (map without_fault receipts) → AllZip (HasDoneTask takes) (map of owns) receipts
   done_by [] [] kept = tt
-  done_by [] (r ∷ rs) kept = absurd kept
-  done_by (d ∷ ds) [] kept = absurd kept
   done_by (d ∷ ds) (r ∷ rs) kept = (kept.0.0, done_by ds rs kept.1)
+  done_by owns receipts kept = absurd kept
 
   -- where no worker met a fault, all tasks are done
   pub all_done : (owns : List D) (answers : List (WorkerAnswer WorkerState)) (receipts : List WorkerState) (ts : List Task) →
@@ -75,8 +70,6 @@ module _ {D : Type 0} (of : D → Task) (takes : Bool) (initial : List ShardStat
   first_met : (owns : List D) (answers : List (WorkerAnswer WorkerState)) (fault : PermitFault) → AllZip Keeps owns answers → first_fault answers ≡ Some fault →
       IsFirstFault takes initial (map of owns) fault
   first_met [] [] fault kept is = absurd (let none : None ≡ Some fault = is in cc)
-  first_met [] (a ∷ more) fault kept is = absurd kept
-  first_met (d ∷ ds) [] fault kept is = absurd kept
   first_met (d ∷ ds) (a ∷ more) fault kept is = at a.done kept.0.0 kept.0.1 is (λ later. first_met ds more fault kept.1 later)
     where
       at : {U : Type 0} (done : Result U PermitFault) → OnOk done (HasDoneTask takes (of d) a.receipt) → IfErr done (HasMetFault takes initial (of d) a.receipt) →
@@ -84,6 +77,7 @@ module _ {D : Type 0} (of : D → Task) (takes : Bool) (initial : List ShardStat
           IsFirstFault takes initial (map of (d ∷ ds)) fault
       at (Ok u) ok err first again = inr ((a.receipt, ok), again first)
       at (Err f) ok err first again = inl (a.receipt, subst (HasMetFault takes initial (of d) a.receipt) (ap (λ o. unwrap_or o fault) first) err)
+  first_met owns answers fault kept is = absurd kept
 
   pub fault_met : (owns : List D) (answers : List (WorkerAnswer WorkerState)) (ts : List Task) (fault : PermitFault) → AllZip Keeps owns answers →
       first_fault answers ≡ Some fault → map of owns ≡ ts → IsFirstFault takes initial ts fault
@@ -94,9 +88,8 @@ unstarted_by jobs workers P Spawn few is = omega (arith, few, is)
 unstarted_by jobs workers P Memory few is = tt
 
 tasks_few : (permits : List WorkerState) (scripts : List (List Request)) (first : ℕ) → length (tasks permits scripts first) ≤ length scripts
-tasks_few [] scripts first = omega arith
-tasks_few (p ∷ ps) [] first = omega arith
 tasks_few (p ∷ ps) (s ∷ ss) first = let again = tasks_few ps ss first in omega (arith, again)
+tasks_few permits scripts first = omega arith
 
 -- there are no more tasks than scripts
 pub tasks_of_few : {D : Type 0} (of : D → Task) (owns : List D) (permits : List WorkerState) (scripts : List (List Request)) (first : ℕ) →

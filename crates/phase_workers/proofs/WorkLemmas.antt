@@ -202,10 +202,6 @@ first_one : (xs : List (ℕ × Request)) (x : ℕ × Request) → slice_get xs 0
 first_one [] x is = absurd (let none : None ≡ Some x = is in cc)
 first_one (y ∷ xs) x is = ap (λ (o : Option (ℕ × Request)). unwrap_or o y ∷ []) is
 
-none_there : (xs : List (ℕ × Request)) → slice_get xs 0 ≡ None → xs ≡ []
-none_there [] is = refl
-none_there (y ∷ xs) is = absurd (let some : Some y ≡ None = is in cc)
-
 front_more : (k : ℕ) (xs : List (ℕ × Request)) → take k xs ++ take 1 (drop k xs) ≡ take (k + 1) xs
 front_more zero xs = refl
 front_more (suc k) [] = let e : suc (k + 1) ≡ suc k + 1 = omega arith in ap (λ (m : ℕ). take {A = ℕ × Request} m []) e
@@ -255,23 +251,6 @@ first_performed initial old new true empty same done =
       stash = ap (λ (d : WorkerState). d.stash.requests) first.committed.worker;
       left = omega (arith, one_more);
       tries = omega (arith, tried_once);
-    }
-
--- the stash is what is taken of it, where nothing is, and what is kept
-none_taken : (takes : Bool) (permit : WorkerState) → taken takes permit ≡ [] → stashed permit ≡ still_waiting takes permit
-none_taken true permit none = none
-none_taken false permit none = refl
-
--- where none waits there is none to perform
-pub none_waits : (takes : Bool) (permit : WorkerState) → slice_get (taken takes permit) 0 ≡ None → HasPerformedWaiting takes permit permit
-none_waits takes permit none =
-    let empty : taken takes permit ≡ [] = none_there (taken takes permit) none in record {
-      same = same permit;
-      goes = ap (λ ss. put_off (hot_for permit) (take 1 ss)) empty;
-      calls = sym (ap (λ ss. committed permit ++ take 1 ss) empty ∙ append-nil (committed permit));
-      stash = none_taken takes permit empty ∙ sym (ap (λ ss. still_waiting takes permit ++ drop 1 ss) empty ∙ append-nil (still_waiting takes permit));
-      left = refl;
-      tries = omega arith;
     }
 
 -- one more of the stash is not to be put off

@@ -1,14 +1,9 @@
 -- An auction before it has rows.
-use Rattle.std.proofs.Common.{◌≡◌, ℕ, zero, suc, replicate, ◌∙◌, [], refl, sym, ap, subst, arith}
+use Rattle.std.proofs.Common.{◌≡◌, ℕ, replicate, ◌∙◌, [], sym, ap, subst, arith}
 use Rattle.closing_laws.specs.Standing.{counters_at}
 use Rattle.phase_transactions.specs.Workers.{no_counters}
-use Rattle.phase_floor.specs.{Adding.{IsStartOf}, NextRun.{lasting}}
+use Rattle.phase_floor.{proofs.Blank.{none_counted}, specs.{Adding.{IsStartOf}, NextRun.{lasting}}}
 use Rattle.phase_floor.specs.States.{JoinedState, StandsFor}
-
-none_counted : (workers w : ℕ) → counters_at (replicate workers no_counters) w ≡ no_counters
-none_counted zero w = refl
-none_counted (suc workers) zero = refl
-none_counted (suc workers) (suc w) = none_counted workers w
 
 -- an auction in which nothing is stored, and that lasts
 pub new_start : (made last : JoinedState) (workers : ℕ) → made.counters ≡ replicate workers no_counters → StandsFor made [] → last ≡ lasting made → IsStartOf last []

@@ -83,11 +83,10 @@ module _ (program : App) (free : is_simple_and_free program ≡ true) where
 
     one_found : (is_plain : (app_of c).top.is_plain ≡ true) (id : Text) (least greatest : ℕ) → (id ≡ [] → ⊥) → (rules : List Rule)
         → filter (λ r. bytes_eq r.id id) (map rule_of (args_of c)) ≡ rules → IsOneNumber id least greatest rules → IsNumberIn least greatest (one_text f id)
-    one_found is_plain id least greatest named [] same one = absurd one
     one_found is_plain id least greatest named (rule ∷ []) same one =
         number_found c f has (parsed (plain_globals is_plain)) (plain_groups is_plain) id named rule same one.0.own one.0.simple one.0.action one.1 one.0.usual
         least greatest one.0.parser
-    one_found is_plain id least greatest named (rule ∷ next ∷ rules) same one = absurd one
+    one_found is_plain id least greatest named rules same one = absurd one
 
     -- each option of a number has one in its range
     numbers_found : (app_of c ≡ program) ⊎ (app_of c ≡ built program) → HaveNumbers program (one_text f)

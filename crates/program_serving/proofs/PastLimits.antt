@@ -8,6 +8,7 @@ use Rattle.auction_rows.specs.{Book.{Book, worker_of}, History.{book_after}}
 use Rattle.auction_rows.specs.Replies.{reply, row_of}
 use Rattle.auction_rows.specs.declared.limits.TheConstants.{MOST_OF_A_WORKER}
 use Rattle.auction_rows.specs.declared.{values.Opening.Opening, requests.Request.Request, requests.Opened.Opened, rows.Row.Row, rows.Entry.Entry}
+use Rattle.auction_run.proofs.GoingOnLemmas.{stored}
 use Rattle.auction_run.specs.GoingOn.{AreShortOn, HasScripts, IsShortOn}
 use Rattle.auction_text.specs.{InputLimits.{MOST_ROWS_OF_A_PART}, LiveParts.{rows_said}}
 use Rattle.auction_text.specs.{LiveReading.{records_said}, Moved.{Gone}, Record.{Record}}
@@ -22,8 +23,7 @@ use Rattle.run_laws.specs.Serving.{script_of}
 use Rattle.shard_boxes.specs.declared.limits.TheConstants.{MOST_COMMITS}
 use Rattle.program_opening.specs.{Options.{opening_asked}, declared.options.Options.{Options}}
 use Rattle.program_serving.proofs.RowsBefore.{HasNoLateRow, no_entries, no_script, one_more, request_begins, rows_of_both}
-use Rattle.program_serving.{proofs.StoppedRuns.{stored}, specs.PartRuns.{IsStart}}
-use Rattle.program_serving.specs.declared.parts.Served.{Served}
+use Rattle.program_serving.specs.{PartRuns.{IsStart}, declared.parts.Served.{Served}}
 use Rattle.program_serving.specs.inner.Parts.{AreDoneOf, AreWithinLimit, HasRoomForPart, IsPastLimit, ServesPart, done_of}
 
 -- A part is read of what an input has yet to say, with at most so many requests.
@@ -150,15 +150,13 @@ is_own (one ∷ scripts) zero some = omega arith
 is_own (one ∷ scripts) (suc w) some = omega (arith, is_own scripts w some)
 
 at_place : (scripts : List (List Request)) (w : ℕ) → script_of scripts w ≡ get_or scripts w []
-at_place [] w = refl
-at_place (one ∷ scripts) zero = refl
 at_place (one ∷ scripts) (suc w) = at_place scripts w
+at_place scripts w = refl
 
 -- of scripts without requests each is empty
 blank : (scripts : List (List Request)) (w : ℕ) → script_of (map (λ script. []) scripts) w ≡ []
-blank [] w = refl
-blank (one ∷ scripts) zero = refl
 blank (one ∷ scripts) (suc w) = blank scripts w
+blank scripts w = refl
 
 -- they are short for an auction that is within its limit
 pub blank_short : (auction : JoinedState) (scripts : List (List Request)) → AreWithinLimit auction → HasScripts auction scripts → AreShortOn auction (map (λ script. []) scripts)

@@ -9,7 +9,7 @@ use Rattle.auction_text.specs.{Said.{Said}, Scripts.{asked_in}}
 use Rattle.log_opening.proofs.AcceptedLemmas.{joined, rows_alone}
 use Rattle.part_log.specs.declared.log.Teller.{Teller}
 use Rattle.program_opening.specs.{Options.{opening_asked}, declared.faults.Fault.{Fault}}
-use Rattle.program_opening.specs.declared.faults.Fault.TheVariants.{Usage, Read, Resume, Row, Make, Run, Limit, Write, Report, OpenLog, Log}
+use Rattle.program_opening.specs.declared.faults.Fault.TheVariants.{Read}
 use Rattle.program_opening.specs.declared.options.Options.{Options}
 use Rattle.phase_floor.specs.States.{JoinedState}
 use Rattle.program_serving.proofs.Sessions.{all_more, each_more, runs_more, text_more}
@@ -115,16 +115,7 @@ module _ {L W : Type 0} (accepted : L → Option (List ℕ)) (contents : W → O
   told_stop : (told : ServesFirst options book all (AreTold accepted contents old between)) (fault : Fault)
       → IsStop accepted contents between new options (book_left options book told.steps) (gone_after options told.steps) (rows_before told.steps) told.rest fault → IsLoggedBefore accepted contents old new options book all
   told_stop told (Read fault) stops = told_kept told stops.0
-  told_stop told (Usage fault) stops = told_either told (Usage fault) stops
-  told_stop told (Resume fault) stops = told_either told (Resume fault) stops
-  told_stop told (Row number fault) stops = told_either told (Row number fault) stops
-  told_stop told (Make fault) stops = told_either told (Make fault) stops
-  told_stop told (Run fault) stops = told_either told (Run fault) stops
-  told_stop told (Limit most) stops = told_either told (Limit most) stops
-  told_stop told (Write fault) stops = told_either told (Write fault) stops
-  told_stop told Report stops = told_either told Report stops
-  told_stop told (OpenLog fault) stops = told_either told (OpenLog fault) stops
-  told_stop told (Log fault) stops = told_either told (Log fault) stops
+  told_stop told fault stops = told_either told fault stops
 
 module _ {L W : Type 0} (accepted : L → Option (List ℕ)) (contents : W → Option (List ℕ)) (options : Options) (book : Book) (old new : Teller L W) where
   -- whatever ends serving, what is written was logged before

@@ -3,7 +3,8 @@ use Rattle.std.proofs.Common.{◌≡◌, ◌≤◌, ◌++◌, ◌∙◌, ℕ, Bo
 use Rattle.std.proofs.lemmas.List.{length-map}
 use Rattle.auction_rows.specs.{Book.{Book}, declared.limits.TheConstants.{MOST_WORKERS}}
 use Rattle.auction_rows.specs.declared.{values.Opening.Opening, requests.Request.Request, requests.Opened.Opened}
-use Rattle.auction_run.specs.{Beginning.{AreShortFor}, GoingOn.{AreShortOn, HasScripts}}
+use Rattle.auction_run.{proofs.GoingOnLemmas.{stored}, specs.Beginning.{AreShortFor}}
+use Rattle.auction_run.specs.GoingOn.{AreShortOn, HasScripts}
 use Rattle.auction_text.specs.{Moved.{BeforeView, CannotCount, Gone, gone_by}, Scripts.{Asked}}
 use Rattle.item_shards.specs.OpeningRows.{rows_by}
 use Rattle.log_opening.specs.Parts.{HasAdded, rows_from}
@@ -11,10 +12,9 @@ use Rattle.phase_floor.specs.{Adding.{HasBook, IsSameAuction, IsStartOf}, NextRu
 use Rattle.phase_floor.specs.States.{JoinedState, StandsFor}
 use Rattle.shard_boxes.specs.declared.limits.TheConstants.{MOST_COMMITS}
 use Rattle.program_opening.specs.Options.{FitsOptions, opening_asked}
-use Rattle.program_opening.specs.declared.faults.Fault.{Fault}
-use Rattle.program_opening.specs.declared.faults.Fault.TheVariants.{Usage, Read, Resume, Row, Make, Run, Limit, Write, Report, OpenLog, Log}
+use Rattle.program_opening.specs.declared.faults.Fault.{TheVariants.{Row, Run, Limit}, Fault}
 use Rattle.program_opening.specs.declared.options.Options.{Options}
-use Rattle.program_serving.proofs.StoppedRuns.{added_fits, next_fits, next_start, short_behind, stored}
+use Rattle.program_serving.proofs.StoppedRuns.{added_fits, next_fits, next_start, short_behind}
 use Rattle.program_serving.specs.ServeFaults.{AreNotRunOn, IsFirstBadRow, IsPartRefused, IsPastCounts}
 use Rattle.program_serving.specs.Serving.{AddsRows, ends_at_fault}
 use Rattle.program_serving.specs.inner.Parts.{AreDoneOf, BeginsAt, IsBegun, IsFirstNotAdded, IsPastOn, done_of}
@@ -102,16 +102,7 @@ module _ (options : Options) (state next : JoinedState) (book : Book) (scripts :
       subst (λ (w : ℕ). IsFirstBadRow w MOST_COMMITS (opening_asked options) book asked.rows before number fault) fits.workers
       (subst (λ (l : ℕ). IsFirstBadRow (length next.counters) l (opening_asked options) book asked.rows before number fault) fits.limit
       (subst (λ (o : Opening). IsFirstBadRow (length next.counters) next.limit o book asked.rows before number fault) fits.opening why))
-  taken gone before asked (Usage fault) why = absurd why
-  taken gone before asked (Read fault) why = absurd why
-  taken gone before asked (Resume fault) why = absurd why
-  taken gone before asked (Make fault) why = absurd why
-  taken gone before asked (Run fault) why = absurd why
-  taken gone before asked (Limit most) why = absurd why
-  taken gone before asked (Write fault) why = absurd why
-  taken gone before asked Report why = absurd why
-  taken gone before asked (OpenLog fault) why = absurd why
-  taken gone before asked (Log fault) why = absurd why
+  taken gone before asked fault why = absurd why
 
   -- a row of it is not added
   pub not_taken : (gone : Gone) (before : ℕ) (asked : Asked) (given : List Opened) → given ≡ asked.rows → (fault : Fault) → IsFirstNotAdded next book given before fault → IsPartRefused options book gone before asked fault
@@ -147,12 +138,4 @@ module _ (options : Options) (book : Book) (asked : Asked) (auction : JoinedStat
       refused : (fault : Fault) → AreNotRunOn options fault (book ++ added) run → IsPartRefused options book gone before (record { rows = asked.rows; scripts = run }) fault
       refused (Run fault) why = inl (behind_rows (Run fault) why)
       refused (Limit most) why = (is_end (ends_at_fault options) refl why.1.1, behind_rows (Limit most) why)
-      refused (Usage fault) why = absurd why
-      refused (Read fault) why = absurd why
-      refused (Resume fault) why = absurd why
-      refused (Row number fault) why = absurd why
-      refused (Make fault) why = absurd why
-      refused (Write fault) why = absurd why
-      refused Report why = absurd why
-      refused (OpenLog fault) why = absurd why
-      refused (Log fault) why = absurd why
+      refused fault why = absurd why

@@ -21,7 +21,7 @@ use Rattle.program_opening.specs.declared.options.Options.{Options}
 use Rattle.program_opening.specs.declared.faults.Fault.{Fault as AnyFault}
 use Rattle.program_serving.proofs.FaultLemmas.{answer_stops}
 use Rattle.program_serving.proofs.PastLimits.{IsNextPast, LeftBehind, ReadsPart}
-use Rattle.program_serving.proofs.{RowsBefore.{same_rows}, StoppedRuns.{stored}}
+use Rattle.program_serving.proofs.RowsBefore.{same_rows}
 use Rattle.program_serving.proofs.ToldLemmas.{nothing_told, told_more, told_none}
 use Rattle.program_serving.specs.PartRuns.{IsStart, rows_before}
 use Rattle.program_serving.specs.ServeFaults.{AreToldAt, IsPartFault, IsServeFault, IsStop, StopsAtPart}
@@ -29,6 +29,7 @@ use Rattle.program_serving.specs.Serving.{AreStepRuns, AreTold, IsStepRun, Part,
 use Rattle.program_serving.specs.declared.parts.Served.{Served}
 use Rattle.program_serving.specs.inner.Parts.{AreDoneOf, BeginsAt, ServesPart}
 use Rattle.program_serving.specs.inner.Sessions.{GoesOnTo, IsSession, MayHaveToSay, PassesFault, fault_answer, fault_said, past_answer}
+use Rattle.auction_run.proofs.GoingOnLemmas.{stored}
 
 -- what each step gives, with one more
 pub each_more : {X Y : Type 0} (f : X → List Y) (xs : List X) (x : X) → flat_map f (xs ++ x ∷ []) ≡ flat_map f xs ++ f x

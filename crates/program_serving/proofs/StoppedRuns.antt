@@ -1,16 +1,14 @@
 -- A run of a part that goes on from an auction: what it leaves, and why it stops.
-use Rattle.std.proofs.Common.{arith, ◌≡◌, ◌==◌, ◌<◌, ◌+◌, ◌∷◌, ◌∙◌, ℕ, cond, List, [], All, length, map, ap, sym, subst}
-use Rattle.std.proofs.lemmas.List.Sums.{sum_by-append}
-use Rattle.auction_rows.specs.Book.{Book, bids_stored, buys_stored, comments_stored, items_stored, worker_of}
-use Rattle.auction_rows.specs.History.{book_after}
+use Rattle.std.proofs.Common.{arith, ◌≡◌, ◌<◌, ◌∙◌, ℕ, List, All, length, map, ap, sym, subst}
+use Rattle.auction_rows.specs.{Book.{Book, worker_of}, History.{book_after}}
 use Rattle.auction_rows.specs.declared.{limits.Policy.Policy, values.Opening.Opening, requests.Request.Request}
-use Rattle.auction_run.specs.{Beginning.{AreShortFor}, GoingOn.{AreShortOn, IsStopped}}
-use Rattle.auction_run.specs.{Outcome.{Outcome}, Outcomes.{IsOutcome}}
-use Rattle.auction_run.specs.declared.checks.Stopped.{TheVariants.{Refused, Failed}, Stopped}
+use Rattle.auction_run.{proofs.GoingOnLemmas.{stored}, specs.Beginning.{AreShortFor}}
+use Rattle.auction_run.specs.{GoingOn.{AreShortOn, IsStopped}, Outcome.{Outcome}}
+use Rattle.auction_run.specs.{Outcomes.{IsOutcome}, declared.checks.Stopped.{Stopped}}
+use Rattle.auction_run.specs.declared.checks.Stopped.TheVariants.{Refused, Failed}
 use Rattle.auction_run.specs.RunFault.TheVariants as run
-use Rattle.closing_laws.specs.Standing.{counters_at, stores}
-use Rattle.item_shards.specs.OpeningRows.{rows_by}
-use Rattle.phase_floor.proofs.{BookSize.{one_more}, NextRunLemmas.{at_next, many}}
+use Rattle.closing_laws.specs.Standing.{counters_at}
+use Rattle.phase_floor.proofs.NextRunLemmas.{at_next, many}
 use Rattle.phase_floor.specs.Adding.{IsSameAuction, IsStartOf}
 use Rattle.phase_floor.specs.{NextRun.{for_next_run, stores_as_commits}, Resuming.{counters_in}}
 use Rattle.phase_floor.specs.States.{IsBookOf, JoinedState, StandsFor}
@@ -18,21 +16,6 @@ use Rattle.program_opening.specs.Options.{FitsOptions, opening_asked, policy_of}
 use Rattle.program_opening.specs.declared.options.Options.{Options}
 use Rattle.program_serving.specs.ServeFaults.{AreNotRunOn}
 use Rattle.program_serving.specs.inner.Parts.{AnswersScripts, BeginsAt, told_fault}
-
--- each row is of one kind
-rows_counted : (book : Book) (w : ℕ) → rows_by book w ≡ items_stored book w + bids_stored book w + comments_stored book w + buys_stored book w
-rows_counted [] w = omega arith
-rows_counted (one ∷ book) w =
-    let rest = rows_counted book w in
-    let more = one_more one book w in
-    let rows : rows_by (one ∷ book) w ≡ (0 + cond (worker_of one == w) 1 0) + rows_by book w = sum_by-append (λ x. cond (worker_of x == w) 1 0) (one ∷ []) book in
-    omega (arith, rest, more, rows)
-
--- a worker's counters count its rows of each book of the state
-pub stored : (state : JoinedState) (book : Book) → StandsFor state book → (w : ℕ) → w < length state.counters → stores (counters_at state.counters w) ≡ rows_by book w
-stored state book stands w below =
-    let counts = stands.counts w below in
-    omega (arith, rows_counted book w, counts.items, counts.bids, counts.comments, counts.buys)
 
 -- what is short behind the rows of a book is short for a state of it
 short_on : (state : JoinedState) (book : Book) (scripts : List (List Request)) (limit : ℕ) → state.limit ≡ limit → length scripts ≡ length state.counters → StandsFor state book
@@ -61,16 +44,11 @@ module _ (options : Options) (state : JoinedState) (policy : Policy) (scripts : 
   not_run_on (Refused back run.Quota) is = is.1.1.1
   not_run_on (Refused back run.TooLong) is =
       (ap (λ (s : JoinedState). s.limit) is.0 ∙ fits.limit, (is.1.1.1.0, λ short. is.1.1.1.1 (short_on state book scripts _ fits.limit counted begins.start.of.stands short)))
-  not_run_on (Refused back run.Spawn) is = absurd is.1
   not_run_on (Refused back run.Memory) is = tt
-  not_run_on (Refused back run.NumberFull) is = absurd is.1
-  not_run_on (Failed run.Workers) is = absurd is.1
-  not_run_on (Failed run.Shards) is = absurd is.1
-  not_run_on (Failed run.Quota) is = absurd is.1
-  not_run_on (Failed run.TooLong) is = absurd is.1
   not_run_on (Failed run.Spawn) is = is.1
   not_run_on (Failed run.Memory) is = tt
   not_run_on (Failed run.NumberFull) is = is.1
+  not_run_on stopped is = absurd is.1
 
   -- a run stops for a cause that the book shows
   pub run_refused : (stopped : Stopped) → IsStopped state policy scripts stopped → AreNotRunOn options (told_fault stopped) book scripts

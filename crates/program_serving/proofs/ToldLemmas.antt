@@ -14,7 +14,7 @@ use Rattle.part_log.specs.declared.log.Teller.{Teller}
 use Rattle.part_log.specs.declared.log.TellFault.TheVariants as telling
 use Rattle.program_opening.{proofs.ErrorLemmas.{error_is}, specs.Faults.{of_telling}}
 use Rattle.program_opening.specs.{Options.{commits_text}, declared.faults.Fault.{Fault}}
-use Rattle.program_opening.specs.declared.faults.Fault.TheVariants.{Usage, Read, Resume, Row, Make, Run, Limit, Write, Report, OpenLog, Log}
+use Rattle.program_opening.specs.declared.faults.Fault.TheVariants.{Write, Log}
 use Rattle.program_opening.specs.declared.options.Options.{Options}
 use Rattle.program_serving.{proofs.TextLemmas.{part_of_added}, specs.ServeFaults.{AreToldAt}}
 use Rattle.program_serving.specs.Serving.{ArePartTold, AreTold, IsNothingTold}
@@ -97,12 +97,4 @@ module _ {L W : Type 0} (accepted : L → Option (List ℕ)) (contents : W → O
   told_at old new (Log fault) rows text at = inr at
   told_at old new (Write write.Memory) rows text at = inr at
   told_at old new (Write write.Write) rows text at = inl at
-  told_at old new (Usage fault) rows text at = absurd at
-  told_at old new (Read fault) rows text at = absurd at
-  told_at old new (Resume fault) rows text at = absurd at
-  told_at old new (Row number fault) rows text at = absurd at
-  told_at old new (Make fault) rows text at = absurd at
-  told_at old new (Run fault) rows text at = absurd at
-  told_at old new (Limit most) rows text at = absurd at
-  told_at old new Report rows text at = absurd at
-  told_at old new (OpenLog fault) rows text at = absurd at
+  told_at old new fault rows text at = absurd at

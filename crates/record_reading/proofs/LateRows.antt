@@ -15,8 +15,7 @@ row_of_count : (enough : Bool) (r : Result Request Cause) (row : Bool) (w : ℕ)
 row_of_count true (Ok request) row w said e =
     let same : record { is_row = row; worker = w; request = request } ≡ said = cc e in
     ap (λ (x : Record). x.is_row) same
-row_of_count true (Err f) row w said e = absurd (cc e)
-row_of_count false r row w said e = absurd (cc e)
+row_of_count enough r row w said e = absurd (cc e)
 
 -- a row without a fault stands after no request
 not_late : (k : Result Kind Cause) (count : ℕ) (request_in : RequestKind → Result Request Cause) (w : ℕ) (said : Record)
@@ -37,8 +36,7 @@ checked_by (Some w) workers check said f g h e = (w, within (nat_lt w workers) (
   where
     within : (b : Bool) (r : Result Record Cause) → (if b then result_map_both {U = Record} (λ x. x) h r else Err g) ≡ Ok said → r ≡ Ok said
     within true (Ok x) e = cc e
-    within true (Err c) e = absurd (cc e)
-    within false r e = absurd (cc e)
+    within b r e = absurd (cc e)
 
 -- a record that stands after a request is no row
 pub request_after : (workers place : ℕ) (fields : List (List ℕ)) (said : Record) → read_record workers place true fields ≡ Ok said → said.is_row ≡ false

@@ -84,11 +84,10 @@ next_same one two (Some p) h = ap (λ (others : List (List (List ℕ))). p.0 ∷
 -- more turns than there are bytes give the same records
 turns_enough : (one two : ℕ) (s : State) (y : List ℕ) → length y < one → length y < two → ends_at_end s ≡ false → records_from default_config one s y ≡ records_from default_config two s y
 unfolding records_from
-turns_enough zero two s y a b between = absurd (omega arith)
-turns_enough (suc one) zero s y a b between = absurd (omega arith)
 turns_enough (suc one) (suc two) s y a b between = next_same one two (next_record default_config s [] [] y) (λ p e.
     let short = shorter default_config s y p between e in
     turns_enough one two p.1 p.2 (omega (arith, short.1)) (omega (arith, short.1)) short.0)
+turns_enough one two s y a b between = absurd (omega arith)
 
 -- the records that are left between two records are those of the bytes that are left
 records_left : (y : List ℕ) (rows : List (List (List ℕ))) → Left st.StartRecord y rows → rows ≡ records default_config y
@@ -161,6 +160,5 @@ last_and_end text fields x ends rest read plain (inr both) =
 -- nor off one that begins with any byte but the mark's first
 pub no_bom : (a : ℕ) (rest : List ℕ) → (a == 0xEF) ≡ false → strip_bom (a ∷ rest) ≡ a ∷ rest
 unfolding strip_bom
-no_bom a [] other = refl
-no_bom a (b ∷ []) other = refl
 no_bom a (b ∷ c ∷ rest) other = rw other refl
+no_bom a rest other = refl

@@ -131,9 +131,8 @@ end_of_two text at time at_quantity count last next t there plain is = record {
 
 -- an item's line has eight fields, or nine
 eight_or_nine : (others : List (List ℕ)) (count : ℕ) → IsPutUp others count → (a b c d e f g h : List ℕ) → has_count kind.Item (length (a ∷ b ∷ c ∷ d ∷ e ∷ f ∷ g ∷ h ∷ others)) ≡ true
-eight_or_nine [] count is a b c d e f g h = refl
-eight_or_nine (q ∷ []) count is a b c d e f g h = refl
 eight_or_nine (q ∷ r ∷ s) count is a b c d e f g h = absurd is
+eight_or_nine others count is a b c d e f g h = refl
 
 put_up_is : (others : List (List ℕ)) (count : ℕ) → IsPutUp others count → (a b c d e f g h : List ℕ) → put_up (a ∷ b ∷ c ∷ d ∷ e ∷ f ∷ g ∷ h ∷ others) ≡ Ok count
 unfolding field_at

@@ -19,13 +19,7 @@ says_shifted front back (ask.StoreItem facts time) has = record {
   within = omega (arith, length-append front back, has);
   is = ap (λ f. StoreItem f time) (facts_after front back facts _);
 }
-says_shifted front back (ask.StoreBid bidder item amount time) has = record { within = tt; is = refl }
-says_shifted front back (ask.StoreComment author about item stars) has = record { within = tt; is = refl }
-says_shifted front back (ask.BuyNow buyer item quantity time) has = record { within = tt; is = refl }
-says_shifted front back (ask.ViewItem item) has = record { within = tt; is = refl }
-says_shifted front back (ask.ViewBids item) has = record { within = tt; is = refl }
-says_shifted front back (ask.ViewCategory category) has = record { within = tt; is = refl }
-says_shifted front back (ask.ViewUser user) has = record { within = tt; is = refl }
+says_shifted front back short has = record { within = tt; is = refl }
 
 -- what the requests of two scripts say, of which the second's lie after the first's
 both_say : (front back : List Facts) (shorts more : List ShortRequest) → HaveRequests front shorts → HaveRequests back more

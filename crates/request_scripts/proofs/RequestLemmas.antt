@@ -1,7 +1,7 @@
 -- What a short request says, with facts at the end of the list and with more of them.
 use Rattle.std.proofs.Common.{◌≡◌, ◌≤◌, ℕ, List, [], ◌∷◌, ◌++◌, length, ap, refl, sym, ◌∙◌, arith, length-append}
 use Rattle.std.proofs.lemmas.List.{get_or_append_left, get_or_push}
-use Rattle.auction_rows.specs.declared.requests.Request.TheVariants.{StoreItem, StoreBid, StoreComment, BuyNow, ViewItem, ViewBids, ViewCategory, ViewUser}
+use Rattle.auction_rows.specs.declared.requests.Request.TheVariants.{StoreItem}
 use Rattle.auction_rows.specs.declared.requests.{Facts.Facts, Request.Request}
 use Rattle.request_scripts.specs.ShortRequests.{facts_at, facts_in, request_from, HasRequest, SaysRequest}
 use Rattle.request_scripts.specs.declared.short_request.ShortRequest.{ShortRequest}
@@ -21,21 +21,9 @@ request_stays all more (ask.StoreItem facts time) h = record {
   within = omega (arith, length-append all more, h);
   is = ap (λ f. StoreItem f time) (get_or_append_left all more _ facts h);
 }
-request_stays all more (ask.StoreBid bidder item amount time) h = record { within = tt; is = refl }
-request_stays all more (ask.StoreComment author about item stars) h = record { within = tt; is = refl }
-request_stays all more (ask.BuyNow buyer item quantity time) h = record { within = tt; is = refl }
-request_stays all more (ask.ViewItem item) h = record { within = tt; is = refl }
-request_stays all more (ask.ViewBids item) h = record { within = tt; is = refl }
-request_stays all more (ask.ViewCategory category) h = record { within = tt; is = refl }
-request_stays all more (ask.ViewUser user) h = record { within = tt; is = refl }
+request_stays all more short h = record { within = tt; is = refl }
 
 -- a request stores no more facts than one
 pub one_fact_at_most : (request : Request) → length (facts_in request) ≤ 1
 one_fact_at_most (StoreItem facts time) = omega arith
-one_fact_at_most (StoreBid bidder item amount time) = omega arith
-one_fact_at_most (StoreComment author about item stars) = omega arith
-one_fact_at_most (BuyNow buyer item quantity time) = omega arith
-one_fact_at_most (ViewItem item) = omega arith
-one_fact_at_most (ViewBids item) = omega arith
-one_fact_at_most (ViewCategory category) = omega arith
-one_fact_at_most (ViewUser user) = omega arith
+one_fact_at_most request = omega arith

@@ -15,11 +15,10 @@ use Rattle.run_laws.specs.Serving.{call_of}
 
 pub same_repeated : {X : Type 0} (a : X) (xs ys : List X) → AllByRecursion (λ x. x ≡ a) xs → AllByRecursion (λ y. y ≡ a) ys → length xs ≡ length ys → xs ≡ ys
 same_repeated a [] [] are are' len = refl
-same_repeated a [] (y ∷ ys) are are' len = absurd (omega arith)
-same_repeated a (x ∷ xs) [] are are' len = absurd (omega arith)
 same_repeated a (x ∷ xs) (y ∷ ys) are are' len =
     let first : x ≡ y = are.0 ∙ sym are'.0 in
     let rest : xs ≡ ys = same_repeated a xs ys are.1 are'.1 (omega arith) in λ k. first k ∷ rest k
+same_repeated a xs ys are are' len = absurd (omega arith)
 
 pub count_none : {X : Type 0} (p : X → Bool) (xs : List X) → AllByRecursion (λ x. p x ≡ false) xs → how_many p xs ≡ 0
 count_none p [] none = refl
@@ -79,8 +78,6 @@ pub record AreAlone (opening : Opening) (phase worker number : ℕ) (book : Book
 pub same_entries : (opening : Opening) (phase worker number : ℕ) (book : Book) (xs ys : List Entry) → map call_of xs ≡ map call_of ys →
     AreAlone opening phase worker number book xs → AreAlone opening phase worker number book ys → xs ≡ ys
 same_entries opening phase worker number book [] [] calls are are' = refl
-same_entries opening phase worker number book [] (y ∷ ys) calls are are' = absurd (cc)
-same_entries opening phase worker number book (x ∷ xs) [] calls are are' = absurd (cc)
 same_entries opening phase worker number book (x ∷ xs) (y ∷ ys) calls are are' =
     let call : call_of x ≡ call_of y = cc in
     let later : map call_of xs ≡ map call_of ys = cc in
@@ -96,3 +93,4 @@ same_entries opening phase worker number book (x ∷ xs) (y ∷ ys) calls are ar
       numbers = subst (λ n. IsNumberedFrom (λ e. e.number) (λ e. 0) n ys) (sym numbers) are'.numbers.1;
       replays = subst (λ e. ReplaysFrom opening (after_entry opening book e) ys) (sym first) are'.replays.1;
     }) in λ k. first k ∷ rest k
+same_entries opening phase worker number book xs ys calls are are' = absurd (cc)

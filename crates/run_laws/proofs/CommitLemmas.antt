@@ -31,9 +31,8 @@ module _ (policy : Policy) (hot : List (List Object)) (call : ℕ × Request) wh
 -- one hot set more is that of the next phase
 pub hot_at_end : (hot : List (List Object)) (now : List Object) (q : ℕ) → length hot ≡ q → hot_in (hot ++ now ∷ []) q ≡ now
 hot_at_end [] now zero is = refl
-hot_at_end [] now (suc q) is = absurd (omega arith)
-hot_at_end (h ∷ hot) now zero is = absurd (omega arith)
 hot_at_end (h ∷ hot) now (suc q) is = hot_at_end hot now q (omega arith)
+hot_at_end hot now q is = absurd (omega arith)
 
 pub hot_elsewhere : (hot : List (List Object)) (now : List Object) (q : ℕ) → (length hot ≡ q → ⊥) → hot_in (hot ++ now ∷ []) q ≡ hot_in hot q
 hot_elsewhere [] now zero other = absurd (other refl)

@@ -149,11 +149,10 @@ module _ {opening : Opening} {start : Book} {policy : Policy} {script : List Req
 
 same_sets : (xs ys : List (List Object)) → length xs ≡ length ys → ((q : ℕ) → q < length xs → hot_in xs q ≡ hot_in ys q) → xs ≡ ys
 same_sets [] [] len same = refl
-same_sets [] (y ∷ ys) len same = absurd (omega arith)
-same_sets (x ∷ xs) [] len same = absurd (omega arith)
 same_sets (x ∷ xs) (y ∷ ys) len same =
     let first : x ≡ y = same 0 (omega arith) in
     let rest : xs ≡ ys = same_sets xs ys (omega arith) (λ q less. same (suc q) (omega arith)) in λ k. first k ∷ rest k
+same_sets xs ys len same = absurd (omega arith)
 
 after_first : (q : ℕ) → is_split q ≡ true → 0 < q
 after_first zero split = absurd (cc)

@@ -1,17 +1,12 @@
 -- What the quota gives is what reaches the phase.
 use Rattle.std.proofs.Common.{get_or, slice_get, Some, ◌++◌, ◌≡◌, ℕ, zero, suc, ◌+◌, ◌-◌, ◌<◌, ◌≤◌, ◌==◌, min, Bool, true, false, cond, List, [], ◌∷◌, length, take, drop, refl, sym, ap, ◌∙◌, arith, eq-eqb}
 use Rattle.std.proofs.{Math.Seq.{take-suc}, lemmas.Bool.{ne_eqb, cond-true, cond-false}}
-use Rattle.std.proofs.lemmas.List.{length-drop, length-take, get_or-drop, get_or-take, get_or_default}
-use Rattle.std.specs.List.{filter}
+use Rattle.std.proofs.lemmas.List.{length-drop, length-take, get_or-drop, get_or-take, get_or_default, take_min}
+use Rattle.std.{proofs.lemmas.Option.{get_or_from_slice_get}, specs.List.{filter}}
 use Rattle.run_laws.proofs.ReachLemmas.{reach_from, reach_until, first_next}
 use Rattle.run_laws.proofs.TurnLemmas.{filter_none, length-numbered}
 use Rattle.run_laws.specs.Phases.{is_split, reach, first_of, quota}
 use Rattle.run_laws.specs.Turns.{numbered, given, reaching}
-
-take-all : {X : Type 0} (n : ℕ) (xs : List X) → take (min n (length xs)) xs ≡ take n xs
-take-all zero xs = let e : min 0 (length xs) ≡ 0 = omega arith in ap (λ m. take m xs) e
-take-all (suc n) [] = let e : min (suc n) 0 ≡ 0 = omega arith in ap (λ m. take m []) e
-take-all (suc n) (x ∷ xs) = let e : min (suc n) (suc (length xs)) ≡ suc (min n (length xs)) = omega arith in ap (λ m. take m (x ∷ xs)) e ∙ ap (λ ys. x ∷ ys) (take-all n xs)
 
 take_none : {X : Type 0} (n : ℕ) → take {A = X} n [] ≡ []
 take_none zero = refl
@@ -37,7 +32,7 @@ module _ {R : Type 0} (j s : ℕ) (some : 0 < j + s) (p : ℕ) where
       let len : length (drop (first_of j s p) (numbered 0 script)) ≡ length script - first_of j s p =
       length-drop (first_of j s p) (numbered 0 script) ∙ ap (λ m. m - first_of j s p) (length-numbered 0 script) in
       ap (λ m. take (min (cond (is_split p) s j) m) (drop (first_of j s p) (numbered 0 script))) (sym len)
-      ∙ take-all (cond (is_split p) s j) (drop (first_of j s p) (numbered 0 script))
+      ∙ take_min (cond (is_split p) s j) (drop (first_of j s p) (numbered 0 script))
       ∙ sym (part_before {R = R} (λ i. reach j s i == p) (first_of j s p) (cond (is_split p) s j)
       (λ i from until. eq-eqb (reach j s i) p
       (let low : p ≤ reach j s i = reach_from j s some p i from in
@@ -62,11 +57,6 @@ given_length j s p script =
     length-drop (first_of j s p) (numbered 0 script) ∙ ap (λ m. m - first_of j s p) (length-numbered 0 script) in
     length-take (quota j s p (length script)) (drop (first_of j s p) (numbered 0 script)) ∙ omega arith
 
-got : {R : Type 0} (rs : List R) (n : ℕ) (r : R) → slice_get rs n ≡ Some r → get_or rs n r ≡ r
-got [] n r is = absurd (cc)
-got (x ∷ rs) zero r is = cc
-got (x ∷ rs) (suc n) r is = got rs n r is
-
 -- of so many calls from an index on, after k of them the next is the request k after the first
 pub next_call : {R : Type 0} (first count k : ℕ) (script : List R) (r : R) → k < count → count ≤ length script - first → r ≡ get_or script (first + k) r →
     take (k + 1) (take count (drop first (numbered 0 script))) ≡ take k (take count (drop first (numbered 0 script))) ++ (first + k, r) ∷ []
@@ -87,4 +77,4 @@ next_call first count k script r less within is =
 -- after k of them the next is the script's request k after the first
 pub given_next : {R : Type 0} (j s p k : ℕ) (script : List R) (r : R) → k < quota j s p (length script) → slice_get script (first_of j s p + k) ≡ Some r →
     take (k + 1) (given j s p script) ≡ take k (given j s p script) ++ (first_of j s p + k, r) ∷ []
-given_next j s p k script r less is = next_call (first_of j s p) (quota j s p (length script)) k script r less (omega arith) (sym (got script (first_of j s p + k) r is))
+given_next j s p k script r less is = next_call (first_of j s p) (quota j s p (length script)) k script r less (omega arith) (sym (get_or_from_slice_get script (first_of j s p + k) r r is))

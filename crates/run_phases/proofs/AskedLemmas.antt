@@ -1,10 +1,10 @@
 -- The calls that workers commit, and those that wait, are of their scripts.
-use Rattle.std.proofs.Common.{◌≡◌, ◌<◌, ◌∙◌, ℕ, zero, suc, Bool, true, false, not, ◌⊎◌, inl, inr, List, [], ◌∷◌, ◌++◌, Some, map, length, take, drop, sym, ap, subst, arith}
+use Rattle.std.proofs.Common.{◌≡◌, ◌<◌, ◌∙◌, ℕ, suc, Bool, true, false, not, ◌⊎◌, inl, inr, List, [], ◌∷◌, ◌++◌, Some, map, length, drop, sym, ap, subst, arith}
 use Rattle.std.proofs.lemmas.{Bool.{cases_Bool}, Option.{same_Some}}
 use Rattle.std.specs.List.{AllByRecursion, filter}
 use Rattle.auction_rows.specs.Phases.{is_put_off}
 use Rattle.auction_rows.specs.declared.{limits.Policy.Policy, requests.Object.Object, requests.Request.Request, rows.Entry.Entry}
-use Rattle.phase_laws.proofs.ListLemmas.{all-append}
+use Rattle.phase_laws.proofs.ListLemmas.{all-append, all-drop, all-take}
 use Rattle.phase_laws.proofs.OrderLemmas.{all-cond, all-filter, all-from_map}
 use Rattle.run_laws.{proofs.CallLemmas.{all_numbered}, specs.Phases.{is_split, quota}}
 use Rattle.run_laws.specs.Run.{calls_given, first_index, IsPhasePerformed}
@@ -19,16 +19,6 @@ use Rattle.run_phases.specs.inner.Plans.{IsCallOf}
 -- what holds of the one value holds of the other
 pub of_some : {X : Type 0} (x y : X) → Some x ≡ Some y → (P : X → Type 0) → P x → P y
 of_some x y is P here = subst P (same_Some x y is) here
-
-all-drop : {X : Type 0} (P : X → Type 0) (n : ℕ) (xs : List X) → AllByRecursion P xs → AllByRecursion P (drop n xs)
-all-drop P zero xs all = all
-all-drop P (suc n) [] all = tt
-all-drop P (suc n) (x ∷ xs) all = all-drop P n xs all.1
-
-all-take : {X : Type 0} (P : X → Type 0) (n : ℕ) (xs : List X) → AllByRecursion P xs → AllByRecursion P (take n xs)
-all-take P zero xs all = tt
-all-take P (suc n) [] all = tt
-all-take P (suc n) (x ∷ xs) all = (all.0, all-take P n xs all.1)
 
 -- calls from an index on are the script's
 calls_are_of : (first count : ℕ) (script : List Request) → AllByRecursion (IsCallOf script) (calls_from first count script)

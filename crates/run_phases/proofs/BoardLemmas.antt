@@ -11,8 +11,8 @@ use Rattle.auction_rows.specs.History.{IsBook, ReplaysFrom, after_entry, book_af
 use Rattle.auction_rows.specs.Replies.{row_of}
 use Rattle.auction_rows.specs.declared.{limits.Policy.Policy, values.Opening.Opening, requests.Request.Request, rows.Row.Row, rows.Entry.Entry}
 use Rattle.auction_window.{proofs.Growing.{book_of-snoc}, specs.Published.{book_of}}
-use Rattle.item_shards.{proofs.SerialLemmas.{worker_of_added}, specs.OpeningRows.{rows_by}}
-use Rattle.item_shards.specs.Serial.{CanFollow}
+use Rattle.item_shards.proofs.{CountLemmas.{of_kind}, SerialLemmas.{worker_of_added}}
+use Rattle.item_shards.specs.{OpeningRows.{rows_by}, Serial.{CanFollow}}
 use Rattle.phase_floor.specs.States.{JoinedState, IsBookOf}
 use Rattle.phase_laws.proofs.ListLemmas.{all-append, all-both, all-kept, all-right, filter_false}
 use Rattle.phase_laws.{proofs.OrderLemmas.{all-weaker, all-from_map}, specs.Order.{part}}
@@ -93,11 +93,7 @@ turns_few commit n script =
 -- ---- the rows of entries
 
 rows_few : (es : List Entry) → length (rows_of es) ≤ length es
-rows_few [] = omega arith
-rows_few (e ∷ es) = at (row_of_entry e) (rows_few es) where
-  at : (o : Option Row) → length (rows_of es) ≤ length es → length (cons_option o (rows_of es)) ≤ length (e ∷ es)
-  at None few = omega (arith, few)
-  at (Some r) few = omega (arith, few)
+rows_few es = of_kind row_of_entry es
 
 -- a row is of its entry's worker
 pub rows_workers : (P : ℕ → Type 0) (opening : Opening) (book : Book) (es : List Entry) → ReplaysFrom opening book es → AllByRecursion (λ e. P e.worker) es → AllByRecursion (λ r. P (worker_of r)) (rows_of es)

@@ -1,5 +1,5 @@
 -- What accepted stores write is there, in the book after them and on the shards that stand for it.
-use Rattle.std.proofs.Common.{◌≡◌, ℕ, zero, suc, ◌-◌, ◌<◌, ◌%◌, ◌&&◌, true, false, cond, List, [], ◌∷◌, ◌++◌, drop, length, find, Option, Some, None, option_map, refl, sym, ap, ◌∙◌, subst, arith}
+use Rattle.std.proofs.Common.{◌≡◌, ℕ, suc, ◌-◌, ◌<◌, ◌%◌, ◌&&◌, true, false, cond, List, [], ◌∷◌, ◌++◌, drop, length, find, Option, Some, None, option_map, refl, sym, ap, ◌∙◌, subst, arith}
 use Rattle.std.proofs.lemmas.{Bool.{false≢true, leb-false, or_parts}, List.{length-map}}
 use Rattle.std.proofs.lemmas.List.{Elements.{filter_map-append}, Folds.{find-append}}
 use Rattle.std.specs.{List.{AllByRecursion, cons_option}, Option.{option_or}}
@@ -15,7 +15,7 @@ use Rattle.auction_rows.specs.History.{IsRight, after_entry, ReplaysFrom, book_a
 use Rattle.auction_rows.specs.{Refusals.{refusal}, Replies.{answer, answer_unless, row_of}}
 use Rattle.auction_rows.specs.Requests.{writes, is_splittable, number_of, shard_of}
 use Rattle.auction_rows.specs.declared.requests.Object.TheVariants.{Item, User, Category}
-use Rattle.auction_rows.specs.declared.requests.Request.TheVariants.{StoreItem, StoreBid, StoreComment, BuyNow, ViewItem, ViewBids, ViewCategory, ViewUser}
+use Rattle.auction_rows.specs.declared.requests.Request.TheVariants.{StoreItem, StoreBid, StoreComment}
 use Rattle.auction_rows.specs.declared.{values.Opening.Opening, requests.Facts.Facts, requests.Object.Object, requests.Request.Request, replies.Refusal.Refusal, rows.ItemRow.ItemRow, rows.Entry.Entry}
 use Rattle.item_shards.specs.Values.{value, stock}
 use Rattle.closing_laws.specs.Phases.{value_on}
@@ -57,20 +57,13 @@ module _ (opening : Opening) (book : Book) (worker : ℕ) where
   written (StoreItem facts time) None e object is =
       subst (IsThere opening book) (accepted (StoreItem facts time) object (Category facts.category) (row_made book worker (StoreItem facts time) None) is)
       (leb-false opening.categories facts.category (or_parts (nat_le opening.categories facts.category) false (in_range opening (StoreItem facts time) (not_by_number opening book (StoreItem facts time) e)).1).0)
-  written (StoreItem facts time) (Some reason) e object is = absurd (cc)
   written (StoreBid bidder item amount time) None e object is =
       subst (IsThere opening book) (accepted (StoreBid bidder item amount time) object (Item item) (row_made book worker (StoreBid bidder item amount time) None) is)
       (is_stored (facts_of book item) (enough opening book (StoreBid bidder item amount time) e).0)
-  written (StoreBid bidder item amount time) (Some reason) e object is = absurd (cc)
   written (StoreComment author about item stars) None e object is =
       subst (IsThere opening book) (accepted (StoreComment author about item stars) object (User about) (row_made book worker (StoreComment author about item stars) None) is)
       (leb-false opening.users about (or_parts (nat_le opening.users about) false (or_parts (nat_le opening.users author) _ (in_range opening (StoreComment author about item stars) (not_by_number opening book (StoreComment author about item stars) e)).0).1).0)
-  written (StoreComment author about item stars) (Some reason) e object is = absurd (cc)
-  written (BuyNow buyer item quantity time) refused e object is = absurd (cc)
-  written (ViewItem item) refused e object is = absurd (cc)
-  written (ViewBids item) refused e object is = absurd (cc)
-  written (ViewCategory category) refused e object is = absurd (cc)
-  written (ViewUser user) refused e object is = absurd (cc)
+  written request refused e object is = absurd (cc)
 
 written_there : (opening : Opening) (book : Book) (e : Entry) → IsRight opening book e → (object : Object) → written_by e ≡ Some object → IsThere opening book object
 written_there opening book e right object is =
@@ -94,13 +87,12 @@ all_there opening book (e ∷ es) h = go (written_by e) refl (all_there opening 
 
 -- what holds of all that entries write holds of what the last of them write
 rest_of : (P : Object → Type 0) (n : ℕ) (es : List Entry) → AllByRecursion P (objects_written es) → AllByRecursion P (objects_written (drop n es))
-rest_of P zero es h = h
-rest_of P (suc n) [] h = h
 rest_of P (suc n) (e ∷ es) h = rest_of P n es (go (written_by e) h)
   where
     go : (o : Option Object) → AllByRecursion P (cons_option o (objects_written es)) → AllByRecursion P (objects_written es)
     go None all = all
     go (Some object) all = all.1
+rest_of P n es h = h
 
 -- and of what is chosen from them
 of_chosen : (P : Object → Type 0) (es : List Entry) (threshold most : ℕ) → AllByRecursion P (objects_written es) → AllByRecursion P (choose es threshold most)
@@ -126,8 +118,7 @@ module _ (state : JoinedState) (book : Book) (some : 0 < length state.shards) (s
       go : (o : Option Facts) → IsSome o → IsSome {T = Facts × ℕ} (option_map (λ (facts : Facts). (facts, facts.quantity - bought book id)) o)
       go None none = absurd (false≢true none)
       go (Some facts) is = refl
-  exists (User user) h = h
-  exists (Category category) h = h
+  exists object h = h
 
   pub all_exist : (objects : List Object) → AllByRecursion (IsThere state.opening book) objects → DoAllExist state.opening (states_of state) objects
   all_exist [] h = tt

@@ -45,10 +45,9 @@ tasks_all P (p ∷ ps) (s ∷ ss) first same each =
 pub done_count : (P : Task → WorkerState → Type 0) (permits receipts : List WorkerState) (scripts : List (List Request)) (first : ℕ) → length permits ≡ length scripts →
     AllZip P (tasks permits scripts first) receipts → length receipts ≡ length permits
 done_count P [] [] scripts first same all = refl
-done_count P [] (r ∷ rs) scripts first same all = absurd all
 done_count P (p ∷ ps) receipts [] first same all = absurd (omega (arith, same))
-done_count P (p ∷ ps) [] (s ∷ ss) first same all = absurd all
 done_count P (p ∷ ps) (r ∷ rs) (s ∷ ss) first same all = ap suc (done_count P ps rs ss first (omega (arith, same)) all.1)
+done_count P permits receipts scripts first same all = absurd all
 
 pub done_at : (P : Task → WorkerState → Type 0) (permits receipts : List WorkerState) (scripts : List (List Request)) (first : ℕ) → length permits ≡ length scripts →
     AllZip P (tasks permits scripts first) receipts → (w : ℕ) → w < length permits → P (task (receipt_at permits w) (script_of scripts w) first) (receipt_at receipts w)
@@ -89,10 +88,9 @@ given_quotas policy scripts phase first given quotas split is at same are w less
 pub fault_met : (takes : Bool) (initial : List ShardState) (permits : List WorkerState) (scripts : List (List Request)) (first : ℕ) (fault : ServingFault) → length permits ≡ length scripts →
     IsFaultBy (length scripts) (IsFirstFault takes initial (tasks permits scripts first)) fault → IsMet scripts (told fault)
 fault_met takes initial permits scripts first serving.Spawn same is = is
-fault_met takes initial permits scripts first serving.Memory same is = tt
-fault_met takes initial permits scripts first (serving.Worker permit.Memory) same is = tt
 fault_met takes initial permits scripts first (serving.Worker permit.NumberFull) same is =
     record { takes = takes; initial = initial; permits = permits; first = first; permits_are = same; met = is }
+fault_met takes initial permits scripts first fault same is = tt
 
 -- ---- small facts
 
@@ -132,9 +130,8 @@ none_kept true permit waiting is none = refl
 none_kept false permit waiting is none = is ∙ none refl
 
 pub empty_at : (quotas : List ℕ) (w : ℕ) → (stash_at (map empty_stash quotas) w).requests ≡ []
-empty_at [] w = refl
-empty_at (q ∷ qs) zero = refl
 empty_at (q ∷ qs) (suc w) = empty_at qs w
+empty_at quotas w = refl
 
 -- of the workers of a phase, by number
 of_workers : (phase n : ℕ) (permits : List WorkerState) → ((w : ℕ) → w < length permits → IsPermitOf phase (n + w) (receipt_at permits w)) → ArePermitsOf phase n permits

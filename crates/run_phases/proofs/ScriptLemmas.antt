@@ -18,14 +18,6 @@ one_stash_more [] x empty none (suc worker) = refl
 one_stash_more (s ∷ stashes) x empty none zero = none 0
 one_stash_more (s ∷ stashes) x empty none (suc worker) = one_stash_more stashes x empty (λ w. none (suc w)) worker
 
--- what holds of the workers before one, and of that one, holds of those up to it
-pub one_worker_more : (P : ℕ → Type 0) (i : ℕ) → ((w : ℕ) → w < i → P w) → P i → (w : ℕ) → w < i + 1 → P w
-one_worker_more P i before here w less = go (cases_lt w i)
-  where
-    go : (w < i) ⊎ (i ≤ w) → P w
-    go (inl earlier) = before w earlier
-    go (inr later) = let same : i ≡ w = omega arith in subst P same here
-
 -- where neither a request nor a stash is left, nothing is
 pub neither : (first len waits : ℕ) → ((first < len) ⊎ (0 < waits) → ⊥) → (len ≤ first) × (waits ≡ 0)
 neither first len waits none = (go (cases_lt first len), at waits (λ some. none (inr some)))

@@ -71,9 +71,8 @@ with_first-tail [] more i = refl
 with_first-tail (l ∷ rest) more i = refl
 
 pub blank : (n i : ℕ) → get_or (replicate {A = List Line} n []) i [] ≡ []
-blank zero i = refl
-blank (suc n) zero = refl
 blank (suc n) (suc i) = blank n i
+blank n i = refl
 
 -- a shard of which nothing is known has nothing counted
 nothing_within : IsWithin no_shard

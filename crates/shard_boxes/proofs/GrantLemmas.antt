@@ -1,7 +1,7 @@
 -- The grants of a key, and the grants of all boxes.
-use Rattle.std.proofs.Common.{◌≡◌, ℕ, zero, suc, ◌+◌, ◌<◌, ◌≤◌, false, List, [], ◌∷◌, ◌++◌, length, map, get_or, take, refl, sym, ap, ◌∙◌, subst, arith, append_assoc, length-append, zero-lt-suc, true}
-use Rattle.std.proofs.lemmas.List.{get_or-map, length-map, take_more}
-use Rattle.shard_boxes.proofs.{BoxSteps.{maker_spare}, Each.{map_push, each_push}, KeySteps.{read}}
+use Rattle.std.proofs.Common.{◌≡◌, ℕ, zero, suc, ◌+◌, ◌<◌, false, List, [], ◌∷◌, ◌++◌, length, map, get_or, take, refl, sym, ap, ◌∙◌, subst, arith, append_assoc, length-append, zero-lt-suc, true}
+use Rattle.std.proofs.lemmas.List.{get_or-map, length-map, take_more, get_or_default, map_push}
+use Rattle.shard_boxes.proofs.{BoxSteps.{maker_spare}, Each.{each_push}, KeySteps.{read}}
 use Rattle.shard_boxes.{proofs.LineLemmas.{history_of}, specs.Closed.{IsSpent, AreSpent}}
 use Rattle.shard_boxes.specs.Keys.{BoxId, KeyState, key_at, no_seat, holds_at, lines_at, IsNewKey}
 use Rattle.shard_boxes.specs.Lines.{Line, after_lines, IsShardHistory, lines_of}
@@ -16,14 +16,8 @@ use Rattle.item_shards.specs.declared.shard.Shard.{Shard}
 
 -- a list of one element is its first element
 pub own_one : (own : List (List Line)) → length own ≡ 1 → own ≡ get_or own 0 [] ∷ []
-own_one [] e = absurd (omega arith)
 own_one (l ∷ []) e = refl
-own_one (l ∷ m ∷ rest) e = absurd (omega arith)
-
-pub at_itself : {A : Type 0} (xs : List A) (s : ℕ) (d e : A) → s < length xs → get_or xs s d ≡ get_or xs s e
-at_itself [] s d e h = absurd (omega arith)
-at_itself (x ∷ xs) zero d e h = refl
-at_itself (x ∷ xs) (suc s) d e h = at_itself xs s d e (omega arith)
+own_one own e = absurd (omega arith)
 
 -- the grants of a key that holds nothing
 pub key_free : (initial : List ShardState) (workers worker : ℕ) (grants : List GrantState) (x : KeyState) → key_of worker grants ≡ x → AreFor initial workers grants worker → ((s : ℕ) → holds_at x s ≡ false)
@@ -32,7 +26,7 @@ key_free initial workers worker grants x is each idle = (
   ap (λ (k : KeyState). k.boxes) is,
   λ s d low.
       let fit = each s d low in
-      let seat = read worker grants s (get_or grants s d) x is low (at_itself grants s d (get_or grants s d) low) in record {
+      let seat = read worker grants s (get_or grants s d) x is low (get_or_default grants s d (get_or grants s d) low) in record {
         start_is = fit.start_is;
         workers_are = fit.workers_are;
         from = fit.from ∙ ap (λ (k : KeyState). k.worker) is;
@@ -44,7 +38,7 @@ key_free initial workers worker grants x is each idle = (
 pub key_own : (initial : List ShardState) (workers worker : ℕ) (grants : List GrantState) (x : KeyState) (s : ℕ) (d : GrantState) → key_of worker grants ≡ x → AreFor initial workers grants worker → s < length grants
     → own_at grants s d ≡ lines_at x s ∷ []
 key_own initial workers worker grants x s d is each low =
-    let seat = read worker grants s (get_or grants s d) x is low (at_itself grants s d (get_or grants s d) low) in
+    let seat = read worker grants s (get_or grants s d) x is low (get_or_default grants s d (get_or grants s d) low) in
     own_one (own_at grants s d) (each s d low).as_many ∙ ap (λ l. l ∷ []) (ap (λ t. t.lines) (sym seat))
 
 -- the grant at a box is for that box
@@ -118,12 +112,6 @@ joined_free start workers first v w h = record {
   speaks = omega (arith, length-append v.own w.own, h.speaks);
   free = h.free;
 }
-
-pub take_whole : {A : Type 0} (xs : List A) (n : ℕ) → length xs ≤ n → take n xs ≡ xs
-take_whole [] zero low = refl
-take_whole [] (suc n) low = refl
-take_whole (x ∷ xs) zero low = absurd (omega arith)
-take_whole (x ∷ xs) (suc n) low = ap (λ l. x ∷ l) (take_whole xs n (omega arith))
 
 pub no_grant : GrantState
 no_grant = record { box_id = record { words = 0; slots = 0; views_name = 0; atom = 0; block = 0; offset = 0; slot_names = [] }; knows = spent }

@@ -80,13 +80,10 @@ rating_fits : (z : ℤ) (stars : Stars) (r : ℕ) → unsigned_abs z ≤ r → r
 rating_fits z stars r le small = fits_signed_from_abs w64 (z +ℤ stars.value) (omega (arith, further z stars, le, small))
 
 act_fits : (act : Event) (contents : Contents) (n r : ℕ) → WithinBy n r contents → n + 1 < 2 ^ 64 → r + 5 < 2 ^ 63 → SumsFit contents act
-act_fits (AddItem id facts) contents n r h a b = tt
-act_fits (ListItem category entry) contents n r h a b = tt
 act_fits (Bid id entry) contents n r h a b = omega (arith, h.bids id, a)
 act_fits (Comment user stars) contents n r h a b =
     (rating_fits (contents (User user)).comments.rating stars r (h.ratings user) b, omega (arith, h.comments user, a))
-act_fits (Buy id quantity) contents n r h a b = tt
-act_fits (Look shown) contents n r h a b = tt
+act_fits act contents n r h a b = tt
 
 pub two_fit : (state : ShardState) (first second : Event) → IsWithin state → state.clock < last_number
     → SawInTurn SumsFit after_act state.contents (first ∷ second ∷ [])

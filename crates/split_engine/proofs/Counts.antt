@@ -1,8 +1,9 @@
 -- How many commits there are, and how many are still to come.
-use Rattle.std.proofs.Common.{◌≡◌, ℕ, zero, suc, ◌+◌, ◌<◌, ◌≤◌, ◌==◌, Bool, true, false, not, cond, List, [], ◌∷◌, ◌++◌, length, map, take, get_or, refl, sym, ap, ◌∙◌, arith, eqb-true}
+use Rattle.std.proofs.Common.{◌≡◌, ℕ, zero, suc, ◌+◌, ◌<◌, ◌≤◌, ◌==◌, Bool, true, false, not, List, [], ◌∷◌, ◌++◌, length, map, take, get_or, refl, sym, ap, ◌∙◌, arith, eqb-true}
 use Rattle.std.proofs.Math.{Numerals.{add-one}, Seq.{take-suc}}
 use Rattle.std.proofs.lemmas.Bool.{cond-true, cond-false, eqb-false, ne_eqb}
-use Rattle.std.{proofs.lemmas.List.{length-append, length-map}, specs.List.{filter, AllByRecursion}}
+use Rattle.std.proofs.lemmas.List.{Filters.{length-filter_both}, length-append, length-map}
+use Rattle.std.specs.List.{filter, AllByRecursion}
 use Rattle.job_threads.specs.{Threads.{IsUnstarted}, declared.fault.JobFault.{JobFault}}
 use Rattle.job_threads.specs.declared.fault.JobFault.TheVariants.{Spawn, Memory}
 use Rattle.split_engine.{proofs.Sessions.{long_before}, specs.Faults.{IsRunFault, fault_of_jobs}}
@@ -16,7 +17,7 @@ use Rattle.phase_laws.proofs.ReplayLemmas.{filter_all}
 
 -- ---- scripts
 
-total-append : {X : Type 0} (xss : List (List X)) (xs : List X) → total (xss ++ xs ∷ []) ≡ total xss + length xs
+pub total-append : {X : Type 0} (xss : List (List X)) (xs : List X) → total (xss ++ xs ∷ []) ≡ total xss + length xs
 total-append [] xs = omega arith
 total-append (ys ∷ xss) xs = let again = total-append xss xs in omega (arith, again)
 
@@ -47,14 +48,8 @@ module _ {Record Slice Look Request Reply Act : Type 0} (rules : Rules Record Sl
 
 -- ---- a worker's calls
 
-parts_step : {X : Type 0} (x : X) (kept lost : List X) (b : Bool) (n : ℕ) → length kept + length lost ≡ n →
-    length (cond b (x ∷ kept) kept) + length (cond (not b) (x ∷ lost) lost) ≡ suc n
-parts_step x kept lost true n again = omega (arith, again)
-parts_step x kept lost false n again = omega (arith, again)
-
 parts_long : {X : Type 0} (p : X → Bool) (xs : List X) → length (filter p xs) + length (filter (λ x. not (p x)) xs) ≡ length xs
-parts_long p [] = refl
-parts_long p (x ∷ xs) = parts_step x (filter p xs) (filter (λ y. not (p y)) xs) (p x) (length xs) (parts_long p xs)
+parts_long p xs = length-filter_both p (λ x. not (p x)) (λ x. refl) xs
 
 -- how much more of a script stash_is
 pub stashed_long : {Request : Type 0} (script : List Request) (old new : Cursor Request) → old.next ≤ length script → HasStashed script old new →
@@ -164,10 +159,9 @@ module _ {Record Slice Look Request Reply Act : Type 0} (rules : Rules Record Sl
   all_served_long : (size v : ℕ) (ss : List (List Request)) (ds : List (Cursor Request)) (history : List (Entry Request Reply)) → HaveServed rules size v ss ds history →
       of_workers v (length ss) history + waiting ds ≡ passed ds
   all_served_long size v [] [] history h = refl
-  all_served_long size v [] (d ∷ ds) history h = absurd h
-  all_served_long size v (s ∷ ss) [] history h = absurd h
   all_served_long size v (s ∷ ss) (d ∷ ds) history h =
       let here = served_long size v s d history h.0 in let again = all_served_long size (suc v) ss ds history h.1 in omega (arith, here, again)
+  all_served_long size v ss ds history h = absurd h
 
   -- what is committed and what stash_is is what the cursors passed
   pub commits : (Fits : ℕ → Record → Type 0) (n : ℕ) (opened : List Record) (scripts : List (List Request)) (table : List Record) (history : List (Entry Request Reply)) (cursors : List (Cursor Request)) →
@@ -178,18 +172,16 @@ module _ {Record Slice Look Request Reply Act : Type 0} (rules : Rules Record Sl
 
   passed_few : (size v : ℕ) (ss : List (List Request)) (ds : List (Cursor Request)) (history : List (Entry Request Reply)) → HaveServed rules size v ss ds history → passed ds ≤ total ss
   passed_few size v [] [] history h = omega arith
-  passed_few size v [] (d ∷ ds) history h = absurd h
-  passed_few size v (s ∷ ss) [] history h = absurd h
   passed_few size v (s ∷ ss) (d ∷ ds) history h =
       let here = h.0.next_in in let again = passed_few size (suc v) ss ds history h.1 in omega (arith, here, again)
+  passed_few size v ss ds history h = absurd h
 
   -- once all is performed, each request has a commit
   none_waiting : (ss : List (List Request)) (ds : List (Cursor Request)) → AllFinished ss ds → (waiting ds ≡ 0) × (passed ds ≡ total ss)
   none_waiting [] [] h = (refl, refl)
-  none_waiting [] (d ∷ ds) h = absurd h
-  none_waiting (s ∷ ss) [] h = absurd h
   none_waiting (s ∷ ss) (d ∷ ds) h =
       let again = none_waiting ss ds h.1 in let none : length d.stash.items ≡ 0 = ap length h.0.1 in (omega (arith, none, again.0), omega (arith, h.0.0, again.1))
+  none_waiting ss ds h = absurd h
 
   pub all_committed : (Fits : ℕ → Record → Type 0) (n : ℕ) (opened : List Record) (scripts : List (List Request)) (table : List Record) (history : List (Entry Request Reply))
       (cursors : List (Cursor Request)) → IsRunState rules Fits n opened scripts table history cursors → AllFinished scripts cursors → length history ≡ total scripts
@@ -224,10 +216,9 @@ module _ {Record Slice Look Request Reply Act : Type 0} (rules : Rules Record Sl
   left_few : (size v : ℕ) (table : List Record) (hot : List Bool) (quota : ℕ) (ss : List (List Request)) (ds : List (Cursor Request)) (history : List (Entry Request Reply)) →
       HaveServed rules size v ss ds history → all_left (assignments table hot quota v ss ds) + passed ds ≡ total ss
   left_few size v table hot quota [] [] history h = refl
-  left_few size v table hot quota [] (d ∷ ds) history h = absurd h
-  left_few size v table hot quota (s ∷ ss) [] history h = absurd h
   left_few size v table hot quota (s ∷ ss) (d ∷ ds) history h =
       let again = left_few size (suc v) table hot quota ss ds history h.1 in let here = h.0.next_in in omega (arith, again, here)
+  left_few size v table hot quota ss ds history h = absurd h
 
   pub split_room : (Fits : ℕ → Record → Type 0) (n : ℕ) (opened : List Record) (scripts : List (List Request)) (table : List Record) (history : List (Entry Request Reply)) (cursors : List (Cursor Request))
       (hot : List Bool) (quota most : ℕ) → total scripts ≤ most → IsRunState rules Fits n opened scripts table history cursors →

@@ -1,6 +1,7 @@
 -- Where a run begins and ends.
-use Rattle.std.proofs.Common.{◌≡◌, ℕ, zero, suc, ◌+◌, ◌*◌, ◌<◌, ◌≤◌, List, [], ◌∷◌, ◌++◌, length, take, set, get_or, refl, sym, ap, ◌∙◌, subst, arith}
-use Rattle.std.{proofs.Math.{Numerals.{add-one}, Seq.{take-suc}}, specs.List.{AllByRecursion}}
+use Rattle.std.proofs.Common.{◌≡◌, ℕ, suc, ◌+◌, ◌*◌, ◌<◌, ◌≤◌, List, [], ◌∷◌, ◌++◌, length, take, set, get_or, refl, sym, ap, ◌∙◌, subst, arith}
+use Rattle.std.proofs.Math.{Numerals.{add-one}, Seq.{take-suc}}
+use Rattle.std.{proofs.lemmas.List.{take_all, take_more_set}, specs.List.{AllByRecursion}}
 use Rattle.split_engine.{proofs.Sessions.{order_at_first}, specs.Rules.{Rules}}
 use Rattle.split_engine.specs.Serving.{calls_before, count, Serves, AllServe, IsOutcome}
 use Rattle.split_engine.specs.declared.{entry.Entry.{Entry}, few.TheConstants.{MOST_KEYS}}
@@ -11,9 +12,8 @@ module _ {Request : Type 0} where
   pub finished_push : (ss : List (List Request)) (ds : List (Cursor Request)) (s : List Request) (d : Cursor Request) →
       AllFinished ss ds → (d.next ≡ length s) × (d.stash.items ≡ []) → AllFinished (ss ++ s ∷ []) (ds ++ d ∷ [])
   finished_push [] [] s d h f = (f, tt)
-  finished_push [] (e ∷ ds) s d h f = absurd h
-  finished_push (t ∷ ss) [] s d h f = absurd h
   finished_push (t ∷ ss) (e ∷ ds) s d h f = (h.0, finished_push ss ds s d h.1 f)
+  finished_push ss ds s d h f = absurd h
 
   pub finished_more : (ss : List (List Request)) (ds : List (Cursor Request)) (k : ℕ) (s : List Request) (d : Cursor Request) →
       k < length ss → s ≡ get_or ss k s → k < length ds → d ≡ get_or ds k d →
@@ -23,35 +23,22 @@ module _ {Request : Type 0} where
       let more_d : take (k + 1) ds ≡ take k ds ++ d ∷ [] = ap (λ n. take n ds) (add-one k) ∙ take-suc ds k d in_ds ∙ ap (λ x. take k ds ++ x ∷ []) (sym is_d) in
       subst (λ (p : List (List Request) × List (Cursor Request)). AllFinished p.0 p.1) (λ i. (sym more_s i, sym more_d i)) (finished_push (take k ss) (take k ds) s d h f)
 
-take_set : {X : Type 0} (xs : List X) (k : ℕ) (x : X) → k < length xs → take (suc k) (set xs k x) ≡ take k xs ++ x ∷ []
-take_set [] k x lt = absurd (omega (arith, lt))
-take_set (y ∷ xs) zero x lt = refl
-take_set (y ∷ xs) (suc k) x lt = ap (λ ys. y ∷ ys) (take_set xs k x (omega (arith, lt)))
-
 pub finished_set : {Request : Type 0} (ss : List (List Request)) (ds : List (Cursor Request)) (k : ℕ) (s : List Request) (d : Cursor Request) →
     k < length ss → s ≡ get_or ss k s → length ds ≡ length ss → AllFinished (take k ss) (take k ds) → (d.next ≡ length s) × (d.stash.items ≡ []) →
     AllFinished (take (k + 1) ss) (take (k + 1) (set ds k d))
 finished_set ss ds k s d in_ss is_s len h f =
     let more_s : take (k + 1) ss ≡ take k ss ++ s ∷ [] = ap (λ n. take n ss) (add-one k) ∙ take-suc ss k s in_ss ∙ ap (λ x. take k ss ++ x ∷ []) (sym is_s) in
-    let more_d : take (k + 1) (set ds k d) ≡ take k ds ++ d ∷ [] = ap (λ n. take n (set ds k d)) (add-one k) ∙ take_set ds k d (omega (arith, in_ss, len)) in
+    let more_d : take (k + 1) (set ds k d) ≡ take k ds ++ d ∷ [] = take_more_set ds k d (omega (arith, in_ss, len)) in
     subst (λ (p : List (List _) × List (Cursor _)). AllFinished p.0 p.1) (λ i. (sym more_s i, sym more_d i)) (finished_push (take k ss) (take k ds) s d h f)
-
-pub take_whole : {X : Type 0} (xs : List X) (k : ℕ) → length xs ≤ k → take k xs ≡ xs
-take_whole [] zero le = refl
-take_whole [] (suc k) le = refl
-take_whole (x ∷ xs) zero le = absurd (omega (arith, le))
-take_whole (x ∷ xs) (suc k) le = ap (λ ys. x ∷ ys) (take_whole xs k (omega (arith, le)))
 
 pub finished_whole : {Request : Type 0} (ss : List (List Request)) (ds : List (Cursor Request)) (k : ℕ) → length ss ≤ k → length ds ≡ length ss →
     AllFinished (take k ss) (take k ds) → AllFinished ss ds
 finished_whole ss ds k le len h =
-    subst (λ (p : List (List _) × List (Cursor _)). AllFinished p.0 p.1) (λ i. (take_whole ss k le i, take_whole ds k (omega (arith, le, len)) i)) h
+    subst (λ (p : List (List _) × List (Cursor _)). AllFinished p.0 p.1) (λ i. (take_all k ss le i, take_all k ds (omega (arith, le, len)) i)) h
 
 module _ {Record Slice Look Request Reply Act : Type 0} (rules : Rules Record Slice Look Request Reply Act) where
   fresh_served : (size v : ℕ) (ss : List (List Request)) (ds : List (Cursor Request)) → length ds ≡ length ss → AreFresh ds → HaveServed {Reply = Reply} rules size v ss ds []
   fresh_served size v [] [] len h = tt
-  fresh_served size v [] (d ∷ ds) len h = absurd (omega (arith, len))
-  fresh_served size v (s ∷ ss) [] len h = absurd (omega (arith, len))
   fresh_served size v (s ∷ ss) (d ∷ ds) len h =
       let served : HasServed {Reply = Reply} rules size v s d [] = record {
         counts = λ p.
@@ -62,6 +49,7 @@ module _ {Record Slice Look Request Reply Act : Type 0} (rules : Rules Record Sl
         next_in = omega (arith, h.0.0);
         order = order_at_first rules v d h.0.1;
       } in (served, fresh_served size (suc v) ss ds (omega (arith, len)) h.1)
+  fresh_served size v ss ds len h = absurd (omega (arith, len))
 
   pub state_at_first : (Fits : ℕ → Record → Type 0) (n : ℕ) (opened : List Record) (scripts : List (List Request)) (history : List (Entry Request Reply)) (cursors : List (Cursor Request)) →
       length cursors ≡ length scripts → AreFresh cursors → history ≡ [] → AllByRecursion (Fits n) opened → IsRunState rules Fits n opened scripts opened history cursors

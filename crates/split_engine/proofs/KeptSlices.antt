@@ -1,53 +1,14 @@
 -- Slices that are kept, and a slice of each record.
-use Rattle.std.proofs.Common.{◌≡◌, ℕ, zero, suc, ◌+◌, ◌<◌, ◌≤◌, ◌==◌, nat_lt, Bool, true, false, List, [], ◌∷◌, ◌++◌, length, replicate, take, drop, set, get_or, refl, sym, ap, ◌∙◌, subst, arith, eqb-true, true≢false}
+use Rattle.std.proofs.Common.{◌≡◌, ℕ, zero, suc, ◌+◌, ◌<◌, ◌==◌, nat_lt, Bool, true, false, List, [], ◌∷◌, ◌++◌, length, replicate, take, drop, set, get_or, refl, sym, ap, ◌∙◌, subst, arith, eqb-true, true≢false}
 use Rattle.std.proofs.Math.{Numerals.{add-one}, Seq.{drop-cons}}
 use Rattle.std.proofs.lemmas.Bool.{eqb-false, eq-eqb, ltb-true, ltb-false, lt-ltb, and_parts, cond-true, cond-false}
-use Rattle.std.{proofs.lemmas.List.{length-set, length-append}, specs.List.{AllByRecursion}}
-use Rattle.std.specs.Prelude.{◌&&◌}
+use Rattle.std.proofs.lemmas.List.{length-set, length-append, ext_get_or, get_or-set_same, get_or-set_other, get_or_append_left, get_or_push, get_or-take, length-take-le}
+use Rattle.std.specs.{List.{AllByRecursion}, Prelude.{◌&&◌}}
 use Rattle.split_engine.{proofs.Works.{all_at}, specs.Rules.{Rules, SplitLaws}}
 use Rattle.split_engine.specs.Splitting.{after_slice_act, merged_all}
 use Rattle.split_engine.specs.inner.Kept.{is_at, AreKept, kept, spread_from, spread}
 
 -- ---- lists, place by place
-
-pub list_ext : {X : Type 0} (d : X) (xs ys : List X) → length xs ≡ length ys → ((i : ℕ) → i < length xs → get_or xs i d ≡ get_or ys i d) → xs ≡ ys
-list_ext d [] [] len h = refl
-list_ext d [] (y ∷ ys) len h = absurd (omega (arith, len))
-list_ext d (x ∷ xs) [] len h = absurd (omega (arith, len))
-list_ext d (x ∷ xs) (y ∷ ys) len h =
-    let rest = list_ext d xs ys (omega (arith, len)) (λ k lt. h (suc k) (omega (arith, lt))) in λ i. h zero (omega arith) i ∷ rest i
-
-set_at : {X : Type 0} (xs : List X) (i : ℕ) (x d : X) → i < length xs → get_or (set xs i x) i d ≡ x
-set_at [] i x d lt = absurd (omega (arith, lt))
-set_at (y ∷ ys) zero x d lt = refl
-set_at (y ∷ ys) (suc i) x d lt = set_at ys i x d (omega (arith, lt))
-
-set_beside : {X : Type 0} (xs : List X) (i j : ℕ) (x d : X) → (j ≡ i → ⊥) → get_or (set xs i x) j d ≡ get_or xs j d
-set_beside [] i j x d other = refl
-set_beside (y ∷ ys) zero zero x d other = absurd (other refl)
-set_beside (y ∷ ys) zero (suc j) x d other = refl
-set_beside (y ∷ ys) (suc i) zero x d other = refl
-set_beside (y ∷ ys) (suc i) (suc j) x d other = set_beside ys i j x d (λ is. other (ap suc is))
-
-push_before : {X : Type 0} (xs : List X) (x d : X) (i : ℕ) → i < length xs → get_or (xs ++ x ∷ []) i d ≡ get_or xs i d
-push_before [] x d i lt = absurd (omega (arith, lt))
-push_before (y ∷ ys) x d zero lt = refl
-push_before (y ∷ ys) x d (suc i) lt = push_before ys x d i (omega (arith, lt))
-
-push_last : {X : Type 0} (xs : List X) (x d : X) → get_or (xs ++ x ∷ []) (length xs) d ≡ x
-push_last [] x d = refl
-push_last (y ∷ ys) x d = push_last ys x d
-
-take_before : {X : Type 0} (xs : List X) (k i : ℕ) (d : X) → i < k → get_or (take k xs) i d ≡ get_or xs i d
-take_before xs zero i d lt = absurd (omega (arith, lt))
-take_before [] (suc k) i d lt = refl
-take_before (x ∷ xs) (suc k) zero d lt = refl
-take_before (x ∷ xs) (suc k) (suc i) d lt = take_before xs k i d (omega (arith, lt))
-
-take_long : {X : Type 0} (xs : List X) (k : ℕ) → k ≤ length xs → length (take k xs) ≡ k
-take_long xs zero le = refl
-take_long [] (suc k) le = absurd (omega (arith, le))
-take_long (x ∷ xs) (suc k) le = ap suc (take_long xs k (omega (arith, le)))
 
 -- the element at a place, and those after it
 pub next_at : {X : Type 0} (xs rest : List X) (k : ℕ) (x d : X) → k < length xs → drop k xs ≡ x ∷ rest → (get_or xs k d ≡ x) × (rest ≡ drop (k + 1) xs)
@@ -133,7 +94,7 @@ module _ {Record Slice Look Request Reply Act : Type 0} (rules : Rules Record Sl
       is_at keys key (get_or guesses key 0) ≡ false →
       spread rules (set guesses key (length keys)) (keys ++ key ∷ []) (slices ++ rules.empty ∷ []) ≡ spread rules guesses keys slices
   spread_more guesses keys slices key long within new =
-      list_ext rules.empty _ _
+      ext_get_or rules.empty _ _
       (length-spread (set guesses key (length keys)) (keys ++ key ∷ []) (slices ++ rules.empty ∷ []) ∙ length-set guesses key (length keys) ∙ sym (length-spread guesses keys slices))
       (λ j lt. here j (omega (arith, lt, length-spread (set guesses key (length keys)) (keys ++ key ∷ []) (slices ++ rules.empty ∷ []), length-set guesses key (length keys))))
     where
@@ -147,31 +108,31 @@ module _ {Record Slice Look Request Reply Act : Type 0} (rules : Rules Record Sl
       beside : (j guess : ℕ) → (j ≡ key → ⊥) → (b : Bool) → is_at keys j guess ≡ b → kept rules all longer j guess ≡ kept rules keys slices j guess
       beside j guess other true is =
           let found = at_guess keys j guess is in
-          kept_here all longer j guess (is_at_guess all j guess (omega (arith, found.0, length-append keys (key ∷ []))) (push_before keys key 0 guess found.0 ∙ found.1))
-          ∙ push_before slices rules.empty rules.empty guess (omega (arith, found.0, long)) ∙ sym (kept_here keys slices j guess is)
+          kept_here all longer j guess (is_at_guess all j guess (omega (arith, found.0, length-append keys (key ∷ []))) (get_or_append_left keys (key ∷ []) 0 guess found.0 ∙ found.1))
+          ∙ get_or_append_left slices (rules.empty ∷ []) rules.empty guess (omega (arith, found.0, long)) ∙ sym (kept_here keys slices j guess is)
       beside j guess other false is =
           not_kept all longer j guess (not_at all j guess (λ lt at. never lt at (nat_lt guess (length keys)) refl)) ∙ sym (not_kept keys slices j guess is)
         where
           never : guess < length all → get_or all guess 0 ≡ j → (b : Bool) → nat_lt guess (length keys) ≡ b → ⊥
           never lt at true before =
               let low = ltb-true guess (length keys) before in
-              true≢false (sym (is_at_guess keys j guess low (sym (push_before keys key 0 guess low) ∙ at)) ∙ is)
+              true≢false (sym (is_at_guess keys j guess low (sym (get_or_append_left keys (key ∷ []) 0 guess low) ∙ at)) ∙ is)
           never lt at false behind =
               let last : guess ≡ length keys = omega (arith, ltb-false guess (length keys) behind, lt, length-append keys (key ∷ [])) in
-              other (sym at ∙ ap (λ g. get_or all g 0) last ∙ push_last keys key 0)
+              other (sym at ∙ ap (λ g. get_or all g 0) last ∙ get_or_push keys key 0 (length keys) refl)
 
       by : (j : ℕ) → j < length guesses → (b : Bool) → (j == key) ≡ b →
           kept rules all longer j (get_or (set guesses key (length keys)) j 0) ≡ kept rules keys slices j (get_or guesses j 0)
       by j lt true is =
           let at = eqb-true j key is in
-          let guess : get_or (set guesses key (length keys)) j 0 ≡ length keys = ap (λ k. get_or (set guesses key (length keys)) k 0) at ∙ set_at guesses key (length keys) 0 within in
-          let found = is_at_guess all j (length keys) (omega (arith, length-append keys (key ∷ []))) (push_last keys key 0 ∙ sym at) in
+          let guess : get_or (set guesses key (length keys)) j 0 ≡ length keys = ap (λ k. get_or (set guesses key (length keys)) k 0) at ∙ get_or-set_same guesses key (length keys) 0 within in
+          let found = is_at_guess all j (length keys) (omega (arith, length-append keys (key ∷ []))) (get_or_push keys key 0 (length keys) refl ∙ sym at) in
           ap (kept rules all longer j) guess ∙ kept_here all longer j (length keys) found
-          ∙ ap (λ n. get_or longer n rules.empty) (sym long) ∙ push_last slices rules.empty rules.empty
+          ∙ ap (λ n. get_or longer n rules.empty) (sym long) ∙ get_or_push slices rules.empty rules.empty (length slices) refl
           ∙ sym (not_kept keys slices j (get_or guesses j 0) (subst (λ k. is_at keys k (get_or guesses k 0) ≡ false) (sym at) new))
       by j lt false is =
           let other = eqb-false j key is in
-          ap (kept rules all longer j) (set_beside guesses key j (length keys) 0 other) ∙ beside j (get_or guesses j 0) other (is_at keys j (get_or guesses j 0)) refl
+          ap (kept rules all longer j) (get_or-set_other guesses key j (length keys) 0 other) ∙ beside j (get_or guesses j 0) other (is_at keys j (get_or guesses j 0)) refl
 
       here : (j : ℕ) → j < length guesses →
           get_or (spread rules (set guesses key (length keys)) all longer) j rules.empty ≡ get_or (spread rules guesses keys slices) j rules.empty
@@ -184,7 +145,7 @@ module _ {Record Slice Look Request Reply Act : Type 0} (rules : Rules Record Sl
       place < length keys → get_or keys place 0 ≡ key →
       spread rules guesses keys (set slices place s) ≡ set (spread rules guesses keys slices) key s
   spread_set guesses keys slices place key s are lt there =
-      list_ext rules.empty _ _
+      ext_get_or rules.empty _ _
       (length-spread guesses keys (set slices place s) ∙ sym (length-spread guesses keys slices) ∙ sym (length-set (spread rules guesses keys slices) key s))
       (λ j in_all. at j (omega (arith, in_all, length-spread guesses keys (set slices place s))) (j == key) refl)
     where
@@ -198,7 +159,7 @@ module _ {Record Slice Look Request Reply Act : Type 0} (rules : Rules Record Sl
       beside j g other true is =
           let found = at_guess keys j g is in
           kept_here keys (set slices place s) j g is
-          ∙ set_beside slices place g s rules.empty (λ same. other (sym found.1 ∙ ap (λ p. get_or keys p 0) same ∙ there)) ∙ sym (kept_here keys slices j g is)
+          ∙ get_or-set_other slices place g s rules.empty (λ same. other (sym found.1 ∙ ap (λ p. get_or keys p 0) same ∙ there)) ∙ sym (kept_here keys slices j g is)
       beside j g other false is = not_kept keys (set slices place s) j g is ∙ sym (not_kept keys slices j g is)
 
       at : (j : ℕ) → j < length guesses → (b : Bool) → (j == key) ≡ b →
@@ -209,14 +170,14 @@ module _ {Record Slice Look Request Reply Act : Type 0} (rules : Rules Record Sl
           ∙ spread_at guesses keys (set slices place s) key within
           ∙ ap (kept rules keys (set slices place s) key) guess
           ∙ kept_here keys (set slices place s) key place (is_at_guess keys key place lt there)
-          ∙ set_at slices place s rules.empty (omega (arith, lt, are.long))
-          ∙ sym (set_at (spread rules guesses keys slices) key s rules.empty (omega (arith, within, length-spread guesses keys slices)))
+          ∙ get_or-set_same slices place s rules.empty (omega (arith, lt, are.long))
+          ∙ sym (get_or-set_same (spread rules guesses keys slices) key s rules.empty (omega (arith, within, length-spread guesses keys slices)))
           ∙ ap (λ k. get_or (set (spread rules guesses keys slices) key s) k rules.empty) (sym same)
       at j lt_j false is =
           let other = eqb-false j key is in
           spread_at guesses keys (set slices place s) j lt_j
           ∙ beside j (get_or guesses j 0) other (is_at keys j (get_or guesses j 0)) refl
-          ∙ sym (spread_at guesses keys slices j lt_j) ∙ sym (set_beside (spread rules guesses keys slices) key j s rules.empty other)
+          ∙ sym (spread_at guesses keys slices j lt_j) ∙ sym (get_or-set_other (spread rules guesses keys slices) key j s rules.empty other)
 
   -- the slice of a kept key is the one of the spread ones
   pub kept_is : (guesses keys : List ℕ) (slices : List Slice) (place key : ℕ) → AreKept guesses keys slices → place < length keys → get_or keys place 0 ≡ key →
@@ -249,10 +210,9 @@ module _ {Record Slice Look Request Reply Act : Type 0} (rules : Rules Record Sl
   merged_at (r ∷ rs) (s ∷ ss) zero d len lt = refl
   merged_at (r ∷ rs) (s ∷ ss) (suc k) d len lt = merged_at rs ss k d (omega (arith, len)) (omega (arith, lt))
 
-  length-merges : (rs : List Record) (ss : List Slice) → length (merged_all rules rs ss) ≡ length rs
-  length-merges [] ss = refl
-  length-merges (r ∷ rs) [] = refl
+  pub length-merges : (rs : List Record) (ss : List Slice) → length (merged_all rules rs ss) ≡ length rs
   length-merges (r ∷ rs) (s ∷ ss) = ap suc (length-merges rs ss)
+  length-merges rs ss = refl
 
   module _ (Fits : ℕ → Record → Type 0) (SliceFits : ℕ → Slice → Type 0) (IsSmall : Act → Type 0) (laws : SplitLaws rules Fits SliceFits IsSmall)
       (n : ℕ) (opened : List Record) (fit : AllByRecursion (Fits n) opened) (guesses keys : List ℕ) (slices : List Slice)
@@ -275,7 +235,7 @@ module _ {Record Slice Look Request Reply Act : Type 0} (rules : Rules Record Sl
 
     pub merged_first : (d : Record) → opened ≡ merged_before 0
     merged_first d =
-        list_ext d opened (merged_before 0) (sym (length-merges opened (spread rules guesses [] [])))
+        ext_get_or d opened (merged_before 0) (sym (length-merges opened (spread rules guesses [] [])))
         (λ key lt. sym (record_still 0 key d lt (not_at [] key (get_or guesses key 0) (λ low is. omega (arith, low)))))
 
     -- the record at the next key is still the one with which the phase opened
@@ -283,13 +243,13 @@ module _ {Record Slice Look Request Reply Act : Type 0} (rules : Rules Record Sl
     next_still k d lt =
         record_still k (get_or keys k 0) d (omega (arith, are.within k lt, same))
         (not_at (take k keys) (get_or keys k 0) (get_or guesses (get_or keys k 0) 0)
-        (λ low is. omega (arith, low, are.right k lt, take_long keys k (omega (arith, lt)))))
+        (λ low is. omega (arith, low, are.right k lt, length-take-le k keys (omega (arith, lt)))))
 
     -- a slice more
     pub merged_next : (d : Record) (k : ℕ) → k < length keys →
         merged_before (k + 1) ≡ set (merged_before k) (get_or keys k 0) (rules.merged (get_or (merged_before k) (get_or keys k 0) d) (get_or slices k rules.empty))
     merged_next d k lt =
-        list_ext d _ _
+        ext_get_or d _ _
         (length-merges opened (spread rules guesses (take (k + 1) keys) (take (k + 1) slices)) ∙ sym (length-merges opened (spread rules guesses (take k keys) (take k slices)))
         ∙ sym (length-set (merged_before k) (get_or keys k 0) _))
         (λ j in_all. at j (omega (arith, in_all, length-merges opened (spread rules guesses (take (k + 1) keys) (take (k + 1) slices)))) (j == get_or keys k 0) refl)
@@ -304,19 +264,19 @@ module _ {Record Slice Look Request Reply Act : Type 0} (rules : Rules Record Sl
         own = omega (arith, are.within k lt, same)
 
         long : length (take (k + 1) keys) ≡ k + 1
-        long = take_long keys (k + 1) (omega (arith, lt))
+        long = length-take-le (k + 1) keys (omega (arith, lt))
 
         short : length (take k keys) ≡ k
-        short = take_long keys k (omega (arith, lt))
+        short = length-take-le k keys (omega (arith, lt))
 
         here : get_or (merged_before (k + 1)) key d ≡ grown
         here =
-            let found = is_at_guess (take (k + 1) keys) key k (omega (arith, long)) (take_before keys (k + 1) k 0 (omega arith)) in
+            let found = is_at_guess (take (k + 1) keys) key k (omega (arith, long)) (get_or-take (k + 1) keys k 0 (omega arith)) in
             merged_at opened (spread rules guesses (take (k + 1) keys) (take (k + 1) slices)) key d (spread_len (k + 1)) own
             ∙ ap (rules.merged (get_or opened key d))
             (spread_at guesses (take (k + 1) keys) (take (k + 1) slices) key (are.within k lt)
             ∙ ap (kept rules (take (k + 1) keys) (take (k + 1) slices) key) (are.right k lt)
-            ∙ kept_here (take (k + 1) keys) (take (k + 1) slices) key k found ∙ take_before slices (k + 1) k rules.empty (omega arith))
+            ∙ kept_here (take (k + 1) keys) (take (k + 1) slices) key k found ∙ get_or-take (k + 1) slices k rules.empty (omega arith))
             ∙ ap (λ r. rules.merged r (get_or slices k rules.empty)) (sym (next_still k d lt))
 
         -- another key is among the first k + 1 just if it is among the first k
@@ -325,8 +285,8 @@ module _ {Record Slice Look Request Reply Act : Type 0} (rules : Rules Record Sl
         beside j g other true is =
             let found = at_guess (take k keys) j g is in let low : g < k = omega (arith, found.0, short) in
             kept_here (take (k + 1) keys) (take (k + 1) slices) j g
-            (is_at_guess (take (k + 1) keys) j g (omega (arith, low, long)) (take_before keys (k + 1) g 0 (omega (arith, low)) ∙ sym (take_before keys k g 0 low) ∙ found.1))
-            ∙ take_before slices (k + 1) g rules.empty (omega (arith, low)) ∙ sym (take_before slices k g rules.empty low)
+            (is_at_guess (take (k + 1) keys) j g (omega (arith, low, long)) (get_or-take (k + 1) keys g 0 (omega (arith, low)) ∙ sym (get_or-take k keys g 0 low) ∙ found.1))
+            ∙ get_or-take (k + 1) slices g rules.empty (omega (arith, low)) ∙ sym (get_or-take k slices g rules.empty low)
             ∙ sym (kept_here (take k keys) (take k slices) j g is)
         beside j g other false is =
             not_kept (take (k + 1) keys) (take (k + 1) slices) j g (not_at (take (k + 1) keys) j g (λ lt_g at. never lt_g at (nat_lt g k) refl))
@@ -336,17 +296,17 @@ module _ {Record Slice Look Request Reply Act : Type 0} (rules : Rules Record Sl
             never lt_g at true before =
                 let low = ltb-true g k before in
                 true≢false (sym (is_at_guess (take k keys) j g (omega (arith, low, short))
-                (take_before keys k g 0 low ∙ sym (take_before keys (k + 1) g 0 (omega (arith, low))) ∙ at)) ∙ is)
+                (get_or-take k keys g 0 low ∙ sym (get_or-take (k + 1) keys g 0 (omega (arith, low))) ∙ at)) ∙ is)
             never lt_g at false behind =
                 let last : g ≡ k = omega (arith, ltb-false g k behind, lt_g, long) in
-                other (sym at ∙ ap (λ p. get_or (take (k + 1) keys) p 0) last ∙ take_before keys (k + 1) k 0 (omega arith))
+                other (sym at ∙ ap (λ p. get_or (take (k + 1) keys) p 0) last ∙ get_or-take (k + 1) keys k 0 (omega arith))
 
         at : (j : ℕ) → j < length opened → (b : Bool) → (j == key) ≡ b →
             get_or (merged_before (k + 1)) j d ≡ get_or (set (merged_before k) key grown) j d
         at j in_table true is =
             let same_key = eqb-true j key is in
             ap (λ q. get_or (merged_before (k + 1)) q d) same_key ∙ here
-            ∙ sym (set_at (merged_before k) key grown d (omega (arith, own, length-merges opened (spread rules guesses (take k keys) (take k slices)))))
+            ∙ sym (get_or-set_same (merged_before k) key grown d (omega (arith, own, length-merges opened (spread rules guesses (take k keys) (take k slices)))))
             ∙ ap (λ q. get_or (set (merged_before k) key grown) q d) (sym same_key)
         at j in_table false is =
             let other = eqb-false j key is in let in_guesses : j < length guesses = omega (arith, in_table, same) in
@@ -356,7 +316,7 @@ module _ {Record Slice Look Request Reply Act : Type 0} (rules : Rules Record Sl
             ∙ beside j (get_or guesses j 0) other (is_at (take k keys) j (get_or guesses j 0)) refl
             ∙ sym (spread_at guesses (take k keys) (take k slices) j in_guesses))
             ∙ sym (merged_at opened (spread rules guesses (take k keys) (take k slices)) j d (spread_len k) in_table)
-            ∙ sym (set_beside (merged_before k) key j grown d other)
+            ∙ sym (get_or-set_other (merged_before k) key j grown d other)
 
     -- the table after a slice is merged into its record, and that record before
     module _ (d : Record) (table : List Record) (k key : ℕ) (lt : k < length keys) (is : table ≡ merged_before k) (at : key ≡ get_or keys k 0) where

@@ -1,10 +1,10 @@
-mod Splits
-mod Works
+pub mod Splits
+pub mod Works
 mod Pieces
 mod KeptSlices
 mod States
 mod Ends
 mod Lines
 mod Sessions
-mod Counts
+pub mod Counts
 mod MarkRows

@@ -1,32 +1,28 @@
 -- Lines of a history, and marks of their requests.
 use Rattle.std.proofs.Common.{◌≡◌, ℕ, zero, suc, ◌==◌, Bool, true, false, List, [], ◌∷◌, ◌++◌, length, set, replicate, Some, refl, sym, ap, ◌∙◌, subst, append_assoc, append-nil, eqb-true}
-use Rattle.std.proofs.lemmas.{Bool.{eq-eqb, eqb-false, ne_eqb}, List.Sums.{fold-append}}
-use Rattle.std.{proofs.lemmas.Option.{none-some, same_Some}, specs.List.{AllByRecursion}}
-use Rattle.std.specs.{Option.{option_map}, Prelude.{slice_get, ◌&&◌, ◌||◌}}
+use Rattle.std.proofs.Math.Bool.{or-false}
+use Rattle.std.proofs.lemmas.Bool.{eq-eqb, eqb-false, ne_eqb, or_right, and_from}
+use Rattle.std.proofs.lemmas.{List.Sums.{fold-append}, Option.{none-some, same_Some}}
+use Rattle.std.specs.{List.{AllByRecursion}, Option.{option_map}, Prelude.{slice_get, ◌&&◌, ◌||◌}}
 use Rattle.split_engine.specs.Checking.{has_line, IsRightLine, after_line, after_lines, lines_replay}
 use Rattle.split_engine.specs.{Rules.{Rules}, Serving.{request_at}, declared.referee.Line.{Line}}
 use Rattle.split_engine.specs.inner.Marking.{no_marks, AreMarks}
+use Rattle.phase_laws.proofs.ListLemmas.{all_at}
 
 -- ---- requests
-
-in_script : {Q : Type 0} (P : Q → Type 0) (script : List Q) (i : ℕ) (q : Q) → AllByRecursion P script → slice_get script i ≡ Some q → P q
-in_script P [] i q h at = absurd (none-some q at)
-in_script P (r ∷ rs) zero q h at = subst P (same_Some r q at) h.0
-in_script P (r ∷ rs) (suc i) q h at = in_script P rs i q h.1 at
 
 -- what holds of all requests of scripts holds of one of them
 pub in_scripts : {Q : Type 0} (P : Q → Type 0) (L : List Q → Type 0) (scripts : List (List Q)) (w i : ℕ) (q : Q) →
     AllByRecursion (λ script. AllByRecursion P script × L script) scripts → request_at scripts w i ≡ Some q → P q
 in_scripts P L [] w i q h at = absurd (none-some q at)
-in_scripts P L (s ∷ ss) zero i q h at = in_script P s i q h.0.0 at
+in_scripts P L (s ∷ ss) zero i q h at = all_at P s i q h.0.0 at
 in_scripts P L (s ∷ ss) (suc w) i q h at = in_scripts P L ss w i q h.1 at
 
 -- ---- marks
 
 none_marked_in : {Q : Type 0} (script : List Q) (i : ℕ) → slice_get (replicate (length script) false) i ≡ option_map (λ q. false) (slice_get script i)
-none_marked_in [] i = refl
-none_marked_in (q ∷ qs) zero = refl
 none_marked_in (q ∷ qs) (suc i) = none_marked_in qs i
+none_marked_in script i = refl
 
 none_marked : {Q : Type 0} (scripts : List (List Q)) (w i : ℕ) → request_at (no_marks scripts) w i ≡ option_map (λ q. false) (request_at scripts w i)
 none_marked [] w i = refl
@@ -59,11 +55,9 @@ set_here (x ∷ xs) zero b c at = refl
 set_here (x ∷ xs) (suc i) b c at = set_here xs i b c at
 
 set_there : (xs : List Bool) (i j : ℕ) (b : Bool) → (j ≡ i → ⊥) → slice_get (set xs i b) j ≡ slice_get xs j
-set_there [] i j b ne = refl
 set_there (x ∷ xs) zero zero b ne = absurd (ne refl)
-set_there (x ∷ xs) zero (suc j) b ne = refl
-set_there (x ∷ xs) (suc i) zero b ne = refl
 set_there (x ∷ xs) (suc i) (suc j) b ne = set_there xs i j b (λ e. ne (ap suc e))
+set_there xs i j b ne = refl
 
 -- marks with a row set, at its own requests and at others
 pub row_here : (rows : List (List Bool)) (w i : ℕ) (row : List Bool) (c : Bool) → request_at rows w i ≡ Some c → slice_get row i ≡ Some true → request_at (set rows w row) w i ≡ Some true
@@ -71,35 +65,18 @@ row_here [] w i row c at is = absurd (none-some c at)
 row_here (r ∷ rows) zero i row c at is = is
 row_here (r ∷ rows) (suc w) i row c at is = row_here rows w i row c at is
 
-pub row_at : (rows : List (List Bool)) (w i : ℕ) (c : Bool) → request_at rows w i ≡ Some c → (row : List Bool) × (slice_get rows w ≡ Some row) × (slice_get row i ≡ Some c)
-row_at [] w i c at = absurd (none-some c at)
-row_at (r ∷ rows) zero i c at = (r, refl, at)
-row_at (r ∷ rows) (suc w) i c at = row_at rows w i c at
-
 pub row_others : (rows : List (List Bool)) (w i : ℕ) (row old : List Bool) (v j : ℕ) → slice_get rows w ≡ Some old → row ≡ set old i true → (v ≡ w → j ≡ i → ⊥) →
     request_at (set rows w row) v j ≡ request_at rows v j
 row_others [] w i row old v j at is ne = absurd (none-some old at)
 row_others (r ∷ rows) zero i row old zero j at is ne =
     ap (λ xs. slice_get xs j) is ∙ set_there old i j true (ne refl) ∙ ap (λ xs. slice_get xs j) (sym (same_Some r old at))
-row_others (r ∷ rows) zero i row old (suc v) j at is ne = refl
-row_others (r ∷ rows) (suc w) i row old zero j at is ne = refl
 row_others (r ∷ rows) (suc w) i row old (suc v) j at is ne = row_others rows w i row old v j at is (λ e. ne (ap suc e))
+row_others rows w i row old v j at is ne = refl
 
 -- ---- a line more
 
-or_true : (b c : Bool) → c ≡ true → (b || c) ≡ true
-or_true true c is = refl
-or_true false c is = is
-
-or_false : (b : Bool) → (b || false) ≡ b
-or_false true = refl
-or_false false = refl
-
-and_both : (b c : Bool) → b ≡ true → c ≡ true → (b && c) ≡ true
-and_both b c is too = (λ i. is i && too i)
-
 has-append : {R : Type 0} (before : List (Line R)) (line : Line R) (w i : ℕ) → has_line (before ++ line ∷ []) w i ≡ (has_line before w i || ((line.worker == w) && (line.index == i)))
-has-append [] line w i = or_false ((line.worker == w) && (line.index == i))
+has-append [] line w i = or-false ((line.worker == w) && (line.index == i))
 has-append (l ∷ before) line w i = here ((l.worker == w) && (l.index == i)) (has-append before line w i)
   where
     here : (b : Bool) → has_line (before ++ line ∷ []) w i ≡ (has_line before w i || ((line.worker == w) && (line.index == i))) →
@@ -111,8 +88,8 @@ has-append (l ∷ before) line w i = here ((l.worker == w) && (l.index == i)) (h
 pub has_own : {R : Type 0} (before : List (Line R)) (line : Line R) → has_line (before ++ line ∷ []) line.worker line.index ≡ true
 has_own before line =
     has-append before line line.worker line.index
-    ∙ or_true (has_line before line.worker line.index) _
-    (and_both (line.worker == line.worker) (line.index == line.index) (eq-eqb line.worker line.worker refl) (eq-eqb line.index line.index refl))
+    ∙ or_right (has_line before line.worker line.index) _
+    (and_from (line.worker == line.worker) (line.index == line.index) (eq-eqb line.worker line.worker refl) (eq-eqb line.index line.index refl))
 
 other_false : (a w b i : ℕ) → (w ≡ a → i ≡ b → ⊥) → ((a == w) && (b == i)) ≡ false
 other_false a w b i ne = here (a == w) refl
@@ -126,7 +103,7 @@ has_other : {R : Type 0} (before : List (Line R)) (line : Line R) (w i : ℕ) �
 has_other before line w i ne =
     has-append before line w i
     ∙ ap (λ c. has_line before w i || c) (other_false line.worker w line.index i ne)
-    ∙ or_false (has_line before w i)
+    ∙ or-false (has_line before w i)
 
 -- marks with the line's request marked are those of the lines with it
 module _ {Q R : Type 0} (scripts : List (List Q)) (before : List (Line R)) (old new : List (List Bool)) (line : Line R) (q : Q) (are : AreMarks scripts before old)

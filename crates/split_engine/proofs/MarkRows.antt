@@ -1,14 +1,12 @@
 -- Marks, row after row.
-use Rattle.std.proofs.Common.{◌≡◌, ℕ, zero, suc, ◌+◌, ◌<◌, false, List, [], ◌∷◌, ◌++◌, length, replicate, take, set, get_or, Some, refl, sym, ap, ◌∙◌, arith}
-use Rattle.std.proofs.{Math.Numerals.{add-one}, lemmas.Option.{none-some}}
+use Rattle.std.proofs.Common.{◌≡◌, ℕ, zero, suc, ◌+◌, ◌<◌, false, List, [], ◌∷◌, ◌++◌, length, replicate, take, set, get_or, Some, sym, ap, ◌∙◌, arith}
+use Rattle.std.proofs.{Math.Numerals.{add-one}, lemmas.{List.{map-set}, Option.{none-some}}}
 use Rattle.std.specs.{Prelude.{Vec, slice_get}, declared.alloc.Global.{Global}}
 use Rattle.split_engine.specs.{Serving.{lists, request_at}, inner.Marking.{no_marks}}
 
 -- a vector is set in a list of vectors
 pub lists_set : {X : Type 0} (vs : List (Vec X Global)) (k : ℕ) (v : Vec X Global) → lists (set vs k v) ≡ set (lists vs) k v.items
-lists_set [] k v = refl
-lists_set (w ∷ vs) zero v = refl
-lists_set (w ∷ vs) (suc k) v = ap (λ vectors. w.items ∷ vectors) (lists_set vs k v)
+lists_set {X} vs k v = map-set (λ (w : Vec X Global). w.items) vs k v
 
 -- the row that stands there
 pub row_is : {X : Type 0} (vs : List (Vec X Global)) (k : ℕ) (v : Vec X Global) → k < length vs → v ≡ get_or vs k v → slice_get (lists vs) k ≡ Some v.items

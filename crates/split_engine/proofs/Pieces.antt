@@ -1,5 +1,5 @@
 -- A history of which one piece more, or the last one longer, is known.
-use Rattle.std.proofs.Common.{◌≡◌, ℕ, zero, suc, ◌+◌, ◌<◌, ◌≤◌, List, [], ◌∷◌, ◌++◌, length, take, set, get_or, append_assoc, append-nil, refl, sym, ap, ◌∙◌, arith}
+use Rattle.std.proofs.Common.{◌≡◌, ℕ, zero, suc, ◌+◌, ◌<◌, ◌≤◌, List, [], ◌∷◌, ◌++◌, length, take, set, get_or, append_assoc, append-nil, sym, ap, ◌∙◌, arith}
 use Rattle.std.proofs.{Math.{Numerals.{add-one}, Seq.{take-suc}}, lemmas.Grind.{flat_map-append}}
 use Rattle.std.{proofs.lemmas.List.{length-append}, specs.List.{flat_map}}
 
@@ -10,11 +10,10 @@ flat-more f xs x = flat_map-append f xs (x ∷ []) ∙ ap (λ l. flat_map f xs +
 -- the last piece is longer
 pub flat-longer : {X A : Type 0} (f : X → List A) (xs : List X) (place : ℕ) (x d : X) (more : List A) → suc place ≡ length xs → f x ≡ f (get_or xs place d) ++ more →
     flat_map f (set xs place x) ≡ flat_map f xs ++ more
-flat-longer f [] place x d more at is = absurd (omega (arith, at))
 flat-longer f (y ∷ []) zero x d more at is = append-nil (f x) ∙ is ∙ ap (λ l. l ++ more) (sym (append-nil (f y)))
-flat-longer f (y ∷ z ∷ zs) zero x d more at is = absurd (omega (arith, at))
 flat-longer f (y ∷ zs) (suc place) x d more at is =
     ap (λ l. f y ++ l) (flat-longer f zs place x d more (omega (arith, at)) is) ∙ sym (append_assoc (f y) (flat_map f zs) more)
+flat-longer f xs place x d more at is = absurd (omega (arith, at))
 
 -- how many are in the first pieces
 pub flat-take : {X A : Type 0} (f : X → List A) (xs : List X) (place : ℕ) (x : X) → place < length xs → x ≡ get_or xs place x →

@@ -19,12 +19,6 @@ all_of_second P Neither h = tt
 all_of_second P (First x i) h = all_of_second P i h.1
 all_of_second P (Second y i) h = (h.0, all_of_second P i h.1)
 
--- a list read within its length, with any default
-pub read_any : {X : Type 0} (l : List X) (i : ℕ) (d e : X) → i < length l → get_or l i d ≡ get_or l i e
-read_any [] i d e h = absurd (omega arith)
-read_any (x ∷ xs) zero d e h = refl
-read_any (x ∷ xs) (suc i) d e h = read_any xs i d e (omega arith)
-
 -- a table has as many records after acts
 pub length-acts : {Record Slice Look Request Reply Act : Type 0} (rules : Rules Record Slice Look Request Reply Act) (t : List Record) (ps : List (ℕ × Act)) →
     length (after_acts rules t ps) ≡ length t
@@ -41,19 +35,16 @@ zip_next (j ∷ ks) (y ∷ xs) (suc n) k x lt more is at = zip_next ks xs n k x 
 
 -- what holds of all acts holds of those at keys, which are no more
 pub all_zipped : {K X : Type 0} (P : X → Type 0) (ks : List K) (xs : List X) → AllByRecursion P xs → AllByRecursion (λ (p : K × X). P p.1) (zip ks xs)
-all_zipped P [] xs h = tt
-all_zipped P (k ∷ ks) [] h = tt
 all_zipped P (k ∷ ks) (x ∷ xs) h = (h.0, all_zipped P ks xs h.1)
+all_zipped P ks xs h = tt
 
 pub zipped_few : {K X : Type 0} (ks : List K) (xs : List X) → length (zip ks xs) ≤ length xs
-zipped_few [] xs = omega arith
-zipped_few (k ∷ ks) [] = omega arith
 zipped_few (k ∷ ks) (x ∷ xs) = let rest = zipped_few ks xs in omega (arith, rest)
+zipped_few ks xs = omega arith
 
 pub zipped_short : {K X : Type 0} (ks : List K) (xs : List X) → length (zip ks xs) ≤ length ks
-zipped_short [] xs = omega arith
-zipped_short (k ∷ ks) [] = omega arith
 zipped_short (k ∷ ks) (x ∷ xs) = let rest = zipped_short ks xs in omega (arith, rest)
+zipped_short ks xs = omega arith
 
 -- none is left after as many as there are of both
 pub zip_end : {K X : Type 0} (ks : List K) (xs : List X) (n a b : ℕ) → a ≡ length ks → b ≡ length xs → min a b ≤ n → drop n (zip ks xs) ≡ []
@@ -66,11 +57,9 @@ module _ {Record Slice Look Request Reply Act : Type 0} (rules : Rules Record Sl
     (laws : SplitLaws rules Fits SliceFits IsSmall) where
   act_swap : (t : List Record) (k j : ℕ) (x y : Act) → rules.is_splittable x ≡ true → rules.is_splittable y ≡ true →
       after_act rules (after_act rules t k x) j y ≡ after_act rules (after_act rules t j y) k x
-  act_swap [] k j x y p q = refl
   act_swap (r ∷ rs) zero zero x y p q = ap (λ s. s ∷ rs) (laws.commute r x y p q)
-  act_swap (r ∷ rs) zero (suc j) x y p q = refl
-  act_swap (r ∷ rs) (suc k) zero x y p q = refl
   act_swap (r ∷ rs) (suc k) (suc j) x y p q = ap (λ ss. r ∷ ss) (act_swap rs k j x y p q)
+  act_swap t k j x y p q = refl
 
   abbrev Splittable : ℕ × Act → Type 0
   Splittable p = rules.is_splittable p.1 ≡ true
@@ -94,11 +83,9 @@ module _ {Record Slice Look Request Reply Act : Type 0} (rules : Rules Record Sl
 
   act_fixed : (t : List Record) (k : ℕ) (x : Act) (key : ℕ) → rules.is_splittable x ≡ true →
       fixed_at (after_act rules t k x) key ≡ fixed_at t key
-  act_fixed [] k x key p = refl
   act_fixed (r ∷ rs) zero x zero p = laws.keeps_fixed r x p
-  act_fixed (r ∷ rs) zero x (suc key) p = refl
-  act_fixed (r ∷ rs) (suc k) x zero p = refl
   act_fixed (r ∷ rs) (suc k) x (suc key) p = act_fixed rs k x key p
+  act_fixed t k x key p = refl
 
   acts_fixed : (t : List Record) (ps : List (ℕ × Act)) (key : ℕ) → AllByRecursion Splittable ps → fixed_at (after_acts rules t ps) key ≡ fixed_at t key
   acts_fixed t [] key h = refl
@@ -174,11 +161,6 @@ module _ {Record Slice Look Request Reply Act : Type 0} (rules : Rules Record Sl
   merged_acts rs ss (x ∷ ps) len h =
       merged_acts rs (after_slice_act rules ss x.0 x.1) ps (length-set ss x.0 _ ∙ len) h.1
       ∙ ap (λ t. after_acts rules t ps) (merged_act rs ss x.0 x.1 len h.0)
-
-  pub length-merged : (rs : List Record) (ss : List Slice) → length (merged_all rules rs ss) ≡ length rs
-  length-merged [] ss = refl
-  length-merged (r ∷ rs) [] = refl
-  length-merged (r ∷ rs) (s ∷ ss) = ap suc (length-merged rs ss)
 
   merged_none : (n : ℕ) (rs : List Record) → AllByRecursion (Fits n) rs → merged_all rules rs (replicate (length rs) rules.empty) ≡ rs
   merged_none n [] h = refl

@@ -1,16 +1,15 @@
 -- What phases leave of where the workers stand.
-use Rattle.std.proofs.Common.{◌≡◌, ℕ, zero, suc, ◌+◌, ◌*◌, ◌<◌, ◌≤◌, ◌==◌, Bool, true, false, not, cond, List, [], ◌∷◌, ◌++◌, length, map, get_or, set, drop, refl, sym, ap, ◌∙◌, subst, arith, append_assoc}
+use Rattle.std.proofs.Common.{◌≡◌, ℕ, zero, suc, ◌+◌, ◌*◌, ◌<◌, ◌≤◌, ◌==◌, Bool, true, not, cond, List, [], ◌∷◌, ◌++◌, length, map, get_or, set, drop, refl, sym, ap, ◌∙◌, subst, arith, append_assoc, drop-cons}
 use Rattle.std.proofs.{Math.Numerals.{add-one}, lemmas.Bool.{eq-eqb, ne_eqb}}
 use Rattle.std.proofs.lemmas.List.{Elements.{filter-append}, append-nil, map-append, length-append}
-use Rattle.std.{proofs.lemmas.List.Sums.{fold-append}, specs.List.{filter, AllByRecursion, AllZip}}
-use Rattle.std.specs.Option.{option_map, option_to_list}
-use Rattle.std.specs.Prelude.{slice_get, Vec, Result, Ok, Err, IfOk}
-use Rattle.std.specs.declared.alloc.Global.{Global}
-use Rattle.phase_laws.proofs.{ListLemmas.{all-right}, OrderLemmas.{all-filter, all-weaker}}
-use Rattle.phase_laws.specs.Order.{part}
+use Rattle.std.proofs.lemmas.List.{Filters.{sum_by-filter_both}, Sums.{fold-append, length-filter}}
+use Rattle.std.specs.{List.{filter, AllByRecursion, AllZip}, Option.{option_map, option_to_list}}
+use Rattle.std.specs.{Prelude.{slice_get, Vec, Result, Ok, IfOk}, declared.alloc.Global.{Global}}
+use Rattle.phase_laws.proofs.ListLemmas.{all-right, all-append}
+use Rattle.phase_laws.{proofs.OrderLemmas.{all-filter, all-weaker}, specs.Order.{part}}
 use Rattle.split_engine.proofs.Counts.{left-append}
 use Rattle.split_engine.proofs.Sessions.{order_same, order_turned, order_worked}
-use Rattle.split_engine.proofs.{Splits.{replay, opened_merged}, Works.{all_both, replays_both}}
+use Rattle.split_engine.proofs.{Splits.{replay, opened_merged}, Works.{replays_both}}
 use Rattle.split_engine.specs.Rules.{Rules, SplitLaws}
 use Rattle.split_engine.specs.Serial.{IsWithin, after_entry, ReplaysFrom, table_after}
 use Rattle.split_engine.specs.Serving.{lists, calls_before, call_of, calls_of, count, IsScript}
@@ -43,25 +42,15 @@ there P (q ∷ qs) (suc n) k h = there P qs n k h.1
 -- what holds of a script's requests holds of its calls
 pub all_calls : {Q : Type 0} (P : Q → Type 0) (script : List Q) (n : ℕ) → AllByRecursion P script → AllByRecursion (λ (call : ℕ × Q). P call.1) (calls_before script n)
 all_calls P script zero h = tt
-all_calls P script (suc n) h = all_both _ (calls_before script n) _ (all_calls P script n h) (there P script n n h)
+all_calls P script (suc n) h = all-append _ (calls_before script n) _ (all_calls P script n h) (there P script n n h)
 
 pub count_both : {X : Type 0} (p : X → Bool) (xs ys : List X) → count p (xs ++ ys) ≡ count p xs + count p ys
 count_both p xs ys = ap length (filter-append p xs ys) ∙ length-append (filter p xs) (filter p ys)
 
-count_step : {X : Type 0} (p : X → Bool) (x : X) (kept lost all : List X) (b : Bool) → count p kept + count p lost ≡ count p all →
-    count p (cond b (x ∷ kept) kept) + count p (cond (not b) (x ∷ lost) lost) ≡ count p (x ∷ all)
-count_step p x kept lost all true h =
-    let one : count p (x ∷ kept) ≡ count p (x ∷ []) + count p kept = count_both p (x ∷ []) kept in
-    let more : count p (x ∷ all) ≡ count p (x ∷ []) + count p all = count_both p (x ∷ []) all in
-    omega (arith, h, one, more)
-count_step p x kept lost all false h =
-    let one : count p (x ∷ lost) ≡ count p (x ∷ []) + count p lost = count_both p (x ∷ []) lost in
-    let more : count p (x ∷ all) ≡ count p (x ∷ []) + count p all = count_both p (x ∷ []) all in
-    omega (arith, h, one, more)
-
 pub count_parts : {X : Type 0} (p q : X → Bool) (xs : List X) → count p (filter q xs) + count p (filter (λ x. not (q x)) xs) ≡ count p xs
-count_parts p q [] = refl
-count_parts p q (x ∷ xs) = count_step p x (filter q xs) (filter (λ y. not (q y)) xs) xs (q x) (count_parts p q xs)
+count_parts p q xs =
+    (λ i. length-filter p (filter q xs) i + length-filter p (filter (λ x. not (q x)) xs) i)
+    ∙ sum_by-filter_both q (λ x. not (q x)) (λ x. refl) (λ x. cond (p x) 1 0) xs ∙ sym (length-filter p xs)
 
 -- a vector's list in a list of vectors
 pub listed : {X : Type 0} (vs : List (Vec X Global)) (k : ℕ) (v : Vec X Global) → k < length vs → v ≡ get_or vs k v →
@@ -116,19 +105,16 @@ module _ {Record Slice Look Request Reply Act : Type 0} (rules : Rules Record Sl
   pub have_same : (size u : ℕ) (ss : List (List Request)) (ds : List (Cursor Request)) (history later : List (Entry Request Reply)) →
       ((w : ℕ) → u ≤ w → own_part w later ≡ own_part w history) → HaveServed rules size u ss ds history → HaveServed rules size u ss ds later
   have_same size u [] [] history later same h = tt
-  have_same size u [] (d ∷ ds) history later same h = h
-  have_same size u (s ∷ ss) [] history later same h = h
   have_same size u (s ∷ ss) (d ∷ ds) history later same h = (
     served_same size u s d history later (same u (omega arith)) h.0,
     have_same size (suc u) ss ds history later (λ w le. same w (omega (arith, le))) h.1,
   )
+  have_same size u ss ds history later same h = h
 
   pub have_set : (size v : ℕ) (ss : List (List Request)) (ds : List (Cursor Request)) (k : ℕ) (s : List Request) (cursor : Cursor Request) (history later : List (Entry Request Reply)) →
       ((w : ℕ) → (v + k ≡ w → ⊥) → own_part w later ≡ own_part w history) → s ≡ get_or ss k s →
       HasServed rules size (v + k) s cursor later → HaveServed rules size v ss ds history → HaveServed rules size v ss (set ds k cursor) later
   have_set size v [] [] k s cursor history later same is own h = tt
-  have_set size v [] (d ∷ ds) k s cursor history later same is own h = absurd h
-  have_set size v (s' ∷ ss) [] k s cursor history later same is own h = absurd h
   have_set size v (s' ∷ ss) (d ∷ ds) zero s cursor history later same is own h =
       let here : v + 0 ≡ v = omega arith in (
         subst (λ (p : ℕ × List Request). HasServed rules size p.0 p.1 cursor later) (λ i. (here i, is i)) own,
@@ -140,32 +126,31 @@ module _ {Record Slice Look Request Reply Act : Type 0} (rules : Rules Record Sl
         have_set size (suc v) ss ds k s cursor history later (λ w ne. same w (λ e. ne (sym next ∙ e))) is
             (subst (λ w. HasServed rules size w s cursor later) next own) h.1,
       )
+  have_set size v ss ds k s cursor history later same is own h = absurd h
 
   pub have_at : (size v : ℕ) (ss : List (List Request)) (ds : List (Cursor Request)) (k : ℕ) (s : List Request) (cursor : Cursor Request) (history : List (Entry Request Reply)) →
       k < length ss → s ≡ get_or ss k s → cursor ≡ get_or ds k cursor → HaveServed rules size v ss ds history → HasServed rules size (v + k) s cursor history
   have_at size v [] [] k s cursor history lt is_s is_d h = absurd (omega (arith, lt))
-  have_at size v [] (d ∷ ds) k s cursor history lt is_s is_d h = absurd h
-  have_at size v (s' ∷ ss) [] k s cursor history lt is_s is_d h = absurd h
   have_at size v (s' ∷ ss) (d ∷ ds) zero s cursor history lt is_s is_d h =
       let here : v ≡ v + 0 = omega arith in
       subst (λ (p : ℕ × List Request × Cursor Request). HasServed rules size p.0 p.1 p.2 history) (λ i. (here i, sym is_s i, sym is_d i)) h.0
   have_at size v (s' ∷ ss) (d ∷ ds) (suc k) s cursor history lt is_s is_d h =
       let next : suc v + k ≡ v + suc k = omega arith in
       subst (λ w. HasServed rules size w s cursor history) next (have_at size (suc v) ss ds k s cursor history (omega (arith, lt)) is_s is_d h.1)
+  have_at size v ss ds k s cursor history lt is_s is_d h = absurd h
 
   pub have_length : (size v : ℕ) (ss : List (List Request)) (ds : List (Cursor Request)) (history : List (Entry Request Reply)) →
       HaveServed rules size v ss ds history → length ds ≡ length ss
   have_length size v [] [] history h = refl
-  have_length size v [] (d ∷ ds) history h = absurd h
-  have_length size v (s ∷ ss) [] history h = absurd h
   have_length size v (s ∷ ss) (d ∷ ds) history h = ap suc (have_length size (suc v) ss ds history h.1)
+  have_length size v ss ds history h = absurd h
 
   pub stashed_within : (size w : ℕ) (script : List Request) (old mid : Cursor Request) (history : List (Entry Request Reply)) →
       AllByRecursion (IsWithin rules size) script → HasServed rules size w script old history → HasStashed script old mid →
       AllByRecursion (λ (call : ℕ × Request). IsWithin rules size call.1) mid.stash.items
   stashed_within size w script old mid history all h f =
       let P : ℕ × Request → Type 0 = λ call. IsWithin rules size call.1 in
-      subst (AllByRecursion P) (sym f.stash_is) (all_both P old.stash.items f.all h.within
+      subst (AllByRecursion P) (sym f.stash_is) (all-append P old.stash.items f.all h.within
       (all-right P (calls_before script old.next) f.all (subst (AllByRecursion P) f.follows (all_calls (IsWithin rules size) script mid.next all))))
 
   pub served_stashed : (size w : ℕ) (script : List Request) (old mid new : Cursor Request) (history more : List (Entry Request Reply)) →
@@ -202,7 +187,7 @@ module _ {Record Slice Look Request Reply Act : Type 0} (rules : Rules Record Sl
           size_is = t.size_is ∙ f.size_is;
           fits = subst (λ h. AllByRecursion (Fits (n + MOST_KEYS * length h)) after) t.history_is (t.fits n f.fits);
           served = have_set (length opened) 0 scripts cursors k s cursor history (history ++ t.more) others is served f.served;
-          no_others = all_both _ history t.more f.no_others (all-weaker (λ (e : Entry Request Reply). e.worker ≡ k) (λ e. e.worker < length scripts) (λ e own. omega (arith, own, lt)) t.more t.own);
+          no_others = all-append _ history t.more f.no_others (all-weaker (λ (e : Entry Request Reply). e.worker ≡ k) (λ e. e.worker < length scripts) (λ e own. omega (arith, own, lt)) t.more t.own);
         } in subst (λ h. IsRunState rules Fits n opened scripts after h (set cursors k cursor)) (sym t.history_is) state
 
   module _ (Fits : ℕ → Record → Type 0) (SliceFits : ℕ → Slice → Type 0) (IsSmall : Act → Type 0) (laws : SplitLaws rules Fits SliceFits IsSmall)
@@ -223,7 +208,7 @@ module _ {Record Slice Look Request Reply Act : Type 0} (rules : Rules Record Sl
               let d : count p (calls_before script new.next) ≡ count p (calls_before script old.next) + count p f.all =
               ap (count p) f.follows ∙ count_both p (calls_before script old.next) f.all in
               omega (arith, a, b, c, d, h.counts p);
-          within = subst (AllByRecursion P) (sym f.done.stash_is) (all_both P old.stash.items (put_off rules hot f.all) h.within
+          within = subst (AllByRecursion P) (sym f.done.stash_is) (all-append P old.stash.items (put_off rules hot f.all) h.within
               (all-filter P (λ (call : ℕ × Request). not (is_taken rules hot call.1)) f.all
               (all-right P (calls_before script old.next) f.all (subst (AllByRecursion P) f.follows (all_calls (IsWithin rules (length table)) script new.next all)))));
           next_in = f.next_in;
@@ -238,28 +223,24 @@ module _ {Record Slice Look Request Reply Act : Type 0} (rules : Rules Record Sl
         AllByRecursion (λ (e : Entry Request Reply). (v ≤ e.worker) × (e.worker < v + length ss)) (joined js)
     workers_of v [] olds news js h = subst (λ xs. AllByRecursion (λ (e : Entry Request Reply). (v ≤ e.worker) × (e.worker < v + 0)) (joined xs)) (sym h.1) tt
     workers_of v (s ∷ ss) [] news js h = subst (λ xs. AllByRecursion (λ (e : Entry Request Reply). (v ≤ e.worker) × (e.worker < v + suc (length ss))) (joined xs)) (sym h.1) tt
-    workers_of v (s ∷ ss) (d ∷ ds) [] js h = absurd h
-    workers_of v (s ∷ ss) (d ∷ ds) (e ∷ es) [] h = absurd h
     workers_of v (s ∷ ss) (d ∷ ds) (e ∷ es) (j ∷ js) h =
-        all_both _ j (joined js)
+        all-append _ j (joined js)
         (all-weaker (λ (e : Entry Request Reply). e.worker ≡ v) (λ e. (v ≤ e.worker) × (e.worker < v + suc (length ss))) (λ e own. (omega (arith, own), omega (arith, own))) j h.0.done.own)
         (all-weaker (λ (e : Entry Request Reply). (suc v ≤ e.worker) × (e.worker < suc v + length ss)) (λ e. (v ≤ e.worker) × (e.worker < v + suc (length ss)))
         (λ e own. (omega (arith, own.0), omega (arith, own.1))) (joined js) (workers_of (suc v) ss ds es js h.1))
+    workers_of v ss olds news js h = absurd h
 
     all_split : (v : ℕ) (ss : List (List Request)) (olds news : List (Cursor Request)) (js : List (List (Entry Request Reply))) →
         HaveDone rules IsSmall (assignments table hot quota v ss olds) news js → AllByRecursion (IsSplitEntry rules IsSmall table) (joined js)
-    all_split v [] olds news js h = subst (λ xs. AllByRecursion (IsSplitEntry rules IsSmall table) (joined xs)) (sym h.1) tt
-    all_split v (s ∷ ss) [] news js h = subst (λ xs. AllByRecursion (IsSplitEntry rules IsSmall table) (joined xs)) (sym h.1) tt
     all_split v (s ∷ ss) (d ∷ ds) [] js h = absurd h
     all_split v (s ∷ ss) (d ∷ ds) (e ∷ es) [] h = absurd h
-    all_split v (s ∷ ss) (d ∷ ds) (e ∷ es) (j ∷ js) h = all_both _ j (joined js) h.0.done.split (all_split (suc v) ss ds es js h.1)
+    all_split v (s ∷ ss) (d ∷ ds) (e ∷ es) (j ∷ js) h = all-append _ j (joined js) h.0.done.split (all_split (suc v) ss ds es js h.1)
+    all_split v ss olds news js h = subst (λ xs. AllByRecursion (IsSplitEntry rules IsSmall table) (joined xs)) (sym h.1) tt
 
     have_worked : (v : ℕ) (ss : List (List Request)) (olds news : List (Cursor Request)) (js : List (List (Entry Request Reply))) (history : List (Entry Request Reply)) →
         AllByRecursion (IsScript rules (length table)) ss → HaveServed rules (length table) v ss olds history →
         HaveDone rules IsSmall (assignments table hot quota v ss olds) news js → HaveServed rules (length table) v ss news (history ++ joined js)
     have_worked v [] [] news js history all h f = subst (λ ds. HaveServed rules (length table) v [] ds (history ++ joined js)) (sym f.0) tt
-    have_worked v [] (d ∷ ds) news js history all h f = absurd h
-    have_worked v (s ∷ ss) [] news js history all h f = absurd h
     have_worked v (s ∷ ss) (d ∷ ds) [] js history all h f = absurd f
     have_worked v (s ∷ ss) (d ∷ ds) (e ∷ es) [] history all h f = absurd f
     have_worked v (s ∷ ss) (d ∷ ds) (e ∷ es) (j ∷ js) history all h f =
@@ -272,6 +253,7 @@ module _ {Record Slice Look Request Reply Act : Type 0} (rules : Rules Record Sl
         let later : HaveServed rules (length table) (suc v) ss ds (history ++ j) =
         have_same (length table) (suc v) ss ds history (history ++ j) (λ w le. parts_other w history j (own_not v w (λ is. omega (arith, le, is)) j f.0.done.own)) h.1 in
         subst (λ all. HaveServed rules (length table) v (s ∷ ss) (e ∷ es) all) whole (here, have_worked (suc v) ss ds es js (history ++ j) all.1 later f.1)
+    have_worked v ss olds news js history all h f = absurd h
 
     pub state_worked : (n : ℕ) (opened : List Record) (scripts : List (List Request)) (after : List Record) (history later : List (Entry Request Reply)) (olds news : List (Cursor Request)) (js : List (List (Entry Request Reply))) →
         AllByRecursion (IsScript rules (length table)) scripts →
@@ -290,21 +272,18 @@ module _ {Record Slice Look Request Reply Act : Type 0} (rules : Rules Record Sl
           fits = subst (λ es. AllByRecursion (Fits (n + MOST_KEYS * length es)) after) long fits;
           served = subst (λ m. HaveServed rules m 0 scripts news (history ++ joined js)) f.size_is
               (have_worked 0 scripts olds news js history all (subst (λ m. HaveServed rules m 0 scripts olds history) (sym f.size_is) f.served) h);
-          no_others = all_both _ history (joined js) f.no_others (all-weaker (λ (e : Entry Request Reply). (0 ≤ e.worker) × (e.worker < 0 + length scripts)) (λ e. e.worker < length scripts)
+          no_others = all-append _ history (joined js) f.no_others (all-weaker (λ (e : Entry Request Reply). (0 ≤ e.worker) × (e.worker < 0 + length scripts)) (λ e. e.worker < length scripts)
               (λ e own. omega (arith, own.1)) (joined js) (workers_of 0 scripts olds news js h));
         } in subst (λ es. IsRunState rules Fits n opened scripts after es news) (sym long) state
 
 -- a list from a place on
 pub drop_step : {X : Type 0} (xs : List X) (k : ℕ) (x : X) → k < length xs → x ≡ get_or xs k x → drop k xs ≡ x ∷ drop (suc k) xs
-drop_step [] k x lt is = absurd (omega (arith, lt))
-drop_step (y ∷ xs) zero x lt is = ap (λ z. z ∷ xs) (sym is)
-drop_step (y ∷ xs) (suc k) x lt is = drop_step xs k x (omega (arith, lt)) is
+drop_step xs k x lt is = drop-cons xs k x lt ∙ ap (λ y. y ∷ drop (suc k) xs) (sym is)
 
 mapped_zip : {X V Y : Type 0} (view : X → V) (K : V → Y → Type 0) (xs : List X) (ys : List Y) → AllZip (λ x y. K (view x) y) xs ys → AllZip K (map view xs) ys
 mapped_zip view K [] [] h = tt
-mapped_zip view K [] (y ∷ ys) h = h
-mapped_zip view K (x ∷ xs) [] h = h
 mapped_zip view K (x ∷ xs) (y ∷ ys) h = (h.0, mapped_zip view K xs ys h.1)
+mapped_zip view K xs ys h = h
 
 pub zip_map : {X V Y : Type 0} (xs : List X) (ys : List Y) (vs : List V) (view : X → V) (K : V → Y → Type 0) → map view xs ≡ vs → AllZip (λ x y. K (view x) y) xs ys → AllZip K vs ys
 zip_map xs ys vs view K is h = subst (λ us. AllZip K us ys) is (mapped_zip view K xs ys h)
@@ -324,9 +303,8 @@ module _ {Record Slice Look Request Reply Act : Type 0} (rules : Rules Record Sl
         HaveDone rules IsSmall given ds js → HasDone rules IsSmall a d j (slices_of rules a.table j) → HaveDone rules IsSmall (given ++ a ∷ []) (ds ++ d ∷ []) (js ++ j ∷ [])
     worked_push [] ds js a d j h w =
         subst (λ (p : List (Cursor Request) × List (List (Entry Request Reply))). HaveDone rules IsSmall (a ∷ []) (p.0 ++ d ∷ []) (p.1 ++ j ∷ [])) (λ i. (sym h.0 i, sym h.1 i)) (w, (refl, refl))
-    worked_push (b ∷ given) [] js a d j h w = absurd h
-    worked_push (b ∷ given) (e ∷ ds) [] a d j h w = absurd h
     worked_push (b ∷ given) (e ∷ ds) (i ∷ js) a d j h w = (h.0, worked_push given ds js a d j h.1 w)
+    worked_push given ds js a d j h w = absurd h
 
     pub closed_none : (Fits : ℕ → Record → Type 0) (table : List Record) (history : List (Entry Request Reply)) (cursors : List (Cursor Request)) →
         cursors ≡ [] → HasClosed rules IsSmall Fits [] table history table history cursors
@@ -370,26 +348,10 @@ zip_none K (x ∷ xs) ys none h = absurd (subst (AllZip K (x ∷ xs)) none h)
 pub if_ok : {T E : Type 0} (P : T → Type 0) (answer : Result T E) (t : T) → answer ≡ Ok t → IfOk answer P → P t
 if_ok P answer t is h = subst (λ a. IfOk a P) is h
 
-pub nothing_left : {X : Type 0} (xs : List X) (n : ℕ) → n ≡ length xs → n ≡ 0 → xs ≡ []
-nothing_left [] n long none = refl
-nothing_left (x ∷ xs) n long none = absurd (omega (arith, long, none))
-
 pub same_table : {Record Request : Type 0} (table : List Record) (hot : List Bool) (quota v : ℕ) (ss : List (List Request)) (ds : List (Cursor Request)) →
     AllByRecursion (λ (a : Assignment Record Request). a.table ≡ table) (assignments table hot quota v ss ds)
-same_table table hot quota v [] ds = tt
-same_table table hot quota v (s ∷ ss) [] = tt
 same_table table hot quota v (s ∷ ss) (d ∷ ds) = (refl, same_table table hot quota (suc v) ss ds)
-
-pub if_ok_so : {T E : Type 0} (P Q : T → Type 0) (answer : Result T E) → ((t : T) → P t → Q t) → IfOk answer P → IfOk answer Q
-if_ok_so P Q (Ok t) so h = so t h
-if_ok_so P Q (Err e) so h = tt
-
-pub tasks_more : {J V : Type 0} (view : J → V) (made new : List J) (own : J) (a : V) (rest old all : List V) →
-    new ≡ made ++ own ∷ [] → view own ≡ a → old ≡ a ∷ rest → map view made ++ old ≡ all → map view new ++ rest ≡ all
-tasks_more view made new own a rest old all push is next was =
-    ap (λ xs. map view xs ++ rest) push ∙ ap (λ ys. ys ++ rest) (map-append view made (own ∷ []))
-    ∙ append_assoc (map view made) (view own ∷ []) rest ∙ ap (λ x. map view made ++ x ∷ rest) is
-    ∙ ap (λ ys. map view made ++ ys) (sym next) ∙ was
+same_table table hot quota v ss ds = tt
 
 pub assigned_next : {Record Request : Type 0} (table : List Record) (hot : List Bool) (quota k : ℕ) (ss : List (List Request)) (ds : List (Cursor Request)) (s : List Request) (d : Cursor Request) (rest : List (Cursor Request)) →
     k < length ss → s ≡ get_or ss k s → ds ≡ d ∷ rest →

@@ -1,48 +1,36 @@
 -- What a worker leaves, call by call.
-use Rattle.std.proofs.Common.{◌≡◌, ℕ, zero, suc, ◌+◌, ◌<◌, Bool, true, false, not, cond, List, [], ◌∷◌, ◌++◌, length, take, get_or, append_assoc, Some, refl, sym, ap, ◌∙◌, subst, arith}
-use Rattle.std.proofs.Math.{Numerals.{add-one}, Seq.{take-suc}}
-use Rattle.std.proofs.lemmas.List.{Elements.{filter-append}, append-nil, map-append}
-use Rattle.std.{proofs.lemmas.List.Sums.{fold-append}, specs.List.{filter, AllByRecursion}}
-use Rattle.std.specs.{Option.{option_map, option_to_list}, Prelude.{slice_get}}
+use Rattle.std.proofs.Common.{◌≡◌, ℕ, ◌+◌, ◌<◌, Bool, true, false, not, cond, List, [], ◌∷◌, ◌++◌, length, take, get_or, append_assoc, Some, refl, sym, ap, ◌∙◌, subst}
+use Rattle.std.proofs.{Math.Numerals.{add-one}, lemmas.List.{append-nil, map-append, take_more}}
+use Rattle.std.proofs.lemmas.List.{Elements.{filter-append}, Sums.{fold-append}}
+use Rattle.std.{proofs.lemmas.Option.{slice_get-get_or}, specs.List.{filter, AllByRecursion}}
+use Rattle.std.specs.Option.{option_map, option_to_list}
 use Rattle.split_engine.specs.Rules.{Rules}
 use Rattle.split_engine.specs.Serial.{next, reply, after_entry, ReplaysFrom, table_after}
 use Rattle.split_engine.specs.{Serving.{calls_before, call_of}, declared.entry.Entry.{Entry}}
 use Rattle.split_engine.specs.inner.Commits.{commit}
 use Rattle.split_engine.specs.inner.Phases.{is_taken, split_calls, put_off, HasPerformedOnSlices, HasPerformed}
+use Rattle.phase_laws.proofs.ListLemmas.{all-append, all-get_or}
 
 pub all_more : {X : Type 0} (P : X → Type 0) (xs : List X) (x : X) → AllByRecursion P xs → P x → AllByRecursion P (xs ++ x ∷ [])
 all_more P [] x h p = (p, tt)
 all_more P (y ∷ ys) x h p = (h.0, all_more P ys x h.1 p)
 
-pub all_both : {X : Type 0} (P : X → Type 0) (xs ys : List X) → AllByRecursion P xs → AllByRecursion P ys → AllByRecursion P (xs ++ ys)
-all_both P [] ys h g = g
-all_both P (x ∷ xs) ys h g = (h.0, all_both P xs ys h.1 g)
-
 pub filter_one : {X : Type 0} (p : X → Bool) (xs : List X) (x : X) (b : Bool) → p x ≡ b → filter p (xs ++ x ∷ []) ≡ filter p xs ++ cond b (x ∷ []) []
 filter_one p xs x b h = filter-append p xs (x ∷ []) ∙ ap (λ c. filter p xs ++ cond c (x ∷ []) []) h
-
-pub get_is : {Q : Type 0} (script : List Q) (n : ℕ) (d : Q) → n < length script → slice_get script n ≡ Some (get_or script n d)
-get_is [] n d h = absurd (omega arith)
-get_is (q ∷ qs) zero d h = refl
-get_is (q ∷ qs) (suc n) d h = get_is qs n d (omega arith)
 
 pub calls_more : {Q : Type 0} (script : List Q) (n : ℕ) (q : Q) → n < length script → q ≡ get_or script n q → calls_before script (n + 1) ≡ calls_before script n ++ (n, q) ∷ []
 calls_more script n q h e =
     ap (calls_before script) (add-one n)
-    ∙ ap (λ o. calls_before script n ++ option_to_list (option_map (λ r. (n, r)) o)) (get_is script n q h ∙ ap Some (sym e))
+    ∙ ap (λ o. calls_before script n ++ option_to_list (option_map (λ r. (n, r)) o)) (slice_get-get_or script n q h ∙ ap Some (sym e))
 
 -- what holds of the first elements, and of the next one
 pub all_take : {X : Type 0} (P : X → Type 0) (xs : List X) (k : ℕ) (x : X) → k < length xs → x ≡ get_or xs k x → AllByRecursion P (take k xs) → P x →
     AllByRecursion P (take (k + 1) xs)
 all_take P xs k x lt is h p =
-    let more : take (k + 1) xs ≡ take k xs ++ x ∷ [] =
-    ap (λ n. take n xs) (add-one k) ∙ take-suc xs k x lt ∙ ap (λ y. take k xs ++ y ∷ []) (sym is) in
-    subst (AllByRecursion P) (sym more) (all_more P (take k xs) x h p)
+    subst (AllByRecursion P) (sym (take_more xs k x lt ∙ ap (λ y. take k xs ++ y ∷ []) (sym is))) (all_more P (take k xs) x h p)
 
 pub all_at : {X : Type 0} (P : X → Type 0) (xs : List X) (n : ℕ) (d : X) → n < length xs → AllByRecursion P xs → P (get_or xs n d)
-all_at P [] n d h all = absurd (omega arith)
-all_at P (x ∷ xs) zero d h all = all.0
-all_at P (x ∷ xs) (suc n) d h all = all_at P xs n d (omega arith) all.1
+all_at P xs n d h all = all-get_or P xs n d h all
 
 module _ {Record Slice Look Request Reply Act : Type 0} (rules : Rules Record Slice Look Request Reply Act) (IsSmall : Act → Type 0)
     (hot : List Bool) (table : List Record) (worker : ℕ) where
@@ -69,7 +57,7 @@ module _ {Record Slice Look Request Reply Act : Type 0} (rules : Rules Record Sl
   performed_both w one two t u v es fs h g = record {
     replays = replays_both t es fs h.replays (subst (λ s. ReplaysFrom rules s fs) h.table_is g.replays);
     table_is = g.table_is ∙ ap (λ s. table_after rules s fs) h.table_is ∙ sym (fold-append (after_entry rules) t es fs);
-    own = all_both _ es fs h.own g.own;
+    own = all-append _ es fs h.own g.own;
     performed = map-append call_of es fs ∙ (λ i. h.performed i ++ g.performed i);
   }
 

@@ -24,10 +24,6 @@ part_stays xs more place count h =
 
 module _ (lists more : ShownLists) where
   reply_stays : (short : ShortReply) → HasReply lists short → SaysReply (with_shown lists more) short (reply_from lists short)
-  reply_stays (told.ItemStored id) h = record { within = tt; is = refl }
-  reply_stays (told.BidStored id) h = record { within = tt; is = refl }
-  reply_stays (told.CommentStored id) h = record { within = tt; is = refl }
-  reply_stays (told.Bought id) h = record { within = tt; is = refl }
   reply_stays (told.ItemSeen place) h = record {
     within = omega (arith, length-append lists.items more.items, h);
     is = ap item_reply (get_or_append_left lists.items more.items _ place h);
@@ -44,7 +40,7 @@ module _ (lists more : ShownLists) where
     within = omega (arith, length-append lists.users more.users, h);
     is = ap user_reply (get_or_append_left lists.users more.users _ place h);
   }
-  reply_stays (told.Refused reason) h = record { within = tt; is = refl }
+  reply_stays short h = record { within = tt; is = refl }
 
 -- an entry by the reply of its head
 abbrev entry_by : ℕ → ℕ → AskedHead → Reply → Entry

@@ -1,9 +1,10 @@
 -- Phases, and one more.
 use Rattle.std.proofs.Common.{◌≡◌, ◌<◌, ◌+◌, ◌-◌, ◌==◌, ℕ, zero, suc, List, [], ◌∷◌, ◌++◌, map, length, take, drop, get_or, refl, sym, ap, ◌∙◌, subst, arith, append_assoc, length-append, length-drop, set}
-use Rattle.std.proofs.lemmas.List.{append-nil, map-append, take_more, take_more_set, drop-set-lt, get_or-drop}
-use Rattle.std.{proofs.lemmas.List.Elements.{filter-append}, specs.Global.{Vec}}
+use Rattle.std.proofs.lemmas.List.{append-nil, map-append, take_more, take_more_set, drop-set-lt, get_or-drop, drop_more}
+use Rattle.std.proofs.lemmas.List.Elements.{filter-append}
+use Rattle.std.{proofs.lemmas.Option.{slice_get_within, get_or_from_slice_get}, specs.Global.{Vec}}
 use Rattle.std.specs.{List.{AllByRecursion, flat_map}, Prelude.{None, Some, slice_get}}
-use Rattle.phase_laws.{proofs.OrderLemmas.{all_push}, specs.Order.{part}}
+use Rattle.phase_laws.{proofs.{ListLemmas.{all-get_or}, OrderLemmas.{all_push}}, specs.Order.{part}}
 use Rattle.auction_rows.specs.declared.rows.Entry.{Entry}
 use Rattle.worker_journals.proofs.MergedLemmas.{all_entries, merged_parts, merged_count}
 use Rattle.worker_journals.proofs.StepLemmas.{drop_one}
@@ -54,9 +55,8 @@ entries_more (first ∷ phases) phase =
     ap (λ es. merged first ++ es) (entries_more phases phase) ∙ sym (append_assoc (merged first) (entries_in phases) (merged phase))
 
 last_more : (phases : List (List JournalView)) (phase : List JournalView) → last_of (phases ++ phase ∷ []) ≡ phase
-last_more [] phase = refl
-last_more (first ∷ []) phase = refl
 last_more (first ∷ second ∷ phases) phase = last_more (second ∷ phases) phase
+last_more phases phase = refl
 
 module _ (old new : List (Vec JournalView)) (len count : ℕ) (journals closed : List JournalView) (phase : Vec JournalView)
     (kept : IsHistory (journals_of old) len) (are : ArePhase journals) (is : closed ≡ map closed_journal journals) (has : phase.items ≡ closed)
@@ -102,9 +102,7 @@ pub own_all : (w : ℕ) (phases : List (List JournalView)) → AllByRecursion Ar
 own_all w phases all = sym (own_entries w phases all)
 
 pub get_some : {X : Type 0} (xs : List X) (n : ℕ) (x : X) → slice_get xs n ≡ Some x → drop n xs ≡ x ∷ drop (n + 1) xs
-get_some [] n x is = cc
-get_some (y ∷ ys) zero x is = cc
-get_some (y ∷ ys) (suc n) x is = let next : suc n + 1 ≡ suc (n + 1) = omega arith in get_some ys n x is ∙ ap (λ k. x ∷ drop k (y ∷ ys)) (sym next)
+get_some xs n x is = drop_more xs n x (slice_get_within xs n x is) ∙ ap (λ y. y ∷ drop (n + 1) xs) (get_or_from_slice_get xs n x x is)
 
 get_none : {X : Type 0} (xs : List X) (n : ℕ) → slice_get xs n ≡ None → drop n xs ≡ []
 get_none [] zero is = refl
@@ -160,11 +158,6 @@ pub last_are_phase : (phases : List (Vec JournalView)) (phase : Vec JournalView)
     slice_get phases (length phases - 1) ≡ Some phase → ArePhase phase.items
 last_are_phase phases phase all is = subst ArePhase (last_read phases phase is) (last_is_phase (journals_of phases) all)
 
-all_at : {X : Type 0} (P : X → Type 0) (xs : List X) (i : ℕ) (x : X) → i < length xs → AllByRecursion P xs → P (get_or xs i x)
-all_at P [] i x within all = absurd (omega (arith, within))
-all_at P (y ∷ xs) zero x within all = all.0
-all_at P (y ∷ xs) (suc i) x within all = all_at P xs i x (omega (arith, within)) all.1
-
 -- the next of journals, of which those before it are closed
 module _ (journals now : List JournalView) (i : ℕ) (journal : JournalView) (within : i < length now) (is : journal ≡ get_or now i journal)
     (open_yet : drop i now ≡ drop i journals) where
@@ -179,7 +172,7 @@ module _ (journals now : List JournalView) (i : ℕ) (journal : JournalView) (wi
 
   -- what held of all journals holds of it
   pub holds_yet : (P : JournalView → Type 0) → AllByRecursion P journals → P journal
-  holds_yet P all = subst P same_journal (all_at P journals i journal within_journals all)
+  holds_yet P all = subst P same_journal (all-get_or P journals i journal within_journals all)
 
   -- it is closed too
   module _ (closed : JournalView) (done : closed ≡ closed_journal (get_or now i journal)) where

@@ -2,7 +2,7 @@
 use Rattle.std.proofs.Common.{◌≡◌, ◌≤◌, ℕ, List, [], ◌∷◌, ◌++◌, length, take, take_all, drop, sym, ap, ◌∙◌, arith, length-append}
 use Rattle.std.proofs.lemmas.List.{Prefix.{front_rest}, get_or_push}
 use Rattle.auction_rows.specs.{ItemViews.{item_reply}, declared.limits.TheConstants.{MOST_SHOWN}}
-use Rattle.auction_rows.specs.declared.replies.Reply.TheVariants.{ItemStored, BidStored, CommentStored, Bought, ItemSeen, BidsSeen, CategorySeen, UserSeen, Refused}
+use Rattle.auction_rows.specs.declared.replies.Reply.TheVariants.{ItemSeen, BidsSeen, CategorySeen}
 use Rattle.auction_rows.specs.declared.replies.{Reply.Reply, ItemView.ItemView, BidShown.BidShown, ItemShown.ItemShown}
 use Rattle.worker_journals.specs.{Shown.{ShownLists, shown_in}, inner.Sides.{SaysReply, item_at}}
 use Rattle.worker_journals.specs.declared.heads.ShortReply.TheVariants as told
@@ -10,17 +10,10 @@ use Rattle.worker_journals.specs.declared.heads.UserSeen.{UserSeen as SeenUser}
 
 -- where a reply shows an item, it is that item's
 pub only_item : (reply : Reply) (seen : ItemView) → seen ∷ [] ≡ (shown_in reply).items → item_reply seen ≡ reply
-only_item (ItemStored id) seen e = absurd (cc)
-only_item (BidStored id) seen e = absurd (cc)
-only_item (CommentStored id) seen e = absurd (cc)
-only_item (Bought id) seen e = absurd (cc)
 only_item (ItemSeen seller category name start closes highest bidder bids left) seen e =
     let same : seen ≡ record { seller = seller; category = category; name = name; left = left; start = start; closes = closes; bids = bids; highest = highest; bidder = bidder } = cc in
     ap item_reply same
-only_item (BidsSeen bids) seen e = absurd (cc)
-only_item (CategorySeen items) seen e = absurd (cc)
-only_item (UserSeen rating comments) seen e = absurd (cc)
-only_item (Refused reason) seen e = absurd (cc)
+only_item reply seen e = absurd (cc)
 
 -- a reply that shows an item shows one
 pub not_none : {X : Type 0} (xs : List X) (x : X) → [] ≡ xs → xs ≡ x ∷ [] → ⊥

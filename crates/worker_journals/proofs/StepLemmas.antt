@@ -1,11 +1,11 @@
 -- One step of the merging of a phase's journals.
 use Rattle.std.proofs.Common.{◌≡◌, ◌<◌, ◌+◌, ℕ, zero, suc, List, [], ◌∷◌, map, length, take, take_all, drop, get_or, set, refl, sym, ap, ◌∙◌, subst, arith}
-use Rattle.std.proofs.Math.Seq.{take-set-lt, drop-nil}
-use Rattle.std.proofs.lemmas.List.{length-map, length-replicate, length-set, length-take-le, get_or_read}
+use Rattle.std.proofs.Math.Seq.{take-set-lt}
+use Rattle.std.proofs.lemmas.List.{length-map, length-replicate, length-set, length-take-le, get_or_read, drop-map, drop-drop}
 use Rattle.std.proofs.lemmas.Option.{slice_get-map, slice_get_within}
 use Rattle.std.specs.{Iterator.{MakesProgress, item_count}, List.{AllByRecursion}}
 use Rattle.std.specs.Prelude.{Option, None, Some, slice_get, option_map, replicate}
-use Rattle.phase_laws.specs.Order.{IsOrderedBy}
+use Rattle.phase_laws.{proofs.ListLemmas.{all-drop}, specs.Order.{IsOrderedBy}}
 use Rattle.auction_rows.specs.declared.rows.Entry.{Entry}
 use Rattle.worker_journals.proofs.TakingLemmas.{without_first, first_of, merged_taken, merged_none}
 use Rattle.worker_journals.specs.Journals.{JournalView, entry_number, IsOf, IsLawfulJournal}
@@ -23,27 +23,21 @@ goes_on can always s t x is = record {
 
 -- What is left.
 
-all_drop : {X : Type 0} (P : X → Type 0) (n : ℕ) (xs : List X) → AllByRecursion P xs → AllByRecursion P (drop n xs)
-all_drop P zero xs all = all
-all_drop P (suc n) [] all = tt
-all_drop P (suc n) (x ∷ xs) all = all_drop P n xs all.1
-
 ordered_drop : {X : Type 0} (R : X → X → Type 0) (n : ℕ) (xs : List X) → IsOrderedBy R xs → IsOrderedBy R (drop n xs)
 ordered_drop R zero xs up = up
 ordered_drop R (suc n) [] up = tt
 ordered_drop R (suc n) (x ∷ xs) up = ordered_drop R n xs up.1
 
 pub left_length : (journals : List JournalView) (places : List ℕ) → length (left_of journals places) ≡ length journals
-left_length [] places = refl
-left_length (journal ∷ journals) [] = refl
 left_length (journal ∷ journals) (place ∷ places) = ap suc (left_length journals places)
+left_length journals places = refl
 
 pub left_lawful : (journals : List JournalView) (places : List ℕ) → AllByRecursion IsLawfulJournal journals → AllByRecursion IsLawfulJournal (left_of journals places)
 left_lawful [] places lawful = tt
 left_lawful (journal ∷ journals) [] lawful = lawful
 left_lawful (journal ∷ journals) (place ∷ places) lawful = (
   record {
-    own = all_drop (IsOf journal.phase journal.worker) place journal.entries lawful.0.own;
+    own = all-drop (IsOf journal.phase journal.worker) place journal.entries lawful.0.own;
     ascending = ordered_drop (λ (x y : Entry). x.number < y.number) place journal.entries lawful.0.ascending;
   },
   left_lawful journals places lawful.1,
@@ -63,9 +57,8 @@ left_by_worker (journal ∷ journals) (place ∷ places) up =
 
 -- before anything is taken
 pub left_all : (journals : List JournalView) (n : ℕ) → left_of journals (replicate n 0) ≡ journals
-left_all [] n = refl
-left_all (journal ∷ journals) zero = refl
 left_all (journal ∷ journals) (suc n) = ap (λ js. journal ∷ js) (left_all journals n)
+left_all journals n = refl
 
 -- The i-th journal.
 
@@ -74,34 +67,25 @@ get_drop xs zero = refl
 get_drop [] (suc n) = refl
 get_drop (x ∷ xs) (suc n) = get_drop xs n
 
-map_drop : {X Y : Type 0} (f : X → Y) (xs : List X) (n : ℕ) → map f (drop n xs) ≡ drop n (map f xs)
-map_drop f xs zero = refl
-map_drop f [] (suc n) = refl
-map_drop f (x ∷ xs) (suc n) = map_drop f xs n
-
 pub drop_one : {X : Type 0} (xs : List X) (n : ℕ) → drop (n + 1) xs ≡ drop 1 (drop n xs)
-drop_one xs zero = refl
-drop_one [] (suc n) = drop-nil (suc n + 1)
-drop_one (x ∷ xs) (suc n) = let next : suc n + 1 ≡ suc (n + 1) = omega arith in ap (λ k. drop k (x ∷ xs)) next ∙ drop_one xs n
+drop_one xs n = sym (drop-drop 1 n xs)
 
 number_left : (journal : JournalView) (place : ℕ) → first_number (record journal { entries = drop place journal.entries }) ≡ number_at place journal
 number_left journal place =
-    ap (λ ns. slice_get ns 0) (map_drop entry_number journal.entries place) ∙ get_drop (map entry_number journal.entries) place
+    ap (λ ns. slice_get ns 0) (sym (drop-map entry_number place journal.entries)) ∙ get_drop (map entry_number journal.entries) place
 
 lane_number : (journals : List JournalView) (places : List ℕ) (i : ℕ) (journal : JournalView) → i < length journals → i < length places →
     journal ≡ get_or journals i journal → get_or (map first_number (left_of journals places)) i None ≡ number_at (get_or places i 0) journal
-lane_number [] places i journal within there is = absurd (omega arith)
-lane_number (j ∷ journals) [] i journal within there is = absurd (omega arith)
 lane_number (j ∷ journals) (place ∷ places) zero journal within there is = number_left j place ∙ ap (number_at place) (sym is)
 lane_number (j ∷ journals) (place ∷ places) (suc i) journal within there is = lane_number journals places i journal (omega arith) (omega arith) is
+lane_number journals places i journal within there is = absurd (omega arith)
 
 lane_first : (journals : List JournalView) (places : List ℕ) (i : ℕ) (journal : JournalView) → i < length journals → i < length places →
     journal ≡ get_or journals i journal → first_of (left_of journals places) i ≡ slice_get journal.entries (get_or places i 0)
-lane_first [] places i journal within there is = absurd (omega arith)
-lane_first (j ∷ journals) [] i journal within there is = absurd (omega arith)
 lane_first (j ∷ journals) (place ∷ places) zero journal within there is =
     get_drop j.entries place ∙ ap (λ (k : JournalView). slice_get k.entries place) (sym is)
 lane_first (j ∷ journals) (place ∷ places) (suc i) journal within there is = lane_first journals places i journal (omega arith) (omega arith) is
+lane_first journals places i journal within there is = absurd (omega arith)
 
 -- a step on
 lane_step : (journals : List JournalView) (places : List ℕ) (i : ℕ) → i < length places →
@@ -117,12 +101,11 @@ numbers_step : (journals : List JournalView) (places : List ℕ) (i : ℕ) (jour
     journal ≡ get_or journals i journal →
     map first_number (left_of journals (set places i (get_or places i 0 + 1)))
     ≡ set (map first_number (left_of journals places)) i (number_at (get_or places i 0 + 1) journal)
-numbers_step [] places i journal within there is = absurd (omega arith)
-numbers_step (j ∷ journals) [] i journal within there is = absurd (omega arith)
 numbers_step (j ∷ journals) (place ∷ places) zero journal within there is =
     ap (λ n. n ∷ map first_number (left_of journals places)) (number_left j (place + 1) ∙ ap (number_at (place + 1)) (sym is))
 numbers_step (j ∷ journals) (place ∷ places) (suc i) journal within there is =
     ap (λ ns. first_number (record j { entries = drop place j.entries }) ∷ ns) (numbers_step journals places i journal (omega arith) (omega arith) is)
+numbers_step journals places i journal within there is = absurd (omega arith)
 
 -- The step.
 

@@ -42,6 +42,5 @@ few_comment n stars (slice.User s) is = (let comments = is.0 in omega (arith, co
 few_comment n stars (slice.Category s) is = tt
 
 pub few_listed : (n : ℕ) (item : ItemEntry) (s : Slice) → HasAtMost n s → HasAtMost (n + 1) (slice_with_item item s)
-few_listed n item (slice.Item s) is = at_most_more n (n + 1) (slice.Item s) (omega arith) is
-few_listed n item (slice.User s) is = at_most_more n (n + 1) (slice.User s) (omega arith) is
 few_listed n item (slice.Category s) is = tt
+few_listed n item s is = at_most_more n (n + 1) s (omega arith) is

@@ -1,7 +1,7 @@
 -- Guesses after one is noted, and what no guess says.
 use Rattle.std.proofs.Common.{◌≡◌, ◌<◌, ℕ, zero, suc, Bool, true, false, ◌||◌, List, [], ◌∷◌, ◌++◌, set, refl, subst, sym, arith}
 use Rattle.std.proofs.lemmas.{Bool.{false≢true}, Option.{none-some, same_Some}}
-use Rattle.std.specs.{Bool.{OnTrue}, Prelude.{Some, slice_get}}
+use Rattle.std.specs.Prelude.{Some, slice_get}
 use Rattle.indexmap.specs.Layout.{set_value_at}
 use Rattle.auction_rows.{proofs.RequestLemmas.{same_object-true}, specs.Footprint.{is_hot}}
 use Rattle.auction_rows.specs.{Requests.{same_object}, declared.requests.Object.{Object}}
@@ -48,11 +48,5 @@ one_more_guessed old new (first ∷ hots) object hot all kept noted = (kept firs
 
 -- a write at a place leaves the objects
 pub same_names : (hots : List (Object × Hot)) (place : ℕ) (new : Hot) → hot_objects (set_value_at hots place new) ≡ hot_objects hots
-same_names [] place new = refl
-same_names (first ∷ hots) zero new = refl
 same_names (first ∷ hots) (suc place) new = λ i. first.0 ∷ same_names hots place new i
-
--- what holds if a test does
-pub on_true : {P : Type 0} (b : Bool) → (b ≡ true → P) → OnTrue b P
-on_true true says = says refl
-on_true false says = tt
+same_names hots place new = refl

@@ -14,6 +14,7 @@ use Rattle.item_shards.specs.declared.shard.slices.Slice.{Slice}
 use Rattle.worker_slices.specs.Slicing.{hot_objects, slice_of, slices_of, stocks_of, stock_of, with_slice_changed, IsAt, IsStocked, HasAtMost, HaveAtMost}
 use Rattle.worker_slices.specs.declared.slices.Hot.{Hot}
 use Rattle.phase_laws.proofs.ListLemmas.{all_at}
+use Rattle.std.proofs.lemmas.Bool.{or_right}
 
 -- the slices of other objects stay
 others_stay : (object : Object) (change : Slice → Slice) (hots : List (Object × Hot)) → AllByRecursion (λ other. same_object object other ≡ false) (hot_objects hots) → with_slice_changed object change hots ≡ hots
@@ -149,10 +150,6 @@ at_and_there object hots place key hot at is = let same : (key, hot) ≡ (object
 pub at_where_read : (object : Object) (hots : List (Object × Hot)) (place : ℕ) (key : Object) (hot : Hot) → Some (key, hot) ≡ slice_get hots place → object_eq.it key object ≡ true → IsAt hots place object
 at_where_read object hots place key hot read is =
     slice_get-map (λ (hot : Object × Hot). hot.0) hots place ∙ ap (option_map (λ (hot : Object × Hot). hot.0)) (sym read) ∙ ap Some (same_object-true key object (sym (eq_is_same key object) ∙ is))
-
-or_right : (a b : Bool) → b ≡ true → (a || b) ≡ true
-or_right true b is = refl
-or_right false b is = is
 
 -- and an object that stands at a place is hot
 pub hot_where_at : (object : Object) (hots : List (Object × Hot)) (place : ℕ) → IsAt hots place object → is_hot (hot_objects hots) object ≡ true

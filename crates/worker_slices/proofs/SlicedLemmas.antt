@@ -56,5 +56,4 @@ unwritten hots worker (StoreItem facts time) reply a b c = absurd (a facts time 
 unwritten hots worker (StoreBid bidder item amount time) reply a b c = absurd (b bidder item amount time refl)
 unwritten hots worker (StoreComment author about item stars) reply a b c = absurd (c author about item stars refl)
 unwritten hots worker (BuyNow buyer item quantity time) (store.Bought id) a b c = buy_unwritten hots (id.worker == worker) _
-unwritten hots worker (BuyNow buyer item quantity time) reply a b c = refl
 unwritten hots worker request reply a b c = refl

@@ -1,16 +1,9 @@
 -- Hot objects with which a permit is made.
-use Rattle.std.proofs.Common.{◌≡◌, ℕ, ◌≤◌, ◌||◌, Bool, true, false, List, [], ◌∷◌, refl, sym, ap, ◌∙◌}
+use Rattle.std.proofs.Common.{◌≡◌, ℕ, ◌||◌, Bool, true, false, [], ◌∷◌, refl, sym, ap, ◌∙◌}
 use Rattle.std.proofs.lemmas.Bool.{false≢true}
 use Rattle.auction_rows.{proofs.RequestLemmas.{same_object-true}, specs.Footprint.{is_hot}}
 use Rattle.auction_rows.specs.{Requests.{same_object}, declared.requests.Object.TheVariants.{Item}}
 use Rattle.auction_rows.specs.declared.requests.{ItemId.ItemId, Object.Object}
-use Rattle.worker_slices.specs.declared.slices.Hot.{Hot}
-use Rattle.phase_transactions.specs.Workers.{HasStashRoom}
-
--- room for the quota is room enough
-pub stash_room : (hots : List (Object × Hot)) (left room : ℕ) → left ≤ room → HasStashRoom hots left room
-stash_room [] left room enough = tt
-stash_room (hot ∷ hots) left room enough = enough
 
 serial_of : Object → ℕ
 serial_of (Item id) = id.serial

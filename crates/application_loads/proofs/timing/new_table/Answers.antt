@@ -1,5 +1,5 @@
 use Rattle.std.{proofs.Common.{sym, subst}, specs.List.{AllByRecursion}}
-use Rattle.application_loads.proofs.Tables.{all_more}
+use Rattle.split_engine.proofs.Works.{all_more}
 use Rattle.application_loads.proofs.timing.new_table.Goals as goal
 
 pub loop-made-preserved : goal.loop-made-preserved

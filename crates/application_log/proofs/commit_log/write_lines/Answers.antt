@@ -1,8 +1,9 @@
 use Rattle.std.proofs.Common.{◌≡◌, ◌++◌, length, length-append, take, append_assoc, sym, ap, ◌∙◌, subst, arith}
 use Rattle.std.specs.List.{flat_map, AllByRecursion}
-use Rattle.application_log.proofs.LogLemmas.{all_append, count_both, lines_le, log_text-append, more_pieces}
+use Rattle.application_log.proofs.LogLemmas.{count_both, lines_le, log_text-append, more_pieces}
 use Rattle.application_log.specs.Logs.{lines_of, log_text, requests_of}
 use Rattle.application_log.proofs.commit_log.write_lines.Goals as goal
+use Rattle.phase_laws.proofs.ListLemmas.{all-append}
 
 pub overflow_add-lines : goal.overflow_add-lines
 overflow_add-lines g c =
@@ -34,6 +35,6 @@ loop-place-preserved g c =
       text = d.text ∙ ap (λ b. b ++ log_text line (requests_of c.deref.result.now)) was.text
           ∙ append_assoc start (log_text line qs) (log_text line (requests_of c.deref.result.now))
           ∙ ap (λ t. start ++ t) (ap (λ rs. log_text line qs ++ log_text line rs) is ∙ sym (log_text-append line qs ps) ∙ ap (log_text line) (sym more));
-      in_range = subst (AllByRecursion fits) (sym more) (all_append fits qs ps was.in_range (subst (AllByRecursion fits) is d.in_range));
+      in_range = subst (AllByRecursion fits) (sym more) (all-append fits qs ps was.in_range (subst (AllByRecursion fits) is d.in_range));
       count = omega (arith, was.count, d.count, ap (λ rs. length (lines_of line rs)) is, count_both line qs ps, ap (λ rs. length (lines_of line rs)) more);
     }

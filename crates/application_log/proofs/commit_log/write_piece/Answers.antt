@@ -1,10 +1,11 @@
 use Rattle.std.proofs.Common.{rules, ◌≡◌, ◌+◌, ◌≤◌, ◌++◌, ◌∷◌, [], length, take, sym, ap, ◌∙◌, subst, arith}
 use Rattle.std.specs.List.{AllByRecursion}
 use Rattle.split_engine.specs.declared.entry.Entry.{Entry}
-use Rattle.application_log.proofs.LogLemmas.{all_append, count_logged, count_unlogged, logged_more, more_requests, unlogged_more}
+use Rattle.application_log.proofs.LogLemmas.{count_logged, count_unlogged, logged_more, more_requests, unlogged_more}
 use Rattle.application_log.proofs.commit_log.write_piece.Goals.{then-is_logged+in_ok-push, else-is_logged}
 use Rattle.application_log.specs.{Lines.{IsWritten}, Logs.{lines_of, log_text, requests_of}}
 use Rattle.application_log.proofs.commit_log.write_piece.Goals as goal
+use Rattle.phase_laws.proofs.ListLemmas.{all-append}
 
 pub loop-place-preserved : goal.loop-place-preserved
 loop-place-preserved g c =
@@ -31,7 +32,7 @@ loop-place-preserved g c =
     ] in
     let few : c.if-is_logged.lines ≤ c.loop-place.place + 1 = elim c.if-is_logged.branch [ then-is_logged+in_ok-push w ↦ omega (arith, was.few, w.lines-is) | else-is_logged w ↦ omega (arith, was.few, w.lines-is) ] in record {
       text = text ∙ ap (λ rs. c.args.buffer.now.items ++ log_text line rs) (sym more);
-      in_range = subst (AllByRecursion g.A.Loggable.is_in_range) (sym more) (all_append g.A.Loggable.is_in_range qs (q ∷ []) was.in_range (fits, tt));
+      in_range = subst (AllByRecursion g.A.Loggable.is_in_range) (sym more) (all-append g.A.Loggable.is_in_range qs (q ∷ []) was.in_range (fits, tt));
       count = count ∙ ap (λ rs. length (lines_of line rs)) (sym more);
       few = few;
     }

@@ -1,8 +1,9 @@
 use Rattle.std.proofs.Common.{◌++◌, [], length, take, append_assoc, ap, sym, ◌∙◌, subst}
 use Rattle.std.{proofs.lemmas.List.{append-nil}, specs.List.{AllByRecursion}}
-use Rattle.application_log.proofs.LogLemmas.{after_history, all_append, all_behind, all_front, all_take, cut_text, log_text-append, requests_of-append, same_table, take-requests}
+use Rattle.application_log.proofs.LogLemmas.{after_history, cut_text, log_text-append, requests_of-append, same_table, take-requests}
 use Rattle.application_log.specs.Logs.{after_requests, log_text, requests_of}
 use Rattle.application_log.proofs.laws.what_is_acknowledged_is_there.Goals as goal
+use Rattle.phase_laws.proofs.ListLemmas.{all-append, all-left, all-right, all-take}
 
 pub returns-clause-acknowledged : goal.returns-clause-acknowledged
 returns-clause-acknowledged g c opened left lines kept bytes history all is o =
@@ -19,10 +20,10 @@ returns-clause-crashed g c opened left lines kept n bytes history part all is o 
     let s = g.A.Application in let line = g.A.Loggable.line in let fits = g.A.Loggable.is_in_range in
     let hs = requests_of history in let ps = requests_of part in
     let both = subst (AllByRecursion fits) (requests_of-append history part) all in
-    let cut = cut_text s.rules line fits g.met.A.Loggable.one_line g.met.A.Loggable.does_nothing ps n (all_behind fits hs ps both) in
+    let cut = cut_text s.rules line fits g.met.A.Loggable.one_line g.met.A.Loggable.does_nothing ps n (all-right fits hs ps both) in
     let k = cut.0 in
     let same = same_table s.rules line fits g.met.A.Loggable.one_line g.met.A.Loggable.does_nothing (hs ++ take k ps) o.requests opened o.behind cut.1
-    (all_append fits hs (take k ps) (all_front fits hs ps both) (all_take fits ps k (all_behind fits hs ps both)))
+    (all-append fits hs (take k ps) (all-left fits hs ps both) (all-take fits k ps (all-right fits hs ps both)))
     o.opened.in_range o.opened.read_back o.cut cut.2
     (sym o.text ∙ is ∙ ap (λ t. log_text line hs ++ t) cut.3 ∙ sym (append_assoc (log_text line hs) (log_text line (take k ps)) cut.1)
     ∙ ap (λ t. t ++ cut.1) (sym (log_text-append line hs (take k ps)))) in (

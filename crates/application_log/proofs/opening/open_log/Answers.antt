@@ -1,10 +1,11 @@
 use Rattle.std.proofs.Common.{◌≡◌, ◌+◌, ◌*◌, ◌++◌, ◌∷◌, [], length, length-append, IfSome, inr, refl, sym, ap, ◌∙◌, subst, arith}
 use Rattle.std.specs.List.{AllByRecursion}
 use Rattle.split_engine.specs.declared.few.TheConstants.{MOST_KEYS}
-use Rattle.application_log.proofs.{LineLemmas.{error_is, if_known}, LogLemmas.{text_behind}}
-use Rattle.application_log.specs.{Faults.{IsOpenFault}, Lines.{HasNoEnd}, Logs.{log_text}}
+use Rattle.application_log.{proofs.LogLemmas.{text_behind}, specs.Faults.{IsOpenFault}}
+use Rattle.application_log.specs.{Lines.{HasNoEnd}, Logs.{log_text}}
 use Rattle.application_log.specs.declared.opening.OpenFault.{OpenFault}
 use Rattle.application_log.proofs.opening.open_log.Goals as goal
+use Rattle.part_log.proofs.TellingLemmas.{error_is, of_known}
 
 pub loop-number-init : goal.loop-number-init
 loop-number-init g c = record {
@@ -42,7 +43,7 @@ loop-number-preserved g c =
 pub returns-then-not-is_whole-clause-opens : goal.returns-then-not-is_whole-clause-opens
 returns-then-not-is_whole-clause-opens g c =
     let was = c.loop-number.invariant in
-    if_known (g.R.Read.remaining c.args.reader.now) _ (λ all known.
+    of_known (g.R.Read.remaining c.args.reader.now) _ (λ all known.
     let before = was.left all known in record {
       requests = was.requests;
       behind = before.0;
@@ -54,7 +55,7 @@ returns-then-not-is_whole-clause-opens g c =
 pub returns-then-not-is_whole-clause-kept : goal.returns-then-not-is_whole-clause-kept
 returns-then-not-is_whole-clause-kept g c =
     let was = c.loop-number.invariant in
-    if_known (g.R.Read.remaining c.args.reader.now) _ (λ all known.
+    of_known (g.R.Read.remaining c.args.reader.now) _ (λ all known.
     let before = was.left all known in
     omega (arith, was.has.kept_are, ap length before.2, length-append (log_text g.A.Loggable.line was.requests) before.0))
 
@@ -66,7 +67,7 @@ returns-then-not-is_whole-clause-goes_on g c =
 pub returns-clause-fault : goal.returns-clause-fault
 returns-clause-fault g c =
     let was = c.loop-number.invariant in
-    if_known (g.R.Read.remaining c.args.reader.now) _ (λ all known.
+    of_known (g.R.Read.remaining c.args.reader.now) _ (λ all known.
     let before = was.left all known in
     inr (
       was.requests,
@@ -79,9 +80,8 @@ pub returns-in_err-is_whole-clause-fault : goal.returns-in_err-is_whole-clause-f
 returns-in_err-is_whole-clause-fault g c =
     let known = g.R.Read.remaining c.args.reader.now in
     let IsFault = IsOpenFault g.A.Application.rules g.A.Loggable.line g.A.Loggable.is_in_range (length c.args.table.items) in
-    let why = c.in_err-is_whole.ensures.fault in
     error_is c.from_residual.result c.in_err-is_whole.field-0.0 (λ (fault : OpenFault). IfSome known (IsFault fault)) c.from_residual.ensures
-    (if_known known _ (λ all is. subst (λ (fault : OpenFault). IsFault fault all) (sym why.1) tt))
+    (of_known known _ (λ all is. subst (λ (fault : OpenFault). IsFault fault all) (sym c.in_err-is_whole.ensures.fault.1) tt))
 
 pub returns-in_err-add_line-clause-fault : goal.returns-in_err-add_line-clause-fault
 returns-in_err-add_line-clause-fault g c =
@@ -89,7 +89,7 @@ returns-in_err-add_line-clause-fault g c =
     let line = g.A.Loggable.line in let was = c.loop-number.invariant in let why = c.in_err-add_line.field-0.0 in
     let IsFault = IsOpenFault g.A.Application.rules line g.A.Loggable.is_in_range in
     error_is c.from_residual-in_err-add_line.result why (λ (fault : OpenFault). IfSome known (IsFault (length c.args.table.items) fault)) c.from_residual-in_err-add_line.ensures
-    (if_known known _ (λ all is.
+    (of_known known _ (λ all is.
     let before = was.left all is in
     let here = c.in_ok-is_whole.ensures.read c.if-not-is_whole.false before.0 before.1 in
     let text = before.2 ∙ ap (λ t. log_text line was.requests ++ t) (here.2 ∙ ap (λ l. l ++ 10 ∷ here.0) (sym c.deref.ensures.value)) in

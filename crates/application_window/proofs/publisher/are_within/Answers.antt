@@ -1,7 +1,6 @@
 use Rattle.std.proofs.{Common.{subst, sym, true≢false}, lemmas.List.{take_all}}
 use Rattle.std.specs.List.{AllByRecursion}
-use Rattle.split_engine.specs.Serial.{IsWithin}
-use Rattle.application_window.proofs.Elements.{all_take, all_at}
+use Rattle.split_engine.{proofs.Works.{all_at, all_take}, specs.Serial.{IsWithin}}
 use Rattle.application_window.proofs.publisher.are_within.Goals as goal
 
 pub loop-place-preserved : goal.loop-place-preserved

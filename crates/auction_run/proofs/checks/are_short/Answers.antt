@@ -1,7 +1,6 @@
-use Rattle.std.proofs.{Common.{arith, ◌≡◌, ◌<◌, ◌∙◌, ap}, lemmas.Bool.{false≢true}}
+use Rattle.std.proofs.{Common.{arith, ◌≡◌, ◌<◌, ◌∙◌, ap, below_more}, lemmas.Bool.{false≢true}}
 use Rattle.std.specs.Prelude.{slice_index_or}
 use Rattle.item_shards.specs.{OpeningBooks.{rows_of_book}, OpeningRows.{rows_by}}
-use Rattle.run_phases.proofs.ScriptLemmas.{one_worker_more}
 use Rattle.auction_run.proofs.checks.are_short.Goals as goal
 
 pub overflow_sub-counts : goal.overflow_sub-counts
@@ -27,4 +26,4 @@ loop-worker-preserved g c =
     let w = c.loop-worker.worker in
     let below : w < 16 = omega (arith, c.loop-worker-test.true, c.workers-worker-end.ensures, c.requires) in
     let stored : slice_index_or c.rows_by_each-counts.result w 0 ≡ rows_by (rows_of_book c.args.book.now) w = c.rows_by_each-counts.ensures w below ∙ ap (λ rows. rows_by rows w) c.rows.ensures.rows in
-    one_worker_more _ w c.loop-worker.invariant (omega (arith, stored, c.rows.ensures.few w below, c.requests_of.ensures, c.if-requests_of-counts.false))
+    below_more _ w c.loop-worker.invariant (omega (arith, stored, c.rows.ensures.few w below, c.requests_of.ensures, c.if-requests_of-counts.false))

@@ -1,5 +1,4 @@
-use Rattle.std.proofs.{Common.{◌∙◌, refl, sym, arith, rules}, lemmas.Bool.{false≢true}}
-use Rattle.run_phases.proofs.ScriptLemmas.{one_worker_more}
+use Rattle.std.proofs.{Common.{◌∙◌, refl, sym, arith, rules, below_more}, lemmas.Bool.{false≢true}}
 use Rattle.auction_run.proofs.checks.are_short_on.Goals as goal
 
 pub is_short_on-requires : goal.is_short_on-requires
@@ -12,7 +11,7 @@ returns-then-not-is_short_on g c = (
 )
 
 pub loop-worker-preserved : goal.loop-worker-preserved
-loop-worker-preserved g c = one_worker_more _ c.loop-worker.worker c.loop-worker.invariant (c.is_short_on.ensures.0 (search rules))
+loop-worker-preserved g c = below_more _ c.loop-worker.worker c.loop-worker.invariant (c.is_short_on.ensures.0 (search rules))
 
 pub returns : goal.returns
 returns g c = (

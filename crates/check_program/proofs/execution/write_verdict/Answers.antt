@@ -1,16 +1,14 @@
 use Rattle.std.proofs.{Common.{◌++◌, ◌∙◌, ℕ, List, ap, subst}, lemmas.Result.{on_ok_weaker}}
 use Rattle.std.specs.Io.KnownBytes.{Appends}
 use Rattle.byte_texts.specs.Writing.{IsPartWritten}
-use Rattle.history_check.specs.declared.lines.Verdict.{Verdict}
-use Rattle.history_check.specs.declared.lines.Verdict.TheVariants.{Lacks, Replays, WrongAt}
+use Rattle.history_check.specs.declared.lines.Verdict.{TheVariants.{WrongAt}, Verdict}
 use Rattle.check_program.specs.VerdictLines.{Says}
 use Rattle.check_program.proofs.execution.write_verdict.Goals as goal
 
 -- what holds of all that a text may be holds of what it says
 says_so : (line : List ℕ) (verdict : Verdict) (P Q : List ℕ → Type 0) → ((said : List ℕ) → P said → Q said) → Says line verdict P → Says line verdict Q
-says_so line Replays P Q so says = so _ says
 says_so line (WrongAt number wrong) P Q so says = record { commit_id = says.commit_id; reply = says.reply; reads = says.reads; holds = so _ says.holds }
-says_so line (Lacks worker index) P Q so says = so _ says
+says_so line verdict P Q so says = so _ says
 
 pub returns-clause-whole : goal.returns-clause-whole
 returns-clause-whole g c =

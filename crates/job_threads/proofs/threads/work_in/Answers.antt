@@ -42,6 +42,5 @@ returns-in_err-handles-clause-fault g c =
 
 pub work-requires : goal.work-requires
 work-requires g c =
-    let first = c.remove-first.result in
     let some : 0 < length c.args.jobs.items = subst (λ n. 0 < n) c.args.jobs.ok.0 (not_empty _ _ c.is_empty.ensures c.if-is_empty.false) in
-    (subst (AllByRecursion g.J.Job.can_work) (first_and_rest c.args.jobs.items first some c.remove-first.ensures.value) c.requires.can).0
+    (subst (AllByRecursion g.J.Job.can_work) (first_and_rest c.args.jobs.items c.remove-first.result some c.remove-first.ensures.value) c.requires.can).0

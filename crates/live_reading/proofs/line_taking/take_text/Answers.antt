@@ -45,14 +45,13 @@ loop-taken-preserved c =
     let at = c.loop-taken.at in
     let len = c.in-Some.len in
     let rest = take (length text - at) (drop at text) in
-    let old = c.take_bids.new.taken in
     let new = c.take_other.new.taken in
     let inv = c.loop-taken.invariant in
     let before = subst (λ t. TakesText first text t Full (drop at text)) (sym (c.in_ok-behind.ensures.none c.if-behind-at.false)) inv.takes in
     record {
       within = within_more text rest at len (take_rest text at) inv.within c.in-Some.ensures.within;
       takes = subst (λ f. TakesText first text new (stop_at f) (drop (at + len) text)) c.in-None.is
-          (text_more first old new text rest at len c.in_ok-fault.fault (take_rest text at) before c.in-Some.ensures.len c.in_ok-fault.ensures.takes);
+          (text_more first c.take_bids.new.taken new text rest at len c.in_ok-fault.fault (take_rest text at) before c.in-Some.ensures.len c.in_ok-fault.ensures.takes);
     }
 
 pub returns-in_default-fault-clause-takes : goal.returns-in_default-fault-clause-takes

@@ -27,8 +27,8 @@ end-requires-clause-no_end g c =
 pub end-requires-clause-can : goal.end-requires-clause-can
 end-requires-clause-can g c = c.in_ok-filled.ensures.all.can
 
-pub returns-clause-opens : goal.returns-clause-opens
-returns-clause-opens g c =
+pub returns : goal.returns
+returns g c =
     let text = g.R.Read.remaining c.args.reader.now in
     let left = g.R.Read.remaining c.read_parts.new.reader in
     let told = g.W.Write.contents c.args.told.now in
@@ -41,32 +41,10 @@ returns-clause-opens g c =
     let is = sym (refilled buffer.len new buffer.items same (sym buffer.ok.0)) in
     let held = take filled (take buffer.len (new ++ drop (length new) buffer.items)) in
     let was : IsReadTo text left told next reading held = subst (λ (b : List ℕ). IsReadTo text left told next reading (take filled b)) is c.in_ok-filled.ensures.read in
-    end_opens text left told next reading held was c.in_ok-filled.ensures.all.end c.end.result (subst (λ (b : List ℕ). HasNoEnd (take filled b)) is c.in_ok-filled.ensures.all.no_end)
-    c.end.ensures.opens c.end.ensures.tail c.end.ensures.cut
-
-pub returns-clause-same : goal.returns-clause-same
-returns-clause-same g c = end_same c.args.auction c.read_parts.new.self c.end.result c.in_ok-filled.ensures.all.same c.end.ensures.opens
-
-pub returns-clause-refused : goal.returns-clause-refused
-returns-clause-refused g c =
-    let text = g.R.Read.remaining c.args.reader.now in
-    let left = g.R.Read.remaining c.read_parts.new.reader in
-    let told = g.W.Write.contents c.args.told.now in
-    let next = g.W.Write.contents c.read_parts.new.told in
-    let buffer = c.in-Ok.buffer in
-    let new = c.read_parts.new.buffer in
-    let filled = c.in_ok-filled.filled in
-    let reading = c.read_parts.new.self in
-    let same : length new ≡ length buffer.items = omega (arith, c.read_parts.ensures.len, ap length c.deref_mut.ensures.value) in
-    let held = take filled (take buffer.len (new ++ drop (length new) buffer.items)) in
-    let was : IsReadTo text left told next reading held =
-    subst (λ (b : List ℕ). IsReadTo text left told next reading (take filled b)) (sym (refilled buffer.len new buffer.items same (sym buffer.ok.0))) c.in_ok-filled.ensures.read in
-    end_refused text left told next reading held was c.in_ok-filled.ensures.all.end c.args.auction c.end.result c.in_ok-filled.ensures.all.same c.end.ensures.refused
-
-pub returns-clause-told : goal.returns-clause-told
-returns-clause-told g c =
-    let text = g.R.Read.remaining c.args.reader.now in
-    let told = g.W.Write.contents c.args.told.now in
-    let next = g.W.Write.contents c.read_parts.new.told in
-    any_error c.end.result (TellsFirst text told next)
-    (told_first text (g.R.Read.remaining c.read_parts.new.reader) told next c.read_parts.new.self (take c.in_ok-filled.filled c.read_parts.new.buffer) c.in_ok-filled.ensures.read)
+    record {
+      opens = end_opens text left told next reading held was c.in_ok-filled.ensures.all.end c.end.result (subst (λ (b : List ℕ). HasNoEnd (take filled b)) is c.in_ok-filled.ensures.all.no_end)
+          c.end.ensures.opens c.end.ensures.tail c.end.ensures.cut;
+      same = end_same c.args.auction reading c.end.result c.in_ok-filled.ensures.all.same c.end.ensures.opens;
+      refused = end_refused text left told next reading held was c.in_ok-filled.ensures.all.end c.args.auction c.end.result c.in_ok-filled.ensures.all.same c.end.ensures.refused;
+      told = any_error c.end.result (TellsFirst text told next) (told_first text left told next reading (take filled new) c.in_ok-filled.ensures.read);
+    }

@@ -5,17 +5,15 @@ use Rattle.phase_floor.proofs.Turns.{first_known, first_can, merged_next}
 use Rattle.phase_floor.specs.inner.Parts.{from_the_last}
 use Rattle.phase_floor.proofs.close.merge_all.Goals as goal
 
-pub merge_own-requires-clause-known : goal.merge_own-requires-clause-known
-merge_own-requires-clause-known c =
-    let left = into_iter_items c.loop-own.own-iterator in let next = into_iter_items c.next.new.self in
-    first_known (map state_of c.args.shards.now) (map state_of c.loop-own.shards) (flat_map from_the_last c.args.slices.items) (flat_map from_the_last left)
-    (from_the_last c.in-Some.own) (flat_map from_the_last next) (ap (flat_map from_the_last) c.in-Some.ensures.steps.0) c.loop-own.invariant.merged
-
-pub merge_own-requires-clause-can : goal.merge_own-requires-clause-can
-merge_own-requires-clause-can c =
-    let left = into_iter_items c.loop-own.own-iterator in let next = into_iter_items c.next.new.self in
-    first_can (map state_of c.args.shards.now) (map state_of c.loop-own.shards) (flat_map from_the_last c.args.slices.items) (flat_map from_the_last left)
-    (from_the_last c.in-Some.own) (flat_map from_the_last next) (ap (flat_map from_the_last) c.in-Some.ensures.steps.0) c.loop-own.invariant.merged
+pub merge_own-requires : goal.merge_own-requires
+merge_own-requires c =
+    let old = map state_of c.args.shards.now in let now = map state_of c.loop-own.shards in let all = flat_map from_the_last c.args.slices.items in
+    let left = flat_map from_the_last (into_iter_items c.loop-own.own-iterator) in let next = flat_map from_the_last (into_iter_items c.next.new.self) in
+    let is = ap (flat_map from_the_last) c.in-Some.ensures.steps.0 in
+    record {
+      known = first_known old now all left (from_the_last c.in-Some.own) next is c.loop-own.invariant.merged;
+      can = first_can old now all left (from_the_last c.in-Some.own) next is c.loop-own.invariant.merged;
+    }
 
 pub loop-own-preserved : goal.loop-own-preserved
 loop-own-preserved c =

@@ -9,17 +9,16 @@ use Rattle.phase_floor.proofs.close.merge_own.Goals as goal
 pub loop-object-init : goal.loop-object-init
 loop-object-init c = record { known = c.requires.known; can = c.requires.can; whole = refl }
 
-pub merge-requires-clause-known : goal.merge-requires-clause-known
-merge-requires-clause-known c =
+pub merge-requires : goal.merge-requires
+merge-requires c =
     let pair : Object × Slice = (c.in-Some.object, c.in-Some.slice) in let rest = c.pop.new.self in
     let is = last_first c.loop-object.slices rest pair c.in-Some.ensures.last in
-    (first_known (map state_of c.args.shards.now) (map state_of c.loop-object.shards) (from_the_last c.args.slices) (from_the_last c.loop-object.slices) (pair ∷ []) (from_the_last rest) is c.loop-object.invariant).0
-
-pub merge-requires-clause-can : goal.merge-requires-clause-can
-merge-requires-clause-can c =
-    let pair : Object × Slice = (c.in-Some.object, c.in-Some.slice) in let rest = c.pop.new.self in
-    let is = last_first c.loop-object.slices rest pair c.in-Some.ensures.last in
-    (first_can (map state_of c.args.shards.now) (map state_of c.loop-object.shards) (from_the_last c.args.slices) (from_the_last c.loop-object.slices) (pair ∷ []) (from_the_last rest) is c.loop-object.invariant).0
+    let old = map state_of c.args.shards.now in let now = map state_of c.loop-object.shards in
+    let all = from_the_last c.args.slices in let left = from_the_last c.loop-object.slices in
+    record {
+      known = (first_known old now all left (pair ∷ []) (from_the_last rest) is c.loop-object.invariant).0;
+      can = (first_can old now all left (pair ∷ []) (from_the_last rest) is c.loop-object.invariant).0;
+    }
 
 pub loop-object-preserved : goal.loop-object-preserved
 loop-object-preserved c =

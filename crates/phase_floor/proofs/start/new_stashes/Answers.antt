@@ -1,6 +1,5 @@
 use Rattle.std.proofs.Common.{◌≡◌, ◌<◌, ◌++◌, ◌∷◌, [], length, get_or, map, take, ap, sym, ◌∙◌, arith}
-use Rattle.std.proofs.lemmas.List.{take_more}
-use Rattle.shard_boxes.proofs.Each.{map_push}
+use Rattle.std.proofs.lemmas.List.{take_more, map_push}
 use Rattle.worker_slices.specs.Stashes.{StashState}
 use Rattle.phase_floor.specs.Begins.{empty_stash}
 use Rattle.phase_floor.proofs.start.new_stashes.Goals as goal

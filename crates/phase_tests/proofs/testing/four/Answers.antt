@@ -1,5 +1,6 @@
-use Rattle.std.proofs.{Common.{◌≡◌, length, map, ap, ◌∙◌, arith}, lemmas.List.{length-map}}
-use Rattle.shard_boxes.proofs.{Each.{each_push, map_push}, StateLemmas.{new_is_opened}}
+use Rattle.std.proofs.Common.{◌≡◌, length, map, ap, ◌∙◌, arith}
+use Rattle.std.proofs.lemmas.List.{length-map, map_push}
+use Rattle.shard_boxes.proofs.{Each.{each_push}, StateLemmas.{new_is_opened}}
 use Rattle.shard_boxes.specs.States.{ShardState, state_of, no_shard, IsInitial}
 use Rattle.phase_tests.proofs.testing.four.Goals as goal
 

@@ -59,7 +59,6 @@ loop-place-init g c =
 
 pub perform_next-requires-clause-within : goal.perform_next-requires-clause-within
 perform_next-requires-clause-within g c =
-    let old : WorkerState = c.args.permit.now in
     within_script _ _ _ _ (subst (λ n. c.loop-place.place < n) c.left-place-end.ensures c.loop-place-test.true) c.requires.given
 
 pub perform_next-requires-clause-of : goal.perform_next-requires-clause-of

@@ -6,13 +6,12 @@ use Rattle.program_options.proofs.words.parse_words.Goals as goal
 pub returns-in-Ok-clause-finds : goal.returns-in-Ok-clause-finds
 returns-in-Ok-clause-finds c = λ free.
     let old = c.args.command in
-    let new = c.try_get_matches_from_mut.new.self in
     let words = map string_bytes c.args.words.now in
     record {
       texts = texts_found (app_of old) free words _ c.in-Ok.matches c.in-Ok.ensures.ok.2 refl;
       values = values_found (app_of old) free words _ c.in-Ok.matches c.in-Ok.ensures.ok.2 refl;
       given = given_found (app_of old) free words _ c.in-Ok.matches c.in-Ok.ensures.ok.2 refl;
-      numbers = numbers_parsed (app_of old) free old new c.in-Ok.matches (has_subcommand c.in-Ok.matches) c.in-Ok.ensures.ok.1 c.in-Ok.ensures.fails c.in-Ok.ensures.after refl;
+      numbers = numbers_parsed (app_of old) free old c.try_get_matches_from_mut.new.self c.in-Ok.matches (has_subcommand c.in-Ok.matches) c.in-Ok.ensures.ok.1 c.in-Ok.ensures.fails c.in-Ok.ensures.after refl;
       taken = no_fault (app_of old) free words _ (c.in-Ok.ensures.kinds free) refl;
     }
 

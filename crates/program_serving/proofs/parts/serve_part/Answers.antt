@@ -7,33 +7,27 @@ use Rattle.program_serving.{proofs.ToldLemmas.{nothing_told}, specs.Serving.{Are
 use Rattle.program_serving.specs.inner.Parts.{BeginsPart, FailsPart, ServesDone, gone_with}
 use Rattle.program_serving.proofs.parts.serve_part.Goals as goal
 
-pub returns-clause-serves : goal.returns-clause-serves
-returns-clause-serves g c =
-    let options = c.args.options.now in
-    let part = c.args.part in
-    let Holds : List ℕ → List ℕ → Type 0 = AreTold g.L.Log.accepted g.W.Write.contents c.args.teller.now.teller c.perform_part.new.teller.teller in
-    IfOk-weaker c.perform_part.result _ (λ done. (book : Book) → BeginsPart options part book → ServesDone options book (gone_by part.served.before) (asked_of part.input) done.past done.served Holds)
-    (λ done serves book begins. subst (λ (b : BeforeView). ServesDone options book (gone_by b) (asked_of part.input) done.past done.served Holds) c.in_ok-begun.ensures.before
-    (serves book (asked_of part.input) (c.in_ok-begun.ensures.begins book begins))) c.perform_part.ensures.serves
-
-pub returns-clause-rows : goal.returns-clause-rows
-returns-clause-rows g c = IfOk-weaker c.perform_part.result _ _ (λ done same. same ∙ c.in_ok-begun.ensures.rows) c.perform_part.ensures.rows
-
-pub returns-clause-has : goal.returns-clause-has
-returns-clause-has g c = IfOk-weaker c.perform_part.result _ _ (λ done has. has c.in_ok-begun.ensures.has) c.perform_part.ensures.has
-
-pub returns-clause-cause : goal.returns-clause-cause
-returns-clause-cause g c =
+pub returns : goal.returns
+returns g c =
     let accepted = g.L.Log.accepted in
     let contents = g.W.Write.contents in
     let options = c.args.options.now in
     let part = c.args.part in
     let old = c.args.teller.now.teller in
     let new = c.perform_part.new.teller.teller in
-    IfErr-weaker c.perform_part.result _ (λ (f : Fault). (book : Book) → BeginsPart options part book
-    → FailsPart accepted contents old new options book (gone_by part.served.before) part.served.rows (asked_of part.input) f)
-    (λ fault why book begins. subst (λ (b : BeforeView). FailsPart accepted contents old new options book (gone_by b) part.served.rows (asked_of part.input) fault) c.in_ok-begun.ensures.before
-    (why book (asked_of part.input) part.served.rows (c.in_ok-begun.ensures.begins book begins))) c.perform_part.ensures.cause
+    let e = c.in_ok-begun.ensures in
+    let Holds : List ℕ → List ℕ → Type 0 = AreTold accepted contents old new in
+    record {
+      serves = IfOk-weaker c.perform_part.result _ (λ done. (book : Book) → BeginsPart options part book → ServesDone options book (gone_by part.served.before) (asked_of part.input) done.past done.served Holds)
+          (λ done serves book begins. subst (λ (b : BeforeView). ServesDone options book (gone_by b) (asked_of part.input) done.past done.served Holds) e.before
+          (serves book (asked_of part.input) (e.begins book begins))) c.perform_part.ensures.serves;
+      rows = IfOk-weaker c.perform_part.result _ _ (λ done same. same ∙ e.rows) c.perform_part.ensures.rows;
+      has = IfOk-weaker c.perform_part.result _ _ (λ done has. has e.has) c.perform_part.ensures.has;
+      cause = IfErr-weaker c.perform_part.result _ (λ (f : Fault). (book : Book) → BeginsPart options part book
+          → FailsPart accepted contents old new options book (gone_by part.served.before) part.served.rows (asked_of part.input) f)
+          (λ fault why book begins. subst (λ (b : BeforeView). FailsPart accepted contents old new options book (gone_by b) part.served.rows (asked_of part.input) fault) e.before
+          (why book (asked_of part.input) part.served.rows (e.begins book begins))) c.perform_part.ensures.cause;
+    }
 
 pub perform_part-requires-clause-next : goal.perform_part-requires-clause-next
 perform_part-requires-clause-next g c = λ lives within. c.in_ok-begun.ensures.next ∙ sym (ap (λ (b : BeforeView). gone_with (gone_by b) 0 c.in_ok-begun.begun.scripts.items) c.in_ok-begun.ensures.before)

@@ -13,14 +13,12 @@ use Rattle.program_serving.proofs.session.serve.Goals as goal
 
 pub returns-clause-all : goal.returns-clause-all
 returns-clause-all g c =
-    let accepted = g.L.Log.accepted in
-    let contents = g.W.Write.contents in
     let options = c.args.options.now in
     let old = c.args.teller.now.teller in
     let first : Served = record { auction = c.args.source.auction; rows = 0; before = c.none.result } in
     on_ok_weaker c.serve_lines.result (λ ensures book start. IfSome_then (g.I.Read.remaining c.args.source.reader) c.in_ok-left.ensures.says (λ input has.
     let all = live_says options.workers input in
-    ensures book all old (session_begins accepted contents options book all old first (YetToSay g.I.Read.remaining options.workers c.in_ok-left.left) start refl
+    ensures book all old (session_begins g.L.Log.accepted g.W.Write.contents options book all old first (YetToSay g.I.Read.remaining options.workers c.in_ok-left.left) start refl
     (same_gone (gone_by c.none.result) nothing_gone c.none.ensures.phases c.none.ensures.requests) (c.in_ok-left.ensures.workers, has)))) c.serve_lines.ensures.all
 
 pub returns-clause-cause : goal.returns-clause-cause

@@ -1,4 +1,5 @@
-use Rattle.std.proofs.Common.{◌≡◌, Option, None, Some, IfSome, MatchOption, List, refl, subst}
+use Rattle.std.proofs.Common.{IfSome, List, subst}
+use Rattle.std.proofs.lemmas.Option.{MatchOption-at_some, MatchOption-at_none}
 use Rattle.auction_rows.specs.Book.{Book}
 use Rattle.auction_text.specs.Said.{Said}
 use Rattle.auction_text.specs.ReadFault.TheVariants as read
@@ -6,27 +7,20 @@ use Rattle.phase_floor.specs.Adding.{HasBook}
 use Rattle.part_log.specs.declared.log.Teller.{Teller}
 use Rattle.program_opening.{proofs.ErrorLemmas.{error_is}, specs.declared.faults.Fault.{Fault}}
 use Rattle.program_opening.specs.declared.faults.Fault.TheVariants.{Read}
-use Rattle.program_serving.proofs.{Sessions.{session_stops}, ToldLemmas.{nothing_told}}
+use Rattle.program_serving.proofs.{Sessions.{session_stops, is_none}, ToldLemmas.{nothing_told}}
 use Rattle.program_serving.specs.ServeFaults.{IsServeFault}
 use Rattle.program_serving.specs.inner.Sessions.{GoesOnTo, IsServedSoFar}
 use Rattle.program_serving.proofs.session.serve_lines.Goals as goal
 
-at_none : {T : Type 0} (known : Option T) (P : Type 0) (Q : T → Type 0) → ((x : T) → known ≡ Some x → ⊥) → MatchOption known P Q → P
-at_none None P Q not_some holds = holds
-at_none (Some x) P Q not_some holds = absurd (not_some x refl)
-
-at_some : {T : Type 0} (known : Option T) (x : T) (P : Type 0) (Q : T → Type 0) → known ≡ Some x → MatchOption known P Q → Q x
-at_some known x P Q is holds = subst (λ o. MatchOption o P Q) is holds
-
 pub loop-preserved : goal.loop-preserved
 loop-preserved g c = record {
   has = subst (λ next. IfSome next (λ s. HasBook s.served.auction)) c.in-Some.is c.in_ok-next.ensures.has;
-  session = λ book all start session. at_some c.in_ok-next.field-0 c.in-Some.next _ _ c.in-Some.is (c.in_ok-next.ensures.goes_on book all start (c.loop.invariant.session book all start session));
+  session = λ book all start session. MatchOption-at_some _ _ c.in-Some.next c.in-Some.is (c.in_ok-next.ensures.goes_on book all start (c.loop.invariant.session book all start session));
 }
 
 pub returns-in_default-clause-all : goal.returns-in_default-clause-all
 returns-in_default-clause-all g c = λ book all start session.
-    at_none c.in_ok-next.field-0 _ _ c.in_default.not-Some (c.in_ok-next.ensures.goes_on book all start (c.loop.invariant.session book all start session))
+    MatchOption-at_none _ _ (is_none c.in_ok-next.field-0 c.in_default.not-Some) (c.in_ok-next.ensures.goes_on book all start (c.loop.invariant.session book all start session))
 
 pub returns-in_err-next-clause-cause : goal.returns-in_err-next-clause-cause
 returns-in_err-next-clause-cause g c =

@@ -57,14 +57,13 @@ returns-in_err-left-clause-cause g c =
     let accepted = g.L.Log.accepted in
     let contents = g.W.Write.contents in
     let options = c.args.options.now in
-    let old = c.args.teller.now.teller in
     let mid = c.pass_fault.new.teller.teller in
     let fault = c.in_err-left.field-0.0 in
     error_is c.from_residual.result fault (λ (f : Fault). (book : Book) (all : List Said) (start : Teller _ _)
     → IsServedSoFar remaining accepted contents start c.args.teller.now.teller options book all c.args.session
     → IsServeFault accepted contents start mid options book all f) c.from_residual.ensures
     (λ book all start session.
-    session_stops accepted contents options book all start old mid c.args.session.served (GoesOnTo remaining options.workers c.args.session.end) session fault
+    session_stops accepted contents options book all start c.args.teller.now.teller mid c.args.session.served (GoesOnTo remaining options.workers c.args.session.end) session fault
     (c.in_err-left.ensures.stops remaining options.workers session.rest session.left (book_left options book session.steps) c.args.session.served.rows))
 
 pub returns-in_err-input-clause-cause : goal.returns-in_err-input-clause-cause
@@ -73,7 +72,6 @@ returns-in_err-input-clause-cause g c =
     let accepted = g.L.Log.accepted in
     let contents = g.W.Write.contents in
     let options = c.args.options.now in
-    let old = c.args.teller.now.teller in
     let mid = c.pass_fault.new.teller.teller in
     let fault = c.in_err-input.field-0.0 in
     error_is c.from_residual-in_err-input.result (Read fault) (λ (f : Fault). (book : Book) (all : List Said) (start : Teller _ _)
@@ -81,7 +79,7 @@ returns-in_err-input-clause-cause g c =
     → IsServeFault accepted contents start mid options book all f) c.from_residual-in_err-input.ensures
     (λ book all start session.
     let passed = subst (λ left. IsSession options book all c.args.session.served (MayHaveToSay remaining options.workers left) (AreTold accepted contents start mid)) c.in-Some.is
-    (session_passed accepted contents options book all start old mid c.args.session.served (GoesOnTo remaining options.workers c.args.session.end) session remaining c.in_ok-left.field-0
+    (session_passed accepted contents options book all start c.args.teller.now.teller mid c.args.session.served (GoesOnTo remaining options.workers c.args.session.end) session remaining c.in_ok-left.field-0
     (c.in_ok-left.ensures.passes remaining options.workers session.rest session.left)) in
     session_stops accepted contents options book all start mid mid c.args.session.served (MayHaveToSay remaining options.workers (Some c.in-Some.left)) passed (Read fault)
     (nothing_told accepted contents mid, λ input. absurd (c.in_err-input.ensures.fails input)))
@@ -92,7 +90,6 @@ returns-in_err-done-clause-cause g c =
     let accepted = g.L.Log.accepted in
     let contents = g.W.Write.contents in
     let options = c.args.options.now in
-    let old = c.args.teller.now.teller in
     let mid = c.pass_fault.new.teller.teller in
     let new = c.serve_part.new.teller.teller in
     let fault = c.in_err-done.field-0.0 in
@@ -101,7 +98,7 @@ returns-in_err-done-clause-cause g c =
     → IsServeFault accepted contents start new options book all f) c.from_residual-in_err-done.ensures
     (λ book all start session.
     let passed = subst (λ left. IsSession options book all c.args.session.served (MayHaveToSay remaining options.workers left) (AreTold accepted contents start mid)) c.in-Some.is
-    (session_passed accepted contents options book all start old mid c.args.session.served (GoesOnTo remaining options.workers c.args.session.end) session remaining c.in_ok-left.field-0
+    (session_passed accepted contents options book all start c.args.teller.now.teller mid c.args.session.served (GoesOnTo remaining options.workers c.args.session.end) session remaining c.in_ok-left.field-0
     (c.in_ok-left.ensures.passes remaining options.workers session.rest session.left)) in
     let part = c.in_ok-input.field-0 in
     let Next : List Said → Type 0 = GoesOnTo remaining options.workers part.end in
@@ -115,7 +112,6 @@ returns-in_err-tell_past-clause-cause g c =
     let accepted = g.L.Log.accepted in
     let contents = g.W.Write.contents in
     let options = c.args.options.now in
-    let old = c.args.teller.now.teller in
     let mid = c.pass_fault.new.teller.teller in
     let next = c.serve_part.new.teller.teller in
     let new = c.tell_past.new.teller.teller in
@@ -126,7 +122,7 @@ returns-in_err-tell_past-clause-cause g c =
     (λ book all start session.
     let Left : List Said → Type 0 = MayHaveToSay remaining options.workers (Some c.in-Some.left) in
     let passed = subst (λ left. IsSession options book all c.args.session.served (MayHaveToSay remaining options.workers left) (AreTold accepted contents start mid)) c.in-Some.is
-    (session_passed accepted contents options book all start old mid c.args.session.served (GoesOnTo remaining options.workers c.args.session.end) session remaining c.in_ok-left.field-0
+    (session_passed accepted contents options book all start c.args.teller.now.teller mid c.args.session.served (GoesOnTo remaining options.workers c.args.session.end) session remaining c.in_ok-left.field-0
     (c.in_ok-left.ensures.passes remaining options.workers session.rest session.left)) in
     let part = c.in_ok-input.field-0 in
     let Next : List Said → Type 0 = GoesOnTo remaining options.workers part.end in

@@ -1,6 +1,7 @@
 use Rattle.std.proofs.Common.{◌≡◌, ◌+◌, ◌-◌, ◌<◌, ◌≤◌, suc, length, get_or, vec_capacity, le_refl, le_antisymm, lt_of_lt_of_le, refl, sym, ap, ◌∙◌, subst, arith}
+use Rattle.std.proofs.lemmas.List.{take_all}
 use Rattle.shard_boxes.proofs.Each.{each_push}
-use Rattle.shard_boxes.proofs.GrantLemmas.{rest_ready, first_ready, ready_for, places_more, place_is, new_key, as_many, take_whole}
+use Rattle.shard_boxes.proofs.GrantLemmas.{rest_ready, first_ready, ready_for, places_more, place_is, new_key, as_many}
 use Rattle.shard_boxes.proofs.{KeySteps.{same_places}, Sweeps.{swept_more}}
 use Rattle.shard_boxes.specs.{Passes.{GrantState, Speaks}, States.{state_at}}
 use Rattle.shard_boxes.specs.{declared.shard_box.Knowledge.{Knowledge}, inner.Grants.{IsNewView}}
@@ -49,7 +50,7 @@ returns-clause-key g c =
     let was = c.loop-s.invariant in
     let room = c.loop-s.room.items in
     let long : length room ≡ c.loop-s.s = sym c.loop-s.room.ok.0 ∙ was.0 in
-    new_key g.N.PhaseName.initial g.N.PhaseName.workers c.args.worker room c.args.boxes.now (was.2 ∙ take_whole c.args.boxes.now c.loop-s.s c.loop-s-test.false) (λ k d low. was.3 k d (subst (λ n. k < n) long low))
+    new_key g.N.PhaseName.initial g.N.PhaseName.workers c.args.worker room c.args.boxes.now (was.2 ∙ take_all c.loop-s.s c.args.boxes.now c.loop-s-test.false) (λ k d low. was.3 k d (subst (λ n. k < n) long low))
 
 pub invariant_of-result : goal.invariant_of-result
 invariant_of-result g c =

@@ -1,7 +1,7 @@
 use Rattle.std.proofs.Common.{◌≡◌, ◌+◌, ◌<◌, ◌≤◌, length, map, slice_index_or, vec_capacity, le_refl, le_antisymm, lt_of_lt_of_le, refl, sym, ap, ◌∙◌, subst, arith}
-use Rattle.std.proofs.lemmas.List.{length-map}
-use Rattle.shard_boxes.proofs.Each.{each_push, map_push}
-use Rattle.shard_boxes.proofs.GrantLemmas.{place_is, as_many, at_itself, for_all, taken_spare, taken_is}
+use Rattle.std.proofs.lemmas.List.{length-map, get_or_default, map_push}
+use Rattle.shard_boxes.proofs.Each.{each_push}
+use Rattle.shard_boxes.proofs.GrantLemmas.{place_is, as_many, for_all, taken_spare, taken_is}
 use Rattle.shard_boxes.proofs.{KeySteps.{same_places}, Sweeps.{swept_more}}
 use Rattle.shard_boxes.specs.{Passes.{GrantState, IsSpare}, States.{state_of, state_at, no_shard}}
 use Rattle.shard_boxes.specs.inner.Grants.{IsFree, IsTaken, own_at}
@@ -13,7 +13,7 @@ loop-s-init g c = (
   c.requires.closed_shards.1,
   c.requires.free.0,
   (λ s d low. absurd (omega arith)),
-  ((λ k d low. absurd (omega arith)), λ k d from low e. at_itself c.args.grants.items k e d low),
+  ((λ k d low. absurd (omega arith)), λ k d from low e. get_or_default c.args.grants.items k e d low),
 )
 
 pub take_last-shard-requires : goal.take_last-shard-requires

@@ -18,39 +18,24 @@ index_mut-requires g c =
       length-map c.args.scripts.now (λ v. v.items),
     )
 
-pub take_turn-requires-clause-script : goal.take_turn-requires-clause-script
-take_turn-requires-clause-script g c =
-    let s = g.A.Application in let given = c.requires.state in
-    let f = c.loop-worker.invariant.state given.0 given.1 given.2 given.3 given.4 in
-    let at = listed c.args.scripts.now c.loop-worker.worker c.index-scripts-worker.result c.loop-worker-test.true c.index-scripts-worker.is in
-    subst (λ (p : ℕ × List g.row.A-Request.Denot). IsScript s.rules p.0 p.1) (λ i. (sym f.size_is i, (sym at.1 ∙ sym c.deref-in-loop-worker.ensures.value) i))
-    (all_at (IsScript s.rules (length given.1)) (lists c.args.scripts.now) c.loop-worker.worker c.index-scripts-worker.result.items at.0 given.3)
-
-pub take_turn-requires-clause-served : goal.take_turn-requires-clause-served
-take_turn-requires-clause-served g c =
+pub take_turn-requires : goal.take_turn-requires
+take_turn-requires g c =
     let s = g.A.Application in let given = c.requires.state in
     let f = c.loop-worker.invariant.state given.0 given.1 given.2 given.3 given.4 in
     let at = listed c.args.scripts.now c.loop-worker.worker c.index-scripts-worker.result c.loop-worker-test.true c.index-scripts-worker.is in
     let here : 0 + c.loop-worker.worker ≡ c.loop-worker.worker = omega arith in
-    subst (λ (p : ℕ × ℕ × List g.row.A-Request.Denot). HasServed s.rules p.0 p.1 p.2 c.index_mut.result.now c.loop-worker.state.so_far.history)
-    (λ i. (sym f.size_is i, here i, sym c.deref-in-loop-worker.ensures.value i))
-    (have_at s.rules (length given.1) 0 (lists c.args.scripts.now) c.loop-worker.state.cursors.items c.loop-worker.worker c.index-scripts-worker.result.items c.index_mut.result.now
-    c.loop-worker.state.so_far.history at.0 at.1 c.index_mut.ensures.value f.served)
-
-pub take_turn-requires-clause-room : goal.take_turn-requires-clause-room
-take_turn-requires-clause-room g c =
-    let s = g.A.Application in let given = c.requires.state in
-    let f = c.loop-worker.invariant.state given.0 given.1 given.2 given.3 given.4 in
-    let at = listed c.args.scripts.now c.loop-worker.worker c.index-scripts-worker.result c.loop-worker-test.true c.index-scripts-worker.is in
-    let room = turn_room s.rules s.fits given.0 given.1 (lists c.args.scripts.now) c.loop-worker.state.so_far.table.items c.loop-worker.state.so_far.history c.loop-worker.state.cursors.items
+    let left = turn_room s.rules s.fits given.0 given.1 (lists c.args.scripts.now) c.loop-worker.state.so_far.table.items c.loop-worker.state.so_far.history c.loop-worker.state.cursors.items
     c.loop-worker.worker c.index-scripts-worker.result.items c.index_mut.result.now MOST_COMMITS c.requires.total at.0 at.1 c.index_mut.ensures.value f in
-    omega (arith, room, ap length c.deref-in-loop-worker.ensures.value)
-
-pub take_turn-requires-clause-fits : goal.take_turn-requires-clause-fits
-take_turn-requires-clause-fits g c =
-    let given = c.requires.state in
-    let f = c.loop-worker.invariant.state given.0 given.1 given.2 given.3 given.4 in
-    (given.0, given.2, f.fits)
+    record {
+      script = subst (λ (p : ℕ × List g.row.A-Request.Denot). IsScript s.rules p.0 p.1) (λ i. (sym f.size_is i, (sym at.1 ∙ sym c.deref-in-loop-worker.ensures.value) i))
+          (all_at (IsScript s.rules (length given.1)) (lists c.args.scripts.now) c.loop-worker.worker c.index-scripts-worker.result.items at.0 given.3);
+      served = subst (λ (p : ℕ × ℕ × List g.row.A-Request.Denot). HasServed s.rules p.0 p.1 p.2 c.index_mut.result.now c.loop-worker.state.so_far.history)
+          (λ i. (sym f.size_is i, here i, sym c.deref-in-loop-worker.ensures.value i))
+          (have_at s.rules (length given.1) 0 (lists c.args.scripts.now) c.loop-worker.state.cursors.items c.loop-worker.worker c.index-scripts-worker.result.items c.index_mut.result.now
+          c.loop-worker.state.so_far.history at.0 at.1 c.index_mut.ensures.value f.served);
+      room = omega (arith, left, ap length c.deref-in-loop-worker.ensures.value);
+      fits = (given.0, given.2, f.fits);
+    }
 
 pub loop-worker-preserved : goal.loop-worker-preserved
 loop-worker-preserved g c = record {

@@ -1,11 +1,12 @@
 use Rattle.std.proofs.{Common.{length, ap, sym, ◌∙◌, subst, arith}, lemmas.List.{length-map}}
 use Rattle.std.specs.{List.{AllByRecursion}, Vec.Iter.{into_iter_items}}
 use Rattle.split_engine.proofs.Counts.{length_more}
-use Rattle.split_engine.proofs.States.{listed, have_length, tasks_none, tasks_more, assigned_next, served_next}
+use Rattle.split_engine.proofs.States.{listed, have_length, tasks_none, assigned_next, served_next}
 use Rattle.split_engine.{proofs.Works.{all_more, all_at}, specs.Serving.{lists, IsScript}}
 use Rattle.split_engine.specs.inner.Assignments.{assignment, assignments, CanDo}
 use Rattle.split_engine.specs.inner.Phases.{HaveServed}
 use Rattle.split_engine.proofs.phases.tasks.Goals as goal
+use Rattle.job_threads.proofs.ThreadLemmas.{started_more}
 
 pub loop-worker-init : goal.loop-worker-init
 loop-worker-init g c =
@@ -40,8 +41,9 @@ loop-worker-preserved g c =
       len = omega (arith, was.len, ap length next);
       made_len = omega (arith, was.made_len, length_more _ _ _ c.in_ok-push.ensures.items);
       can = subst (AllByRecursion _) (sym c.in_ok-push.ensures.items) (all_more _ c.loop-worker.made.items _ was.can can);
-      tasks = tasks_more _ c.loop-worker.made.items c.push.new.self.items _ (assignment c.args.phase.table.now c.args.phase.plan.hot.now k script c.args.phase.plan.quota c.in-Some.cursor) _ _ _ c.in_ok-push.ensures.items
-          (λ i. assignment c.args.phase.table.now c.args.phase.plan.hot.now k (c.deref.ensures.value i) c.args.phase.plan.quota (c.in_ok-begin.ensures.cursor i))
-          (assigned_next c.args.phase.table.now c.args.phase.plan.hot.now c.args.phase.plan.quota k scripts (into_iter_items c.loop-worker.cursors) script c.in-Some.cursor rest at.0 at.1 next) was.tasks;
+      tasks = started_more _ c.loop-worker.made.items c.push.new.self.items _ _ _ _ (assignment c.args.phase.table.now c.args.phase.plan.hot.now k script c.args.phase.plan.quota c.in-Some.cursor)
+          (assigned_next c.args.phase.table.now c.args.phase.plan.hot.now c.args.phase.plan.quota k scripts (into_iter_items c.loop-worker.cursors) script c.in-Some.cursor rest at.0 at.1 next)
+          c.in_ok-push.ensures.items
+          (λ i. assignment c.args.phase.table.now c.args.phase.plan.hot.now k (c.deref.ensures.value i) c.args.phase.plan.quota (c.in_ok-begin.ensures.cursor i)) was.tasks;
       served = λ history h. (served_next s.rules size k scripts (into_iter_items c.loop-worker.cursors) script c.in-Some.cursor rest history at.0 at.1 next (was.served history h)).1;
     }

@@ -1,8 +1,7 @@
 use Rattle.std.proofs.Common.{◌≡◌, ◌++◌, [], ◌∷◌, Some, ◌+◌, ◌*◌, take, ap, refl, sym, ◌∙◌, subst, arith}
 use Rattle.std.proofs.{Math.{Numerals.{add-one}, Seq.{take-suc}}, lemmas.List.{take_all}}
-use Rattle.std.specs.List.{AllByRecursion}
+use Rattle.std.{proofs.lemmas.Option.{slice_get-get_or}, specs.List.{AllByRecursion}}
 use Rattle.split_engine.proofs.Lines.{marks_at_first, all_had, lines_push, after_push}
-use Rattle.split_engine.proofs.Works.{get_is}
 use Rattle.split_engine.specs.Checking.{IsRightLine, after_line, lines_replay, after_lines}
 use Rattle.split_engine.specs.{Serving.{lists, request_at}, declared.few.TheConstants.{MOST_KEYS}}
 use Rattle.split_engine.specs.inner.Marking.{AreMarks}
@@ -31,7 +30,7 @@ returns-then-not-check_line-clause-fault g c =
     let line = c.index-lines-place.result in let before = take c.loop-place.place c.args.lines.now in (
       was.replays,
       line,
-      get_is c.args.lines.now c.loop-place.place line c.loop-place-test.true ∙ ap Some (sym c.index-lines-place.is),
+      slice_get-get_or c.args.lines.now c.loop-place.place line c.loop-place-test.true ∙ ap Some (sym c.index-lines-place.is),
       λ right. c.if-not-check_line.ensures.wrong before was.marks refl (subst (λ t. IsRightLine s.rules scripts before t line) (sym was.table) right),
     )
 

@@ -1,5 +1,4 @@
-use Rattle.std.proofs.Common.{sym, ap, length, ◌∙◌}
-use Rattle.split_engine.proofs.States.{if_ok_so}
+use Rattle.std.proofs.{Common.{sym, ap, length, ◌∙◌}, lemmas.Result.{IfOk-weaker}}
 use Rattle.split_engine.proofs.runs.perform_round.Goals as goal
 
 -- the table has as many records after the joined phase
@@ -15,5 +14,5 @@ split_phase-requires-clause-state g c =
 
 pub returns-clause-state : goal.returns-clause-state
 returns-clause-state g c =
-    if_ok_so _ _ c.split_phase.result
+    IfOk-weaker c.split_phase.result _ _
     (λ new gone n opened few all f. gone n opened few all (c.in_ok-joined_phase.ensures.state n opened few all f)) c.split_phase.ensures.state

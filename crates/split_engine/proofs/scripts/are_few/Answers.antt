@@ -1,5 +1,5 @@
-use Rattle.std.proofs.{Common.{◌≡◌, ◌+◌, take, ap, arith}, lemmas.List.{length-map}}
-use Rattle.split_engine.proofs.{Counts.{total_more, total_take}, Ends.{take_whole}, States.{listed}}
+use Rattle.std.proofs.{Common.{◌≡◌, ◌+◌, take, ap, arith}, lemmas.List.{length-map, take_all}}
+use Rattle.split_engine.proofs.{Counts.{total_more, total_take}, States.{listed}}
 use Rattle.split_engine.specs.Serving.{lists, total}
 use Rattle.split_engine.proofs.scripts.are_few.Goals as goal
 
@@ -19,5 +19,5 @@ pub returns-clause-few : goal.returns-clause-few
 returns-clause-few g c =
     let scripts = lists c.args.scripts.now in let k = c.loop-worker.worker in
     let whole : total (take k scripts) ≡ total scripts =
-    ap total (take_whole scripts k (omega (arith, c.loop-worker-test.false, length-map c.args.scripts.now (λ v. v.items)))) in
+    ap total (take_all k scripts (omega (arith, c.loop-worker-test.false, length-map c.args.scripts.now (λ v. v.items)))) in
     λ is. omega (arith, c.loop-worker.invariant, whole)

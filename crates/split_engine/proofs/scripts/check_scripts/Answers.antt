@@ -1,7 +1,8 @@
-use Rattle.std.proofs.{Common.{Some, ap, sym, ◌∙◌, subst, arith}, lemmas.List.{length-map}}
+use Rattle.std.proofs.Common.{Some, ap, sym, ◌∙◌, subst, arith}
+use Rattle.std.proofs.lemmas.{List.{length-map, take_all}, Option.{slice_get-get_or}}
 use Rattle.std.specs.{List.{AllByRecursion}, Prelude.{[], slice_get, unwrap_or}}
-use Rattle.split_engine.proofs.{Ends.{take_whole}, States.{listed}, Works.{all_take, get_is}}
-use Rattle.split_engine.specs.{Serial.{IsWithin}, Serving.{lists}}
+use Rattle.split_engine.{proofs.{States.{listed}, Works.{all_take}}, specs.Serial.{IsWithin}}
+use Rattle.split_engine.specs.Serving.{lists}
 use Rattle.split_engine.proofs.scripts.check_scripts.Goals as goal
 
 pub loop-worker-preserved : goal.loop-worker-preserved
@@ -16,14 +17,14 @@ returns-clause-ok g c =
     let scripts = lists c.args.scripts.now in let few = c.are_few.ensures.few c.if-not-are_few.false in record {
       few = omega (arith, few, length-map c.args.scripts.now (λ v. v.items));
       keys = subst (AllByRecursion (AllByRecursion (IsWithin g.A.Application.rules c.args.records)))
-          (take_whole scripts c.loop-worker.worker (omega (arith, c.loop-worker-test.false, length-map c.args.scripts.now (λ v. v.items)))) c.loop-worker.invariant;
+          (take_all c.loop-worker.worker scripts (omega (arith, c.loop-worker-test.false, length-map c.args.scripts.now (λ v. v.items)))) c.loop-worker.invariant;
     }
 
 pub returns-in-Some-clause-fault : goal.returns-in-Some-clause-fault
 returns-in-Some-clause-fault g c =
     let scripts = lists c.args.scripts.now in let k = c.loop-worker.worker in let script = c.index-scripts-worker.result in
     let at = listed c.args.scripts.now k script c.loop-worker-test.true c.index-scripts-worker.is in
-    let found = c.in-Some.ensures in let there = get_is scripts k script.items at.0 ∙ ap Some (sym at.1) in (
+    let found = c.in-Some.ensures in let there = slice_get-get_or scripts k script.items at.0 ∙ ap Some (sym at.1) in (
       found.0,
       ap (λ o. slice_get (unwrap_or o []) c.in-Some.index) there ∙ ap (λ s. slice_get s c.in-Some.index) (sym c.deref.ensures.value) ∙ found.1,
       found.2,

@@ -1,5 +1,6 @@
-use Rattle.std.{proofs.Common.{◌<◌, subst, arith}, specs.List.{AllByRecursion}}
-use Rattle.split_engine.{proofs.{Ends.{take_whole}, Works.{all_take}}, specs.Serial.{IsWithin}}
+use Rattle.std.proofs.{Common.{◌<◌, subst, arith}, lemmas.List.{take_all}}
+use Rattle.std.specs.List.{AllByRecursion}
+use Rattle.split_engine.{proofs.Works.{all_take}, specs.Serial.{IsWithin}}
 use Rattle.split_engine.proofs.scripts.without_key.Goals as goal
 
 pub loop-index-preserved : goal.loop-index-preserved
@@ -10,4 +11,4 @@ loop-index-preserved g c =
 pub returns : goal.returns
 returns g c =
     subst (AllByRecursion (IsWithin g.A.Application.rules c.args.records))
-    (take_whole c.args.script.now c.loop-index.index (omega (arith, c.loop-index-test.false))) c.loop-index.invariant
+    (take_all c.loop-index.index c.args.script.now (omega (arith, c.loop-index-test.false))) c.loop-index.invariant

@@ -1,6 +1,6 @@
 use Rattle.std.proofs.Common.{◌≡◌, ◌<◌, ◌++◌, ◌∷◌, [], length, get_or, set, false, sym, ap, ◌∙◌, arith}
-use Rattle.std.proofs.lemmas.Bool.{ltb-true, ltb-false}
-use Rattle.split_engine.proofs.{KeptSlices.{not_at, spread_more}, Splits.{read_any}}
+use Rattle.std.proofs.lemmas.{Bool.{ltb-true, ltb-false}, List.{get_or_default}}
+use Rattle.split_engine.proofs.KeptSlices.{not_at, spread_more}
 use Rattle.split_engine.proofs.slices.place_of.Goals.{in-Some+else-there-key, in_default}
 use Rattle.split_engine.specs.inner.Kept.{is_at, spread}
 use Rattle.split_engine.proofs.slices.place_of.Goals as goal
@@ -11,7 +11,7 @@ returns-then-there-key-clause-at g c =
     let keys = c.args.keys.now.items in let guess = c.index-guess.result.now in let there = c.in-Some.there.now in let known = c.deref.ensures.value in
     let within : guess < length keys = omega (arith, ltb-true guess (length c.deref.result.now) (sym c.in-Some.ensures.lookup.0), ap length known) in (
       within,
-      sym (c.in-Some.ensures.lookup.1 ∙ ap (λ ks. get_or ks guess there) known ∙ read_any keys guess there 0 within) ∙ c.if-there-key.true,
+      sym (c.in-Some.ensures.lookup.1 ∙ ap (λ ks. get_or ks guess there) known ∙ get_or_default keys guess there 0 within) ∙ c.if-there-key.true,
     )
 
 pub returns-clause-same : goal.returns-clause-same
@@ -21,10 +21,10 @@ returns-clause-same g c =
     let is_new : is_at keys key guess ≡ false =
     elim c.match-get.branch [
       | in-Some+else-there-key w ↦ not_at keys key guess
-          (λ lt at. w.if-there-key.false (w.in-Some.ensures.lookup.1 ∙ ap (λ ks. get_or ks guess w.in-Some.there.now) known ∙ read_any keys guess w.in-Some.there.now 0 lt ∙ at))
+          (λ lt at. w.if-there-key.false (w.in-Some.ensures.lookup.1 ∙ ap (λ ks. get_or ks guess w.in-Some.there.now) known ∙ get_or_default keys guess w.in-Some.there.now 0 lt ∙ at))
       | in_default w ↦ not_at keys key guess (λ lt at. omega (arith, lt, ltb-false guess (length c.deref.result.now) (sym w.in_default.ensures.lookup.0), ap length known))
     ] in
-    let guessed : get_or guesses key 0 ≡ guess = sym (c.index-guess.ensures ∙ read_any guesses key guess 0 c.requires.within) in
+    let guessed : get_or guesses key 0 ≡ guess = sym (c.index-guess.ensures ∙ get_or_default guesses key guess 0 c.requires.within) in
     let long : c.len-place.result ≡ length keys = omega (arith, c.len-place.ensures, c.reserve.new.self.ok.0, ap length c.in_ok-reserve.ensures.items) in
     let all : c.push_reserved.new.self.items ≡ keys ++ key ∷ [] = c.push_reserved.ensures.items ∙ ap (λ ks. ks ++ key ∷ []) c.in_ok-reserve.ensures.items in
     let longer : c.push_reserved-2.new.self.items ≡ slices ++ rules.empty ∷ [] =

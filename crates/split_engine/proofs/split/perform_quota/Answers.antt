@@ -7,8 +7,7 @@ use Rattle.split_engine.proofs.split.perform_quota.Goals as goal
 
 pub perform_or_put_off-requires-clause-len : goal.perform_or_put_off-requires-clause-len
 perform_or_put_off-requires-clause-len g c =
-    let done = c.loop-index.invariant.done in
-    ap length done.slices_are
+    ap length c.loop-index.invariant.done.slices_are
     ∙ length-slices g.A.Application.rules g.A.Application.fits g.A.Application.slice_fits g.A.Application.is_small g.met.A.Application.laws c.args.phase.now.table.now c.loop-index.own.journal.items
 
 pub perform_or_put_off-requires-clause-fits : goal.perform_or_put_off-requires-clause-fits

@@ -64,27 +64,16 @@ loop-worker-preserved c =
           c.in_ok-push_to.ensures w.invariant.told;
     }
 
-pub returns-clause-merged : goal.returns-clause-merged
-returns-clause-merged c =
+pub returns : goal.returns
+returns c =
     let w = c.loop-worker in
     let journals = c.args.journals.items in
+    let kept = w.invariant.merging in
     let none = subst (λ ns. (k : ℕ) → k < length ns → get_or ns k None ≡ None) c.deref-in-loop-worker.ensures.value c.in_default.ensures.none in
-    all_listed (merged journals) (merged (left_of journals w.places.items)) w.entries.items
-    (none_left journals w.places.items w.numbers.items w.invariant.merging none) w.invariant.told
-
-pub returns-clause-ascending : goal.returns-clause-ascending
-returns-clause-ascending c =
-    let w = c.loop-worker in
-    let kept = w.invariant.merging in
-    subst (IsAscending entry_number entry_worker) (sym (returns-clause-merged c)) (merged_ascends c.args.journals.items kept.by_worker kept.lawful)
-
-pub returns-clause-parts : goal.returns-clause-parts
-returns-clause-parts c = λ worker.
-    let w = c.loop-worker in
-    let kept = w.invariant.merging in
-    ap (part entry_worker worker) (returns-clause-merged c) ∙ merged_parts c.args.journals.items worker kept.by_worker kept.lawful
-
-pub returns-clause-permutation : goal.returns-clause-permutation
-returns-clause-permutation c =
-    let journals = c.args.journals.items in
-    subst (IsPermutation (all_entries journals)) (sym (returns-clause-merged c)) (merged_permutes journals)
+    let all = all_listed (merged journals) (merged (left_of journals w.places.items)) w.entries.items (none_left journals w.places.items w.numbers.items kept none) w.invariant.told in
+    record {
+      merged = all;
+      ascending = subst (IsAscending entry_number entry_worker) (sym all) (merged_ascends journals kept.by_worker kept.lawful);
+      parts = λ worker. ap (part entry_worker worker) all ∙ merged_parts journals worker kept.by_worker kept.lawful;
+      permutation = subst (IsPermutation (all_entries journals)) (sym all) (merged_permutes journals);
+    }

@@ -1,6 +1,6 @@
 use Rattle.std.proofs.Common.{rules, ◌≡◌, length, Some, IfSome, refl, ap, ◌∙◌, subst}
-use Rattle.split_engine.specs.Serial.{acts_at, IsWithin}
-use Rattle.application_log.proofs.LogLemmas.{length-acts, line_behind, opened_more}
+use Rattle.split_engine.{proofs.Splits.{length-acts}, specs.Serial.{acts_at, IsWithin}}
+use Rattle.application_log.proofs.LogLemmas.{line_behind, opened_more}
 use Rattle.application_log.proofs.opening.OpenedLog.add_line.Goals as goal
 
 pub returns-clause-opened : goal.returns-clause-opened

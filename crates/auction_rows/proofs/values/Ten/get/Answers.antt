@@ -1,5 +1,6 @@
-use Rattle.std.proofs.Common.{◌<◌, ◌≤◌, length, lt_of_lt_of_le, subst}
-use Rattle.auction_rows.proofs.TenPlaces.{get-packed, get-past}
+use Rattle.std.proofs.Common.{◌<◌, ◌≤◌, length, lt_of_lt_of_le, subst, sym}
+use Rattle.std.proofs.lemmas.Option.{slice_get_past}
+use Rattle.auction_rows.proofs.TenPlaces.{get-packed}
 use Rattle.auction_rows.proofs.values.Ten.get.Goals as goal
 
 pub returns-then-place-len : goal.returns-then-place-len
@@ -10,7 +11,7 @@ returns-then-place-len g c =
 pub returns-else-place-len : goal.returns-else-place-len
 returns-else-place-len g c =
     let past : length c.args.self.now ≤ c.args.place = subst (λ n. n ≤ c.args.place) c.len.ensures.length c.if-place-len.false in
-    get-past c.args.self.now c.args.place past
+    sym (slice_get_past c.args.self.now c.args.place past)
 
 pub bounds-self-inside-place : goal.bounds-self-inside-place
 bounds-self-inside-place g c = lt_of_lt_of_le c.if-place-len.true c.len.ensures.at_most_ten

@@ -1,5 +1,6 @@
-use Rattle.std.proofs.{Common.{◌≡◌, length, map, ap, ◌∙◌, subst, arith}, lemmas.List.{length-map}}
-use Rattle.shard_boxes.{proofs.Each.{each_push, map_push}, specs.States.{state_of, no_shard}}
+use Rattle.std.proofs.Common.{◌≡◌, length, map, ap, ◌∙◌, subst, arith}
+use Rattle.std.proofs.lemmas.List.{length-map, map_push}
+use Rattle.shard_boxes.{proofs.Each.{each_push}, specs.States.{state_of, no_shard}}
 use Rattle.auction_shards.proofs.Blank.{blank_of_new, one_of_blank}
 use Rattle.auction_shards.specs.Making.{AreBlank, IsBlank}
 use Rattle.auction_shards.proofs.shards.Shards.new.Goals as goal

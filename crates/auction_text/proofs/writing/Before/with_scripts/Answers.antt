@@ -9,8 +9,7 @@ loop-worker-init c = counted_none _ c.args.scripts.now
 pub loop-worker-preserved : goal.loop-worker-preserved
 loop-worker-preserved c =
     let lookup = c.in_ok-get.ensures.lookup in
-    let script = c.index-scripts-worker.result in
-    counted_more _ c.args.scripts.now c.loop-worker.requests c.loop-worker.worker c.in_ok-count.count c.in_ok-get.field-0.now c.len.result script
+    counted_more _ c.args.scripts.now c.loop-worker.requests c.loop-worker.worker c.in_ok-count.count c.in_ok-get.field-0.now c.len.result c.index-scripts-worker.result
     lookup.3.0 c.loop-worker-test.true lookup.1 c.index-scripts-worker.is c.len.ensures c.in_ok-count.ensures.1 c.loop-worker.invariant
 
 pub returns-clause-requests : goal.returns-clause-requests

@@ -1,5 +1,6 @@
-use Rattle.std.{proofs.Common.{◌++◌, ◌∙◌, Ok, ap, map}, specs.Vec.Iter.{into_iter_items}}
-use Rattle.auction_text.proofs.EachLemmas.{all_made_at_end, made_more, none_left}
+use Rattle.std.proofs.{Common.{◌++◌, ◌∙◌, Ok, ap, map, sym}, lemmas.List.{nil_from_length}}
+use Rattle.std.specs.Vec.Iter.{into_iter_items}
+use Rattle.auction_text.proofs.EachLemmas.{all_made_at_end, made_more}
 use Rattle.auction_text.proofs.writing.reply_order.all_made.Goals as goal
 
 pub loop-text-init : goal.loop-text-init
@@ -14,4 +15,4 @@ loop-text-preserved c =
 pub returns : goal.returns
 returns c =
     let left = c.loop-text.text-iterator.rest in
-    all_made_at_end c.args.made.items left.items c.loop-text.texts.items c.loop-text.invariant (none_left left.items _ left.ok.0 c.in-None.ensures.steps.0)
+    all_made_at_end c.args.made.items left.items c.loop-text.texts.items c.loop-text.invariant (nil_from_length left.items (sym left.ok.0 ∙ c.in-None.ensures.steps.0))

@@ -22,9 +22,8 @@ line_more text e rest left is =
 
 pub loop-entry-preserved : goal.loop-entry-preserved
 loop-entry-preserved c =
-    let e = c.in-Some.entry in
     ap (λ (text : List ℕ). text ++ lines row_line (rows_of c.next.new.self)) c.in_ok-push_row_of.ensures
-    ∙ line_more c.loop-entry.text.items e c.next.new.self c.loop-entry.entry-iterator c.in-Some.ensures.steps
+    ∙ line_more c.loop-entry.text.items c.in-Some.entry c.next.new.self c.loop-entry.entry-iterator c.in-Some.ensures.steps
     ∙ c.loop-entry.invariant
 
 pub returns : goal.returns

@@ -1,32 +1,20 @@
 use Rattle.std.proofs.{Common.{arith, ◌∙◌, sym}, lemmas.Result.{IfOk-from_err}}
 use Rattle.auction_window.proofs.publisher.Publisher.new.Goals as goal
 
-pub returns-in_err-first-clause-publisher : goal.returns-in_err-first-clause-publisher
-returns-in_err-first-clause-publisher g c = IfOk-from_err c.from_residual.result _ c.from_residual.ensures.0
+pub returns-in_err-first : goal.returns-in_err-first
+returns-in_err-first g c =
+    let result = c.from_residual.result in let err = c.from_residual.ensures.0 in
+    record { publisher = IfOk-from_err result _ err; windows = IfOk-from_err result _ err; nothing = IfOk-from_err result _ err }
 
-pub returns-in_err-first-clause-windows : goal.returns-in_err-first-clause-windows
-returns-in_err-first-clause-windows g c = IfOk-from_err c.from_residual.result _ c.from_residual.ensures.0
+pub returns-in_err-second : goal.returns-in_err-second
+returns-in_err-second g c =
+    let result = c.from_residual-in_err-second.result in let err = c.from_residual-in_err-second.ensures.0 in
+    record { publisher = IfOk-from_err result _ err; windows = IfOk-from_err result _ err; nothing = IfOk-from_err result _ err }
 
-pub returns-in_err-first-clause-nothing : goal.returns-in_err-first-clause-nothing
-returns-in_err-first-clause-nothing g c = IfOk-from_err c.from_residual.result _ c.from_residual.ensures.0
-
-pub returns-in_err-second-clause-publisher : goal.returns-in_err-second-clause-publisher
-returns-in_err-second-clause-publisher g c = IfOk-from_err c.from_residual-in_err-second.result _ c.from_residual-in_err-second.ensures.0
-
-pub returns-in_err-second-clause-windows : goal.returns-in_err-second-clause-windows
-returns-in_err-second-clause-windows g c = IfOk-from_err c.from_residual-in_err-second.result _ c.from_residual-in_err-second.ensures.0
-
-pub returns-in_err-second-clause-nothing : goal.returns-in_err-second-clause-nothing
-returns-in_err-second-clause-nothing g c = IfOk-from_err c.from_residual-in_err-second.result _ c.from_residual-in_err-second.ensures.0
-
-pub returns-in_err-writer-clause-publisher : goal.returns-in_err-writer-clause-publisher
-returns-in_err-writer-clause-publisher g c = IfOk-from_err c.from_residual-in_err-writer.result _ c.from_residual-in_err-writer.ensures.0
-
-pub returns-in_err-writer-clause-windows : goal.returns-in_err-writer-clause-windows
-returns-in_err-writer-clause-windows g c = IfOk-from_err c.from_residual-in_err-writer.result _ c.from_residual-in_err-writer.ensures.0
-
-pub returns-in_err-writer-clause-nothing : goal.returns-in_err-writer-clause-nothing
-returns-in_err-writer-clause-nothing g c = IfOk-from_err c.from_residual-in_err-writer.result _ c.from_residual-in_err-writer.ensures.0
+pub returns-in_err-writer : goal.returns-in_err-writer
+returns-in_err-writer g c =
+    let result = c.from_residual-in_err-writer.result in let err = c.from_residual-in_err-writer.ensures.0 in
+    record { publisher = IfOk-from_err result _ err; windows = IfOk-from_err result _ err; nothing = IfOk-from_err result _ err }
 
 pub new-requires : goal.new-requires
 new-requires g c = record { opening = c.requires.opening; rows = c.requires.rows; phases = c.again.ensures ∙ c.named-count.ensures }

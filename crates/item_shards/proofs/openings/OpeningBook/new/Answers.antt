@@ -10,13 +10,12 @@ use Rattle.item_shards.proofs.openings.OpeningBook.new.Goals as goal
 pub add_opened-requires : goal.add_opened-requires
 add_opened-requires c = λ below.
     let all = c.deref-opened-items.result.now in
-    let i = c.loop-index.index in
     let before = c.loop-index.invariant in
     let fits = fits_in c.is_too_long.result c.deref.result.now all c.if-is_too_long.false c.is_too_long.ensures (c.deref.ensures.value ∙ sym c.deref-opened-items.ensures.value) in
     record {
       book = c.loop-index.book.items;
       holds = before.holds;
-      not_full = subst (λ b. length b < 16000000) (sym before.rows_are) (not_full c.args.opening all fits i c.opened-item.result c.loop-index-test.true c.opened-item.is before.accepted below);
+      not_full = subst (λ b. length b < 16000000) (sym before.rows_are) (not_full c.args.opening all fits c.loop-index.index c.opened-item.result c.loop-index-test.true c.opened-item.is before.accepted below);
     }
 
 pub returns-in_err-auction : goal.returns-in_err-auction
@@ -29,20 +28,6 @@ returns-in_err-row c = for_memory c.from_residual-in_err-row.result c.args.rows.
 
 pub returns-in_err-push-in-Some : goal.returns-in_err-push-in-Some
 returns-in_err-push-in-Some c = for_memory c.from_residual-in_err-push-in-Some.result c.args.rows.items _ _ _ _ _ c.from_residual-in_err-push-in-Some.ensures.1
-    (fits_in c.is_too_long.result c.deref.result.now c.args.rows.items c.if-is_too_long.false c.is_too_long.ensures c.deref.ensures.value)
-
-pub returns-in-None-clause-rows : goal.returns-in-None-clause-rows
-returns-in-None-clause-rows c = tt
-
-pub returns-in-None-clause-opening : goal.returns-in-None-clause-opening
-returns-in-None-clause-opening c = tt
-
-pub returns-in-None-clause-accepted : goal.returns-in-None-clause-accepted
-returns-in-None-clause-accepted c = tt
-
-pub returns-in-None-clause-too_long : goal.returns-in-None-clause-too_long
-returns-in-None-clause-too_long c =
-    neither (not_long _)
     (fits_in c.is_too_long.result c.deref.result.now c.args.rows.items c.if-is_too_long.false c.is_too_long.ensures c.deref.ensures.value)
 
 pub returns-then-is_too_long : goal.returns-then-is_too_long
@@ -84,8 +69,8 @@ returns c =
       bad_row = λ n e. absurd (no_fault _ _ e);
     }
 
-pub returns-in-None-clause-bad_row : goal.returns-in-None-clause-bad_row
-returns-in-None-clause-bad_row c = λ n e.
+pub returns-in-None : goal.returns-in-None
+returns-in-None c =
     let all = c.deref-opened-items.result.now in
     let i = c.loop-index.index in
     let opened = c.opened-item.result in
@@ -95,10 +80,15 @@ returns-in-None-clause-bad_row c = λ n e.
     let no_row : ¬ IsRow (serial_opening c.loop-index.auction) c.loop-index.book.items opened = (rw c.in-None.is at c.in_ok-row.ensures.bad) c.loop-index.book.items before.holds in
     let first = first_bad start all fits i opened c.loop-index-test.true c.opened-item.is before.accepted
     (λ row. no_row (row_moved start (serial_opening c.loop-index.auction) (opening_rows start (take i all)) c.loop-index.book.items opened (sym before.opening_is) (sym before.rows_are) row)) in
-    subst (λ rows. IsFirstBad start rows n) c.deref-opened-items.ensures.value (subst (IsFirstBad start all) (same_number (i + 1) n e) first)
-
-pub returns-in-None-clause-ok : goal.returns-in-None-clause-ok
-returns-in-None-clause-ok c = λ are fits. absurd (not_rows _ _ _ (returns-in-None-clause-bad_row c (c.loop-index.index + 1) refl) are)
+    let bad = subst (λ rows. IsFirstBad start rows (i + 1)) c.deref-opened-items.ensures.value first in
+    record {
+      rows = tt;
+      opening = tt;
+      accepted = tt;
+      ok = λ are _. absurd (not_rows _ _ _ bad are);
+      too_long = neither (not_long _) (fits_in c.is_too_long.result c.deref.result.now c.args.rows.items c.if-is_too_long.false c.is_too_long.ensures c.deref.ensures.value);
+      bad_row = λ n e. subst (IsFirstBad start c.args.rows.items) (same_number (i + 1) n e) bad;
+    }
 
 pub loop-index-preserved : goal.loop-index-preserved
 loop-index-preserved c =

@@ -7,9 +7,8 @@ use Rattle.item_shards.proofs.shard.Shard.apply_acts.Goals as goal
 
 pub act-requires : goal.act-requires
 act-requires c =
-    let old = c.args.self.now in
     let acts = two_of c.args.acts.now c.index-acts-0.result c.index-acts-1.result c.type_inv.acts in
-    (subst (CanDo old) acts c.requires.can).0
+    (subst (CanDo c.args.self.now) acts c.requires.can).0
 
 pub act-requires-2 : goal.act-requires-2
 act-requires-2 c =

@@ -17,9 +17,8 @@ stock-requires c = record { here = c.requires.here c.in-Some.item (sym c.item_of
 
 pub returns-in-Some : goal.returns-in-Some
 returns-in-Some c =
-    let request = c.args.request.now in
     let its = λ (id : ItemId). stock (contents c.args.self.now (Item id)) in
-    c.refusal_with.ensures ∙ ap (λ found. refusal_with found request) (c.stock.ensures.contents ∙ sym (ap (option_and_then its) (sym c.item_of.ensures ∙ c.in-Some.is)))
+    c.refusal_with.ensures ∙ ap (λ found. refusal_with found c.args.request.now) (c.stock.ensures.contents ∙ sym (ap (option_and_then its) (sym c.item_of.ensures ∙ c.in-Some.is)))
 
 pub returns-in-None : goal.returns-in-None
 returns-in-None c =

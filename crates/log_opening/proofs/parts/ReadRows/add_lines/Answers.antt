@@ -26,7 +26,6 @@ overflow_add-result-in-Err-add_rows c =
 pub returns-in-Err-add_rows-clause-refused : goal.returns-in-Err-add_rows-clause-refused
 returns-in-Err-add_rows-clause-refused c = λ book has behind.
     let auction = c.args.self.now.auction in
-    let lines = c.args.lines.now in
     let workers = length auction.counters in
     let asked : Asked = record { rows = c.in-Ok.input.rows.items; scripts = c.in-Ok.input.scripts.items } in
     let place = c.in-Err-add_rows.field-0.place in
@@ -34,7 +33,7 @@ returns-in-Err-add_rows-clause-refused c = λ book has behind.
     record {
       are_lines = c.requires.lines;
       asked = asked;
-      read = ap (λ (w : ℕ). input_of w lines) (sym c.workers.ensures.count) ∙ c.in-Ok.ensures.input;
+      read = ap (λ (w : ℕ). input_of w c.args.lines.now) (sym c.workers.ensures.count) ∙ c.in-Ok.ensures.input;
       place = place;
       first = subst (λ (all : List Opened). IsFirstRefused auction.limit fault workers auction.opening book all place) c.as_slice.ensures.value (c.in-Err-add_rows.ensures.refused book has.start);
       number_is = ap (λ (n : ℕ). n + place + 1) has.rows;

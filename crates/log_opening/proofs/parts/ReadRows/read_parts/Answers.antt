@@ -2,11 +2,12 @@ use Rattle.std.proofs.Common.{arith, ◌≡◌, ◌≤◌, ◌+◌, ◌++◌, �
 use Rattle.std.proofs.lemmas.List.{length-take-le}
 use Rattle.auction_text.specs.ReadFault.TheVariants as read
 use Rattle.log_opening.proofs.PartLemmas.{same_then}
-use Rattle.log_opening.proofs.ReadingLemmas.{error_is, held_more, not_read, read_more, refused_after, rows_within, told_first, told_some, too_long}
+use Rattle.log_opening.proofs.ReadingLemmas.{held_more, not_read, read_more, refused_after, rows_within, told_first, told_some, too_long}
 use Rattle.log_opening.specs.{Opening.{IsRefusedBy, TellsFirst}, Parts.{HasNoEnd}}
 use Rattle.log_opening.specs.{declared.opening.OpenFault.{OpenFault}, inner.Reading.{IsReadTo}}
 use Rattle.log_opening.specs.declared.opening.OpenFault.TheVariants as fault
 use Rattle.log_opening.proofs.parts.ReadRows.read_parts.Goals as goal
+use Rattle.part_log.proofs.TellingLemmas.{error_is}
 
 pub returns-in_default-clause-refused : goal.returns-in_default-clause-refused
 returns-in_default-clause-refused g c =

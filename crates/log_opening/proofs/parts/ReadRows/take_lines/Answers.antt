@@ -1,9 +1,10 @@
 use Rattle.std.proofs.Common.{arith, ◌≡◌, ◌-◌, ◌∙◌, ◌++◌, ℕ, List, length, take, sym, ap}
 use Rattle.auction_rows.specs.Book.{Book}
-use Rattle.log_opening.proofs.ReadingLemmas.{error_is, lines_of, moved_up, none_ends, refused_front, split_at, tells_front, tells_none, tells_some}
+use Rattle.log_opening.proofs.ReadingLemmas.{lines_of, moved_up, none_ends, refused_front, split_at, tells_front, tells_none, tells_some}
 use Rattle.log_opening.proofs.WholeLines.{whole_lines_are}
 use Rattle.log_opening.specs.{declared.opening.OpenFault.{OpenFault}, inner.Reading.{HasRead, IsRefusedBehind, TellsSome}}
 use Rattle.log_opening.proofs.parts.ReadRows.take_lines.Goals as goal
+use Rattle.part_log.proofs.TellingLemmas.{error_is}
 
 pub add_lines-requires-clause-lines : goal.add_lines-requires-clause-lines
 add_lines-requires-clause-lines g c =

@@ -28,10 +28,9 @@ returns-clause-taken g c =
 
 pub returns-clause-accepted : goal.returns-clause-accepted
 returns-clause-accepted g c =
-    let F = g.F.AppendFile in
     let log = c.self.inside in
     let was = ap (λ (state : LogState). state.accepted) c.self.view_is in
     elim c.match-cut.branch [
-      | in-Ok w ↦ ap (option_map (take log.kept)) w.in-Ok.ensures.cut_synced ∙ cut_twice log.kept (F.synced log.file) ∙ was
+      | in-Ok w ↦ ap (option_map (take log.kept)) w.in-Ok.ensures.cut_synced ∙ cut_twice log.kept (g.F.AppendFile.synced log.file) ∙ was
       | in-Err w ↦ ap (option_map (take log.kept)) (w.in-Err.ensures.kept_synced refl) ∙ was
     ]

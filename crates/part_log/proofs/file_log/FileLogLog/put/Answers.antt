@@ -9,12 +9,10 @@ returns-clause-accepted g c =
     let log = c.self.inside in
     let new = c.sync.new.self in
     let bytes = c.args.bytes.now in
-    let whole = c.in_default-append.ensures.whole in
-    let kept_too = c.in_default-sync.ensures.synced in
     subst (λ (state : LogState). Appends state.accepted (option_map (take c.in-Some.kept) (F.synced new)) bytes) c.self.view_is
     (subst (λ kept. Appends (option_map (take log.kept) (F.synced log.file)) (option_map (take kept) (F.synced new)) bytes) (sym c.in-Some.ensures.1)
     (accepted_more (F.held log.file) (F.synced log.file) (F.held new) (F.synced new) log.kept bytes
-    (subst (λ ended. IsKeptIn (F.held log.file) log.kept ended) c.if-self.false c.self.invariant.0) c.self.invariant.1 (c.sync.ensures.held ∙ whole) kept_too))
+    (subst (λ ended. IsKeptIn (F.held log.file) log.kept ended) c.if-self.false c.self.invariant.0) c.self.invariant.1 (c.sync.ensures.held ∙ c.in_default-append.ensures.whole) c.in_default-sync.ensures.synced))
 
 pub invariant_of-self-in-Err-sync : goal.invariant_of-self-in-Err-sync
 invariant_of-self-in-Err-sync g c =

@@ -50,20 +50,12 @@ loop-receipt-preserved g c =
           (all_push (IsFinished (length g.N.PhaseName.initial)) (take n all) receipt was.finished (record { explained = o.explained; room = o.room; most = o.limit; few = o.few }));
     }
 
-pub returns-clause-parts : goal.returns-clause-parts
-returns-clause-parts g c =
-    let was = c.loop-receipt.invariant in let parts = c.loop-receipt in let all = c.args.receipts.items in
-    subst (λ done. ArePartsOf done parts.journals.items parts.stashes.items parts.keys.items parts.counters.items)
-    (take_all (vec_len parts.keys) all (omega (arith, was.count, c.in-None.ensures.steps, c.args.receipts.ok.0))) was.parts
-
-pub returns-clause-slices : goal.returns-clause-slices
-returns-clause-slices g c =
-    let was = c.loop-receipt.invariant in let parts = c.loop-receipt in let all = c.args.receipts.items in
-    subst (λ done. parts.slices.items ≡ slices_kept g.K.Kind.IS_JOINED done)
-    (take_all (vec_len parts.keys) all (omega (arith, was.count, c.in-None.ensures.steps, c.args.receipts.ok.0))) was.slices
-
-pub returns-clause-finished : goal.returns-clause-finished
-returns-clause-finished g c =
-    let was = c.loop-receipt.invariant in let parts = c.loop-receipt in let all = c.args.receipts.items in
-    subst (AllByRecursion (IsFinished (length g.N.PhaseName.initial)))
-    (take_all (vec_len parts.keys) all (omega (arith, was.count, c.in-None.ensures.steps, c.args.receipts.ok.0))) was.finished
+pub returns : goal.returns
+returns g c =
+    let was = c.loop-receipt.invariant in let parts = c.loop-receipt in
+    let all = take_all (vec_len parts.keys) c.args.receipts.items (omega (arith, was.count, c.in-None.ensures.steps, c.args.receipts.ok.0)) in
+    record {
+      parts = subst (λ done. ArePartsOf done parts.journals.items parts.stashes.items parts.keys.items parts.counters.items) all was.parts;
+      slices = subst (λ done. parts.slices.items ≡ slices_kept g.K.Kind.IS_JOINED done) all was.slices;
+      finished = subst (AllByRecursion (IsFinished (length g.N.PhaseName.initial))) all was.finished;
+    }

@@ -43,29 +43,18 @@ close_kept-given-requires g c =
     subst (λ (boxes : List BoxId). AreSpent boxes workers c.in_ok-journals.field-0.keys.items) (sym (ap (λ (f : FloorState). f.boxes) c.self.view_is))
     (subst (λ (keys : List KeyState). AreSpent c.args.self.boxes workers keys) (sym e.parts.keys_are) spent)
 
-pub reconciled-shards-requires-clause-shards : goal.reconciled-shards-requires-clause-shards
-reconciled-shards-requires-clause-shards g c =
+pub reconciled-shards-requires : goal.reconciled-shards-requires
+reconciled-shards-requires g c =
     let initial = g.N.PhaseName.initial in let workers = g.N.PhaseName.workers in let receipts = c.args.receipts.items in
     let e = c.in_ok-journals.ensures in let h = c.in_ok-add_phase_on.ensures in let parts = c.in_ok-journals.field-0 in
     let is_open = subst (IsOpen initial workers) c.self.view_is c.self.invariant.1 in
     let same = all_kept g.K.Kind.IS_JOINED c.args.self receipts parts.slices.items (subst (IsEmptyIf g.K.Kind.IS_JOINED) (ap (λ (f : FloorState). f.stocks) c.self.view_is) c.self.invariant.0) c.requires.receipts e.slices in
-    shards_one initial workers c.args.self is_open receipts c.requires.receipts e.finished (map state_of c.close_kept-given.result.0.items) c.args.history.now c.add_phase_on.new.self parts.journals.items parts.stashes.items parts.keys.items parts.counters.items parts.slices.items e.parts same h.added h.lawful c.close_kept-given.ensures.closed
-
-pub reconciled-shards-requires-clause-known : goal.reconciled-shards-requires-clause-known
-reconciled-shards-requires-clause-known g c =
-    let initial = g.N.PhaseName.initial in let workers = g.N.PhaseName.workers in let receipts = c.args.receipts.items in
-    let e = c.in_ok-journals.ensures in let h = c.in_ok-add_phase_on.ensures in let parts = c.in_ok-journals.field-0 in
-    let is_open = subst (IsOpen initial workers) c.self.view_is c.self.invariant.1 in
-    let same = all_kept g.K.Kind.IS_JOINED c.args.self receipts parts.slices.items (subst (IsEmptyIf g.K.Kind.IS_JOINED) (ap (λ (f : FloorState). f.stocks) c.self.view_is) c.self.invariant.0) c.requires.receipts e.slices in
-    slices_known initial workers c.args.self is_open receipts c.requires.receipts e.finished (map state_of c.close_kept-given.result.0.items) c.args.history.now c.add_phase_on.new.self parts.journals.items parts.stashes.items parts.keys.items parts.counters.items parts.slices.items e.parts same h.added h.lawful c.close_kept-given.ensures.closed
-
-pub reconciled-shards-requires-clause-can : goal.reconciled-shards-requires-clause-can
-reconciled-shards-requires-clause-can g c =
-    let initial = g.N.PhaseName.initial in let workers = g.N.PhaseName.workers in let receipts = c.args.receipts.items in
-    let e = c.in_ok-journals.ensures in let h = c.in_ok-add_phase_on.ensures in let parts = c.in_ok-journals.field-0 in
-    let is_open = subst (IsOpen initial workers) c.self.view_is c.self.invariant.1 in
-    let same = all_kept g.K.Kind.IS_JOINED c.args.self receipts parts.slices.items (subst (IsEmptyIf g.K.Kind.IS_JOINED) (ap (λ (f : FloorState). f.stocks) c.self.view_is) c.self.invariant.0) c.requires.receipts e.slices in
-    slices_can initial workers c.args.self is_open receipts c.requires.receipts e.finished (map state_of c.close_kept-given.result.0.items) c.args.history.now c.add_phase_on.new.self parts.journals.items parts.stashes.items parts.keys.items parts.counters.items parts.slices.items e.parts same h.added h.lawful c.close_kept-given.ensures.closed
+    let shards = map state_of c.close_kept-given.result.0.items in let closed = c.close_kept-given.ensures.closed in
+    record {
+      shards = shards_one initial workers c.args.self is_open receipts c.requires.receipts e.finished shards c.args.history.now c.add_phase_on.new.self parts.journals.items parts.stashes.items parts.keys.items parts.counters.items parts.slices.items e.parts same h.added h.lawful closed;
+      known = slices_known initial workers c.args.self is_open receipts c.requires.receipts e.finished shards c.args.history.now c.add_phase_on.new.self parts.journals.items parts.stashes.items parts.keys.items parts.counters.items parts.slices.items e.parts same h.added h.lawful closed;
+      can = slices_can initial workers c.args.self is_open receipts c.requires.receipts e.finished shards c.args.history.now c.add_phase_on.new.self parts.journals.items parts.stashes.items parts.keys.items parts.counters.items parts.slices.items e.parts same h.added h.lawful closed;
+    }
 
 module _ (g : given.Over) (c : After-reconciled-shards g) where
   is_open : IsOpen g.N.PhaseName.initial g.N.PhaseName.workers c.args.self

@@ -44,35 +44,18 @@ loop-row-preserved c =
       book = subst (IsBookOf c.add_row.new.self) (sym more) (added.book (take i rows) was.book (subst (λ o. GoOn o (take i rows) (r ∷ [])) (sym was.opening) goes_on));
     }
 
-pub returns-clause-opening : goal.returns-clause-opening
-returns-clause-opening c = c.loop-row.invariant.opening
-
-pub returns-clause-limit : goal.returns-clause-limit
-returns-clause-limit c = c.loop-row.invariant.limit
-
-pub returns-clause-phase : goal.returns-clause-phase
-returns-clause-phase c = c.loop-row.invariant.phase
-
-pub returns-clause-shards : goal.returns-clause-shards
-returns-clause-shards c = c.loop-row.invariant.shards
-
-pub returns-clause-workers : goal.returns-clause-workers
-returns-clause-workers c = c.loop-row.invariant.workers
-
-pub returns-clause-counters : goal.returns-clause-counters
-returns-clause-counters c =
+pub returns : goal.returns
+returns c =
     let rows = c.rows-row-items.result.now in let i = c.loop-row.row-index in let was = c.loop-row.invariant in
     let done : length rows ≤ i = omega arith in
-    λ w low. was.counters w low ∙ ap (λ b. counters_in b w) (take_all i rows done ∙ c.rows-row-items.ensures.rows)
-
-pub returns-clause-stands : goal.returns-clause-stands
-returns-clause-stands c =
-    let rows = c.rows-row-items.result.now in let i = c.loop-row.row-index in let was = c.loop-row.invariant in
-    let done : length rows ≤ i = omega arith in
-    subst (StandsFor c.loop-row.joined) (take_all i rows done ∙ c.rows-row-items.ensures.rows) was.book.stands
-
-pub returns-clause-book : goal.returns-clause-book
-returns-clause-book c =
-    let rows = c.rows-row-items.result.now in let i = c.loop-row.row-index in let was = c.loop-row.invariant in
-    let done : length rows ≤ i = omega arith in
-    subst (IsBookOf c.loop-row.joined) (take_all i rows done ∙ c.rows-row-items.ensures.rows) was.book
+    let all = take_all i rows done ∙ c.rows-row-items.ensures.rows in
+    record {
+      opening = was.opening;
+      limit = was.limit;
+      phase = was.phase;
+      shards = was.shards;
+      workers = was.workers;
+      counters = λ w low. was.counters w low ∙ ap (λ b. counters_in b w) all;
+      stands = subst (StandsFor c.loop-row.joined) all was.book.stands;
+      book = subst (IsBookOf c.loop-row.joined) all was.book;
+    }

@@ -4,8 +4,9 @@ use Rattle.auction_rows.specs.Replies.{answer, answer_unless, reply, row_of}
 use Rattle.phase_permits.specs.Replying.{CountsOf}
 use Rattle.phase_transactions.specs.Workers.{no_counters}
 use Rattle.closing_laws.specs.Standing.{counters_at}
-use Rattle.phase_floor.{proofs.RowLemmas.{view_adds_none}, specs.States.{JoinedState}}
+use Rattle.phase_floor.specs.States.{JoinedState}
 use Rattle.phase_floor.proofs.joined.Joined.row_at.Goals as goal
+use Rattle.item_shards.proofs.SerialLemmas.{view_adds_none}
 
 pub returns-in_err-stored : goal.returns-in_err-stored
 returns-in_err-stored c = λ book stands accepted.

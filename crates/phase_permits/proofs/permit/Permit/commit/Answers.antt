@@ -22,9 +22,8 @@ invariant_of-self-2 g c =
 pub returns-then-is_put_off-clause-joined : goal.returns-then-is_put_off-clause-joined
 returns-then-is_put_off-clause-joined g c joined =
     let kind = g.K.Kind.IS_JOINED in
-    let slices = c.count_try.new.self.slices in
     let cold = subst (λ (w : WorkerState). IsEmptyIf kind w.slices) (sym c.count_try.ensures) c.self.invariant.0 in
-    sym (not_put_off kind slices c.args.request.now cold joined) ∙ sym c.is_put_off.ensures ∙ c.if-is_put_off.true
+    sym (not_put_off kind c.count_try.new.self.slices c.args.request.now cold joined) ∙ sym c.is_put_off.ensures ∙ c.if-is_put_off.true
 
 pub returns-in_err-transact-clause-untouched : goal.returns-in_err-transact-clause-untouched
 returns-in_err-transact-clause-untouched g c =

@@ -5,8 +5,8 @@ use Rattle.auction_rows.specs.declared.requests.Object.TheVariants.{Item, User}
 use Rattle.auction_rows.specs.declared.requests.{Facts.Facts, ItemId.ItemId, Object.Object}
 use Rattle.worker_slices.proofs.Places.{stocks_of_rows}
 use Rattle.worker_slices.specs.Slicing.{hot_objects, slices_of, stocks_of}
-use Rattle.phase_floor.proofs.HotItems.{objects_of_slices}
-use Rattle.phase_tests.proofs.permits.HotLemmas.{only_item, stash_room}
+use Rattle.phase_floor.proofs.{BeginLemmas.{room_for_all}, HotItems.{objects_of_slices}}
+use Rattle.phase_tests.proofs.permits.HotLemmas.{only_item}
 use Rattle.phase_tests.proofs.permits.split.split_permit.Goals as goal
 use Rattle.worker_journals.specs.Journals.{JournalView}
 
@@ -28,7 +28,7 @@ new-requires-2 g c =
       empty = ap (λ (j : JournalView). j.entries) journal;
       identities = slices ∙ ap (λ stocks. slices_of stocks []) (sym (ap stocks_of slices ∙ stocks_of_rows hot []));
       room = omega (arith, ap length empty, ap (λ (j : JournalView). j.room) journal);
-      stash_room = stash_room _ _ _ (omega (arith, room));
+      stash_room = room_for_all _ _ _ (omega (arith, room));
       limit = omega (arith, ap length empty);
       counted = record { items = omega arith; bids = omega arith; comments = omega arith; buys = omega arith };
       stored = λ item is own.

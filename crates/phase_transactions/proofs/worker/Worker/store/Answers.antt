@@ -31,10 +31,9 @@ returns-in-None-None g c =
     let old = c.args.self.now in
     let can = c.requires.can in
     let request = c.args.request.now in
-    let homes = c.homes-homes.result in
     let allowed : number_refusal old.opening request ≡ None = sym (ap (λ (w : WorkerState). number_refusal w.opening request) c.self.view_is) ∙ sym c.number_refusal.ensures ∙ c.in_default.is in
     stored_performed initial old c.store_hot.new.self request c.args.index can.idle c.store_hot.result c.store_hot.ensures
-    (λ answer stored. hot_untaken old c.store_hot.new.self (length initial) c.args.index request homes answer allowed stored
+    (λ answer stored. hot_untaken old c.store_hot.new.self (length initial) c.args.index request c.homes-homes.result answer allowed stored
     c.homes-homes.ensures.footprint
     (sym c.shard.ensures ∙ c.in-None-None.is-0) (sym c.shard-2.ensures ∙ c.in-None-None.is-1)) can.goes
 
@@ -75,11 +74,10 @@ returns-then-is_err g c =
     let homes = c.homes-homes.result in
     let step = step_of initial g.N.PhaseName.workers c.args.boxes.now old.key homes in
     let its = c.in_ok-begun.ensures.begun request (may_begin (length initial) old _ request homes _ c.self.view_is c.number_refusal.ensures c.in_default.is c.requires.can.goes c.homes-homes.ensures.homes c.homes-homes.ensures.footprint) in
-    let w = c.begin.new.self in
     let begun = begun_before c.in_ok-begun.begun c.prepare.new.begun c.prepare.ensures.same c.prepare.ensures.number its in
     let back : WorkerState = record (state_in c.self-2.inside) { key = c.put_back.new.key } in
     subst (λ (s : WorkerState). HasFailed initial s back request Memory) (λ i. record (c.begin.ensures.worker i) { key = old.key })
-    (begun_fails step w request c.prepare.new.begun begun back
+    (begun_fails step c.begin.new.self request c.prepare.new.begun begun back
     (subst (λ (s : WorkerState). AreBack s.key c.put_back.new.key) c.self-2.view_is c.put_back.ensures)
     (of_err c.prepare.result (sym c.is_err.ensures.value ∙ c.if-is_err.true) c.prepare.ensures.refused)
     (λ i. record (c.self-2.view_is i) { key = c.put_back.new.key }))

@@ -7,23 +7,8 @@ use Rattle.shard_boxes.specs.{Lines.{Line, after_lines}, Passes.{GrantState, sta
 use Rattle.shard_boxes.specs.{Seats.{IsFor}, States.{ShardState, state_of}}
 use Rattle.shard_boxes.proofs.key.Key.put.Goals as goal
 
-pub put-requires-clause-place : goal.put-requires-clause-place
-put-requires-clause-place g c =
-    let inside = c.self.inside in
-    let grants = inside.grants.items in
-    let below : c.args.s < length grants = subst (λ n. c.args.s < n) (sym (sym inside.grants.ok.0 ∙ c.self.invariant.1)) c.requires.known in
-    place_is grants c.args.self.now.boxes c.args.s c.index_mut-grant.result.now c.args.shard_box.now (ap (λ (x : KeyState). x.boxes) c.self.view_is) below c.index_mut-grant.ensures.value c.requires.place
-
-pub put-requires-clause-holds : goal.put-requires-clause-holds
-put-requires-clause-holds g c =
-    let inside = c.self.inside in
-    let grants = inside.grants.items in
-    let below : c.args.s < length grants = subst (λ n. c.args.s < n) (sym (sym inside.grants.ok.0 ∙ c.self.invariant.1)) c.requires.known in
-    let seat = read inside.worker grants c.args.s c.index_mut-grant.result.now c.args.self.now c.self.view_is below c.index_mut-grant.ensures.value in
-    ap (λ (t : SeatState). t.holds) (sym seat) ∙ c.requires.holds
-
-pub put-requires-clause-may : goal.put-requires-clause-may
-put-requires-clause-may g c =
+pub put-requires : goal.put-requires
+put-requires g c =
     let inside = c.self.inside in
     let grants = inside.grants.items in
     let grant = c.index_mut-grant.result.now in
@@ -31,7 +16,11 @@ put-requires-clause-may g c =
     let at = c.index_mut-grant.ensures.value in
     let start = ap (λ (l : GrantState). start_of l.knows) at ∙ (c.self.invariant.2 c.args.s grant below).start_is in
     let seat = read inside.worker grants c.args.s grant c.args.self.now c.self.view_is below at in
-    subst (λ (y : ShardState × List (ℕ × Line)). MayPut (after_lines y.0 y.1) (state_of c.args.shard) g.L.LineName.line) (λ i. (sym start i, (seat i).seen)) c.requires.may
+    record {
+      place = place_is grants c.args.self.now.boxes c.args.s grant c.args.shard_box.now (ap (λ (x : KeyState). x.boxes) c.self.view_is) below at c.requires.place;
+      holds = ap (λ (t : SeatState). t.holds) (sym seat) ∙ c.requires.holds;
+      may = subst (λ (y : ShardState × List (ℕ × Line)). MayPut (after_lines y.0 y.1) (state_of c.args.shard) g.L.LineName.line) (λ i. (sym start i, (seat i).seen)) c.requires.may;
+    }
 
 pub returns : goal.returns
 returns g c =

@@ -1,8 +1,8 @@
 use Rattle.std.proofs.Common.{length, set, suc, ap, sym, ◌∙◌, subst, arith}
-use Rattle.std.specs.List.{AllByRecursion}
+use Rattle.std.{proofs.lemmas.List.{get_or_default}, specs.List.{AllByRecursion}}
 use Rattle.split_engine.proofs.KeptSlices.{kept_set, length-spread, of_kept, spread_act}
-use Rattle.split_engine.proofs.Splits.{slice_act_fits, read_any}
-use Rattle.split_engine.specs.{Splitting.{after_slice_act}, inner.Kept.{spread}}
+use Rattle.split_engine.{proofs.Splits.{slice_act_fits}, specs.Splitting.{after_slice_act}}
+use Rattle.split_engine.specs.inner.Kept.{spread}
 use Rattle.split_engine.proofs.slices.Slices.act.Goals as goal
 
 pub place_of-requires-clause-within : goal.place_of-requires-clause-within
@@ -19,7 +19,7 @@ apply_to_slice-requires-clause-fits g c =
     let s = g.A.Application in let fits = c.requires.fits in let found = c.in_ok-place.ensures in
     let guesses = c.place_of.new.guesses.items in let keys = c.place_of.new.keys.items in let slices = c.place_of.new.slices.items in
     let place = c.in_ok-place.place in
-    let read = c.index_mut.ensures.value ∙ read_any slices place c.index_mut.result.now s.rules.empty (omega (arith, found.at.0, found.kept.long)) in (
+    let read = c.index_mut.ensures.value ∙ get_or_default slices place c.index_mut.result.now s.rules.empty (omega (arith, found.at.0, found.kept.long)) in (
       fits.0,
       fits.1,
       subst (s.slice_fits fits.0) (sym read)
@@ -36,7 +36,7 @@ returns-clause-slices g c =
     let s = g.A.Application in let found = c.in_ok-place.ensures in
     let guesses = c.place_of.new.guesses.items in let keys = c.place_of.new.keys.items in let slices = c.place_of.new.slices.items in
     let place = c.in_ok-place.place in let key = c.args.key in let x = c.args.act in
-    let read = c.index_mut.ensures.value ∙ read_any slices place c.index_mut.result.now s.rules.empty (omega (arith, found.at.0, found.kept.long)) in
+    let read = c.index_mut.ensures.value ∙ get_or_default slices place c.index_mut.result.now s.rules.empty (omega (arith, found.at.0, found.kept.long)) in
     ap (λ slice. spread s.rules guesses keys (set slices place slice)) (c.apply_to_slice.ensures ∙ ap (λ slice. s.rules.sliced slice x) read)
     ∙ spread_act s.rules guesses keys slices place key x found.kept found.at.0 found.at.1
     ∙ ap (λ all. after_slice_act s.rules all key x) (found.same ∙ c.self.view_is)
@@ -46,7 +46,7 @@ returns-clause-fits g c n h =
     let s = g.A.Application in let found = c.in_ok-place.ensures in
     let guesses = c.place_of.new.guesses.items in let keys = c.place_of.new.keys.items in let slices = c.place_of.new.slices.items in
     let place = c.in_ok-place.place in let key = c.args.key in let x = c.args.act in
-    let read = c.index_mut.ensures.value ∙ read_any slices place c.index_mut.result.now s.rules.empty (omega (arith, found.at.0, found.kept.long)) in
+    let read = c.index_mut.ensures.value ∙ get_or_default slices place c.index_mut.result.now s.rules.empty (omega (arith, found.at.0, found.kept.long)) in
     let made = ap (λ slice. spread s.rules guesses keys (set slices place slice)) (c.apply_to_slice.ensures ∙ ap (λ slice. s.rules.sliced slice x) read)
     ∙ spread_act s.rules guesses keys slices place key x found.kept found.at.0 found.at.1
     ∙ ap (λ all. after_slice_act s.rules all key x) (found.same ∙ c.self.view_is) in

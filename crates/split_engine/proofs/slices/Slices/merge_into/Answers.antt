@@ -1,8 +1,8 @@
 use Rattle.std.proofs.Common.{◌<◌, length, refl, sym, ap, ◌∙◌, subst, arith}
-use Rattle.std.{proofs.lemmas.List.{length-set}, specs.List.{AllByRecursion}}
+use Rattle.std.{proofs.lemmas.List.{length-set, get_or_default}, specs.List.{AllByRecursion}}
 use Rattle.std.specs.Vec.Iter.{into_iter_items}
 use Rattle.split_engine.proofs.KeptSlices.{length-spread, of_kept, next_at, merged_first, record_fits, merged_one}
-use Rattle.split_engine.{proofs.Splits.{read_any}, specs.inner.Kept.{AreKept, spread}}
+use Rattle.split_engine.specs.inner.Kept.{AreKept, spread}
 use Rattle.split_engine.proofs.slices.Slices.merge_into.Goals as goal
 
 pub loop-place-init : goal.loop-place-init
@@ -22,7 +22,7 @@ index_mut-requires g c =
     let guesses = c.self.inside.guesses.items in let keys = c.self.inside.keys.items in
     let same = sym (length-spread s.rules guesses keys c.self.inside.slices.items) ∙ ap length c.self.view_is ∙ c.requires.len in
     let lt : place < length keys = omega (arith, c.loop-place-test.true, c.len-place-end.ensures, c.self.inside.keys.ok.0) in
-    omega (arith, c.index.ensures ∙ read_any keys place c.index.result.now 0 lt, c.self.invariant.within place lt, same, c.loop-place.invariant.size, c.loop-place.table.ok.0)
+    omega (arith, c.index.ensures ∙ get_or_default keys place c.index.result.now 0 lt, c.self.invariant.within place lt, same, c.loop-place.invariant.size, c.loop-place.table.ok.0)
 
 pub merge-requires : goal.merge-requires
 merge-requires g c =
@@ -32,7 +32,7 @@ merge-requires g c =
     let kept = subst (AreKept guesses keys) (sym own) c.self.invariant in
     let same = sym (length-spread s.rules guesses keys c.self.inside.slices.items) ∙ ap length c.self.view_is ∙ c.requires.len in
     let lt : place < length keys = omega (arith, c.loop-place-test.true, c.len-place-end.ensures, c.self.inside.keys.ok.0) in
-    let at = c.index.ensures ∙ read_any keys place c.index.result.now 0 lt in
+    let at = c.index.ensures ∙ get_or_default keys place c.index.result.now 0 lt in
     let slice = next_at all (into_iter_items c.next.new.self) place c.in-Some.slice s.rules.empty (omega (arith, lt, kept.long)) (sym was.left ∙ c.in-Some.ensures.items) in
     record {
       fits = (
@@ -56,7 +56,7 @@ loop-place-preserved g c =
     let kept = subst (AreKept guesses keys) (sym c.into_iter-slices.ensures.rest) c.self.invariant in
     let same = sym (length-spread s.rules guesses keys c.self.inside.slices.items) ∙ ap length c.self.view_is ∙ c.requires.len in
     let lt : place < length keys = omega (arith, c.loop-place-test.true, c.len-place-end.ensures, c.self.inside.keys.ok.0) in
-    let at = c.index.ensures ∙ read_any keys place c.index.result.now 0 lt in
+    let at = c.index.ensures ∙ get_or_default keys place c.index.result.now 0 lt in
     let slice = next_at all (into_iter_items c.next.new.self) place c.in-Some.slice s.rules.empty (omega (arith, lt, kept.long)) (sym was.left ∙ c.in-Some.ensures.items) in
     record {
       left = slice.1;

@@ -12,8 +12,7 @@ close_all-requires c = record { asked = λ scripts is. subst (AllByRecursion (Is
 
 pub invariant_of-self : goal.invariant_of-self
 invariant_of-self c =
-    let h = c.self.inside in
-    subst (λ phases. IsHistory phases h.len) (sym (ap journals_of c.in_err-push.ensures.items)) c.self.invariant
+    subst (λ phases. IsHistory phases c.self.inside.len) (sym (ap journals_of c.in_err-push.ensures.items)) c.self.invariant
 
 pub invariant_of-self-2 : goal.invariant_of-self-2
 invariant_of-self-2 c =

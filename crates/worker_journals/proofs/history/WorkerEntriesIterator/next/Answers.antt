@@ -1,12 +1,8 @@
-use Rattle.std.proofs.Common.{◌≡◌, ◌∙◌, ◌∷◌, List, [], length, refl, sym, ap, arith}
+use Rattle.std.proofs.{Common.{◌≡◌, ◌∙◌, [], sym, ap}, lemmas.List.{nil_from_length}}
 use Rattle.worker_journals.proofs.HistoryLemmas.{own_end, own_next, own_past}
 use Rattle.worker_journals.{proofs.StepLemmas.{goes_on}, specs.Merged.{entries_of}}
 use Rattle.worker_journals.specs.inner.{Phases.{journals_of}, Places.{own_left}}
 use Rattle.worker_journals.proofs.history.WorkerEntriesIterator.next.Goals as goal
-
-nothing : {X : Type 0} (xs : List X) → length xs ≡ 0 → xs ≡ []
-nothing [] none = refl
-nothing (x ∷ xs) none = absurd (omega (arith, none))
 
 pub returns-in-Some-clause-steps : goal.returns-in-Some-clause-steps
 returns-in-Some-clause-steps c =
@@ -30,6 +26,6 @@ phases-preserved c =
 pub returns-in_default-split_first-clause-steps : goal.returns-in_default-split_first-clause-steps
 returns-in_default-split_first-clause-steps c =
     let e = c.phases.self-inside in
-    let none : e.phases.now ≡ [] = nothing e.phases.now c.in_default-split_first.ensures.cases in
+    let none : e.phases.now ≡ [] = nil_from_length e.phases.now c.in_default-split_first.ensures.cases in
     let left = ap (λ ps. own_left e.worker e.here.now e.place (journals_of ps)) none ∙ own_end e.worker e.place e.here.now (sym c.in_default.ensures.entry) in
     (c.phases.invariant.left ∙ left, left)
