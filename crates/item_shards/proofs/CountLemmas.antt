@@ -1,5 +1,5 @@
 -- How many bids and comments an object of a book has, and how far a rating is from 0.
-use Rattle.std.proofs.Common.{◌≡◌, ℕ, ◌+◌, ◌*◌, ◌≤◌, ◌==◌, ℤ, pos, ◌+ℤ◌, Bool, true, false, cond, List, [], ◌∷◌, length, map, filter, fold, Option, Some, None, refl, sym, ap, ◌∙◌, subst, arith, unsigned_abs}
+use Rattle.std.proofs.Common.{◌≡◌, ℕ, ◌+◌, ◌*◌, ◌≤◌, ◌==◌, ℤ, pos, ◌+ℤ◌, Bool, true, false, cond, List, [], ◌∷◌, length, map, filter, fold, Option, Some, None, sym, ap, ◌∙◌, subst, arith, unsigned_abs}
 use Rattle.std.proofs.lemmas.{Int.{ints}, List.{length-map}}
 use mathlib.Core.List.{map-map}
 use Rattle.std.proofs.lemmas.List.Sums.{length-filter, count_by-le-length}

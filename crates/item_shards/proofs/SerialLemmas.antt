@@ -24,7 +24,7 @@ use Rattle.item_shards.proofs.StandingLemmas.{cold_here, row_stands}
 use Rattle.item_shards.specs.{Acting.{CanActOn, HasRoomFor}, Contents.{Contents, after_acts}}
 use Rattle.item_shards.specs.Counting.{stored_by, worker_of, counted, AreFew}
 use Rattle.item_shards.specs.{Events.{AddItem, ListItem}, Limits.{IsWithinLimits}}
-use Rattle.item_shards.specs.{Serial.{HoldsBook, serial_opening}, Standing.{ContentsStandsFor}}
+use Rattle.item_shards.specs.{Serial.{HoldsBook}, Standing.{ContentsStandsFor}}
 use Rattle.item_shards.specs.Values.{stock_in}
 use Rattle.item_shards.specs.Writing.{writes_of, writes_if, is_done_on, done_on}
 use Rattle.item_shards.specs.declared.serial.SerialAuction.{SerialAuction}

@@ -1,4 +1,4 @@
-use Rattle.std.proofs.Common.{rules, arith, ◌≡◌, ◌<◌, ◌⊎◌, ◌+◌, ℕ, List, suc, length, refl, inl, subst, sym, ap, ◌∙◌}
+use Rattle.std.proofs.Common.{rules, arith, ◌≡◌, ◌<◌, ◌⊎◌, ◌+◌, List, suc, length, refl, inl, subst, sym, ap, ◌∙◌}
 use Rattle.auction_rows.specs.{Book.{Book}, declared.rows.Row.{Row}}
 use Rattle.auction_window.specs.Published.{book_of}
 use Rattle.job_threads.proofs.ThreadLemmas.{err_as}
