@@ -11,8 +11,7 @@ use Rattle.auction_reading.specs.Scripts.{RowsComeFirst, read_records}
 parts_of : (b : Bool) (r : Result Record ReadFault) (rest : Record → Result (List Record) ReadFault) (all : List Record)
     → (if b then Err fault.Long else and_then r (λ first. and_then {B = List Record} (rest first) (λ others. Ok (first ∷ others)))) ≡ Ok all
     → (first : Record) × (others : List Record) × (r ≡ Ok first) × (rest first ≡ Ok others) × (all ≡ first ∷ others)
-parts_of false (Ok first) rest all e = let (others, are, same) = others_of (rest first) e in (first, others, refl, are, same)
-  where
+parts_of false (Ok first) rest all e = let (others, are, same) = others_of (rest first) e in (first, others, refl, are, same) where
     others_of : (r : Result (List Record) ReadFault) → and_then {B = List Record} r (λ others. Ok (first ∷ others)) ≡ Ok all
         → (others : List Record) × (r ≡ Ok others) × (all ≡ first ∷ others)
     others_of (Ok others) e = (others, refl, cc e)

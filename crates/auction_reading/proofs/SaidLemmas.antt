@@ -112,8 +112,7 @@ pub reads_line : (old new : Progress) (text : List ℕ) (at : ℕ) (said : Recor
     → said.worker < length old.input.scripts.items → (said.is_row && old.begun) ≡ false → ReadsLine old text at new next
 reads_line old new text at said next line added room below early =
     let many : length new.input.scripts.items ≡ length old.input.scripts.items = omega (arith, added.workers, old.input.scripts.ok.0, new.input.scripts.ok.0) in
-    let fits : new.count ≤ MOST_RECORDS = omega (arith, added.count, room) in
-    record {
+    let fits : new.count ≤ MOST_RECORDS = omega (arith, added.count, room) in record {
       after = omega (arith, line.after);
       within = line.within;
       reads = record {

@@ -103,8 +103,7 @@ module _ (opening : Opening) (rows : Book) (policy : Policy) (scripts : List (Li
   pub answered_first : (result : Result Outcome RunFault) (fault : RunFault) → IsErrAnd result (λ other. other ≡ fault) → first fault → AnswersRun opening rows policy scripts result
   answered_first (Ok outcome) fault is cause = absurd is
   answered_first (Err other) fault is cause =
-      let own : first other = subst first (sym is) cause in
-      record {
+      let own : first other = subst first (sym is) cause in record {
         outcome = tt;
         left = tt;
         limit = tt;

@@ -37,8 +37,7 @@ pub record HasLast (worker next : ℕ) (P : Option Entry → Type 0) : Type 0 wh
 by_index : (a b : Entry) → a.worker ≡ b.worker → comes_before a b ≡ nat_lt a.index b.index
 by_index a b own =
     let tie : nat_cmp a.worker b.worker ≡ Equal = sym (nat_cmp_is a.worker b.worker Equal own) in
-    ap (λ o. is_lt (ordering_then o (nat_cmp a.index b.index))) tie ∙ index_less a.index b.index
-  where
+    ap (λ o. is_lt (ordering_then o (nat_cmp a.index b.index))) tie ∙ index_less a.index b.index where
     index_less : (i j : ℕ) → is_lt (nat_cmp i j) ≡ nat_lt i j
     index_less i j = elim (cases_order i j) [
       | inl same ↦ let no : nat_lt i j ≡ false = grind (arith, nat_tests) in ap is_lt (sym (nat_cmp_is i j Equal same)) ∙ sym no

@@ -12,8 +12,7 @@ pub gone_by : (rows added : List Row) (e : Entry) (rest left all : List Entry) (
 gone_by rows added e rest left all row first is put so_far =
     ap (λ rs. rs ++ rows_of rest) put ∙ append_assoc rows (option_to_list row) (rows_of rest)
     ∙ ap (λ rs. rows ++ rs) (at row ∙ ap (λ o. cons_option o (rows_of rest)) is)
-    ∙ ap (λ es. rows ++ rows_of es) (sym first) ∙ so_far
-  where
+    ∙ ap (λ es. rows ++ rows_of es) (sym first) ∙ so_far where
     at : (o : Option Row) → option_to_list o ++ rows_of rest ≡ cons_option o (rows_of rest)
     at None = refl
     at (Some r) = refl

@@ -89,8 +89,7 @@ carried bytes len n next has is fits some nine less =
     let more : len - 1 + 1 ≡ len = omega (arith, some) in
     let long : length (set bytes (len - 2) (get_or bytes (len - 2) 0 + 1)) ≡ length bytes = length-set bytes (len - 2) (get_or bytes (len - 2) 0 + 1) in
     let up : next / 10 ≡ n / 10 + 1 = omega (arith, is, read) in
-    let zero : 48 + next % 10 ≡ 48 = omega (arith, is, read) in
-    record {
+    let zero : 48 + next % 10 ≡ 48 = omega (arith, is, read) in record {
       digits = ap (λ (i : ℕ). take i (set (set bytes (len - 2) (get_or bytes (len - 2) 0 + 1)) (len - 1) 48)) (sym more)
           ∙ take_more_set (set bytes (len - 2) (get_or bytes (len - 2) 0 + 1)) (len - 1) 48 (omega (arith, has.within, long))
           ∙ ap₂ (λ (l : List ℕ) (d : ℕ). l ++ d ∷ []) (tens.digits ∙ ap decimal (sym up)) (sym zero)

@@ -70,8 +70,7 @@ some_at r P h x some = subst (λ o. IsSomeAnd o P) some h
 -- a request is that of its word and numbers
 pub kind_at : (q : LedgerRequest) (text word : List ℕ) (account amount : ℕ) (result : Option LedgerRequest) (h : HasWords q text) → word ≡ h.word → account ≡ h.account → amount ≡ h.amount →
     (word ≡ codes "add" → result ≡ Some (Add account amount)) → (word ≡ codes "take" → result ≡ Some (Take account amount)) → result ≡ Some q
-kind_at q text word account amount result h w x y add take = kind_of q h.word word h.account account h.amount amount result h.kind w x y add take
-  where
+kind_at q text word account amount result h w x y add take = kind_of q h.word word h.account account h.amount amount result h.kind w x y add take where
     kind_of : (q : LedgerRequest) (known word : List ℕ) (to account small amount : ℕ) (result : Option LedgerRequest) → ((known ≡ codes "add") × (q ≡ Add to small)) ⊎ ((known ≡ codes "take") × (q ≡ Take to small)) →
         word ≡ known → account ≡ to → amount ≡ small → (word ≡ codes "add" → result ≡ Some (Add account amount)) → (word ≡ codes "take" → result ≡ Some (Take account amount)) → result ≡ Some q
     kind_of q known word to account small amount result (inl h) w x y add take =

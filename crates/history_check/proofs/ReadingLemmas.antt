@@ -87,8 +87,7 @@ module _ (opening : Opening) (start : Book) (scripts : List (List Request)) (ord
       at : (first : Option (List ℕ)) → HasRead first old reading.history → IfSome first (λ text. IsVerdict opening start scripts order text line (WrongAt (number + 1) why))
       at None read = tt
       at (Some text) read =
-          let left = left_read text old new reading.history line read next in
-          record {
+          let left = left_read text old new reading.history line read next in record {
             before = reading.history;
             rest = left.0;
             split = left.1;

@@ -50,8 +50,7 @@ unwritten object (x ∷ xs) there none = elim (Contains-cases x xs object there)
 
 written : (object : Object) (xs : List Object) → 0 < how_many (λ other. same_object other object) xs → Contains xs object
 written object [] some = absurd (omega arith)
-written object (x ∷ xs) some = go (same_object x object) refl some (written object xs)
-  where
+written object (x ∷ xs) some = go (same_object x object) refl some (written object xs) where
     go : (b : Bool) → same_object x object ≡ b → 0 < cond b 1 0 + how_many (λ other. same_object other object) xs →
         (0 < how_many (λ other. same_object other object) xs → Contains xs object) → Contains (x ∷ xs) object
     go true is more again = subst (Contains (x ∷ xs)) (same_object-true x object is) (Contains-first x xs)
@@ -60,8 +59,7 @@ written object (x ∷ xs) some = go (same_object x object) refl some (written ob
 -- what a table shows of an object that is hot enough
 shown : (threshold n : ℕ) → IsSome (option_filter (nat_le threshold) (heat_shown n)) → (0 < n) × (nat_le threshold n ≡ true)
 shown threshold zero some = absurd (false≢true some)
-shown threshold (suc n) some = (omega arith, go (nat_le threshold (suc n)) some)
-  where
+shown threshold (suc n) some = (omega arith, go (nat_le threshold (suc n)) some) where
     go : (b : Bool) → IsSome (cond b (Some (suc n)) None) → b ≡ true
     go true h = refl
     go false h = absurd (false≢true h)
@@ -72,8 +70,7 @@ is_shown threshold (suc n) some le = subst (λ b. IsSome (cond b (Some (suc n)) 
 
 shown_is : (threshold n m : ℕ) → if_enough threshold (heat_shown n) ≡ Some m → m ≡ n
 shown_is threshold zero m is = absurd (cc)
-shown_is threshold (suc n) m is = go (nat_le threshold (suc n)) is
-  where
+shown_is threshold (suc n) m is = go (nat_le threshold (suc n)) is where
     go : (b : Bool) → cond b (Some (suc n)) None ≡ Some m → m ≡ suc n
     go true shown = cc
     go false none = absurd (cc)
@@ -125,8 +122,7 @@ module _ (es : List Entry) (objects : List Object) (table : List (Object × ℕ)
 
   -- the objects are those that are written and hot enough
   members : (object : Object) → Contains (map (λ c. c.object) cs) object ↔ Contains (filter (λ o. nat_le threshold (heat es o)) (objects_written es)) object
-  members object = (there, back)
-    where
+  members object = (there, back) where
       seen : lookup (same_object object) (filter (λ row. nat_le threshold row.1) table) ≡ option_filter (nat_le threshold) (heat_shown (heat es object))
       seen =
           lookup-filter-values same_laws (nat_le threshold) object table has.once ∙ filtered threshold (lookup (same_object object) table)
@@ -156,8 +152,7 @@ module _ (es : List Entry) (objects : List Object) (table : List (Object × ℕ)
   -- they stand in the order of the choice
   in_turn : (a b : Candidate) → a.heat.0 ≡ heat es a.object → b.heat.0 ≡ heat es b.object → is_lt (candidate_cmp b a) ≡ false → same_object a.object b.object ≡ false →
       heat_cmp es b.object a.object ≡ Less
-  in_turn a b right_a right_b sorted apart = go (heat_cmp es b.object a.object) refl
-    where
+  in_turn a b right_a right_b sorted apart = go (heat_cmp es b.object a.object) refl where
       same_cmp : candidate_cmp b a ≡ heat_cmp es a.object b.object
       same_cmp = λ i. ordering_then (nat_cmp (right_a i) (right_b i)) (object_cmp b.object a.object)
 
@@ -175,8 +170,7 @@ module _ (es : List Entry) (objects : List Object) (table : List (Object × ℕ)
 
   ordered : IsDescending (heat_cmp es) (map (λ c. c.object) cs)
   ordered = descending_from_sorted (heat_cmp es) (map (λ c. c.object) cs)
-      (sorted_from_all_adjacent (back_total (heat_total es)) (map (λ c. c.object) cs) (User 0) adjacent)
-    where
+      (sorted_from_all_adjacent (back_total (heat_total es)) (map (λ c. c.object) cs) (User 0) adjacent) where
       adjacent : (k : ℕ) → k + 1 < length (map (λ (c : Candidate). c.object) cs) →
           heat_cmp es (get_or (map (λ (c : Candidate). c.object) cs) (k + 1) (User 0)) (get_or (map (λ (c : Candidate). c.object) cs) k (User 0)) ≡ Less
       adjacent k less =

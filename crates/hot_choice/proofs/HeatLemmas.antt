@@ -52,15 +52,13 @@ heat_read (suc n) = refl
 module _ (passes : Object → Bool) where
   pub no_heats : HasHeatsOf passes [] []
   unfolding IsDistinct
-  no_heats = record { once = tt; heats = λ object. none (passes object) }
-    where
+  no_heats = record { once = tt; heats = λ object. none (passes object) } where
       none : (b : Bool) → None ≡ (if b then heat_shown 0 else None)
       none true = refl
       none false = refl
 
   pub run_passed_over : (objects : List Object) (run : Run) (table : List (Object × ℕ)) → passes run.object ≡ false → HasHeatsOf passes objects table → HasHeatsOf passes (objects ++ run_objects run) table
-  run_passed_over objects run table fails has = record { once = has.once; heats = λ object. has.heats object ∙ by object (passes object) refl }
-    where
+  run_passed_over objects run table fails has = record { once = has.once; heats = λ object. has.heats object ∙ by object (passes object) refl } where
       other : (object : Object) → passes object ≡ true → (b : Bool) → same_object run.object object ≡ b → how_often objects object ≡ how_often objects object + cond b (suc run.more) 0
       other object pass false apart = omega arith
       other object pass true same = absurd (false≢true (sym fails ∙ ap passes (same_object-true run.object object same) ∙ pass))
@@ -124,8 +122,7 @@ run_in_bucket runs n d counts place sum less own within is so_far bucket below =
           get_or-set_other counts place bucket sum 0 other ∙ so_far bucket below ∙ nothing_added
           ∙ ap (λ b. in_bucket before bucket + cond b (suc run.more) 0) (sym (ne_eqb (bucket_of run.object) bucket (λ at. other (sym at ∙ sym own))))
           ∙ with_run
-    ]
-  where
+    ] where
     run : Run
     run = get_or runs n d
 
@@ -163,8 +160,7 @@ pub hot_ones_are_counted : (objects : List Object) (threshold : ℕ) (counts : L
 hot_ones_are_counted objects threshold counts table are has = record {
   once = has.once;
   heats = λ object. ap (if_enough threshold) (has.heats object) ∙ by object (may_be_hot counts threshold object) refl;
-}
-  where
+} where
     by : (object : Object) (b : Bool) → may_be_hot counts threshold object ≡ b →
         if_enough threshold (if b then heat_shown (how_often objects object) else None) ≡ if_enough threshold (heat_shown (how_often objects object))
     by object true may = refl

@@ -80,8 +80,7 @@ feed_ends (b ∷ xs) (suc k) within here before =
 pub whole_ends : (line : List ℕ) → IsWhole line → EndsLine line
 whole_ends line whole =
     let long : length line ≡ length whole.content + 1 = rw whole.line_is (length-append whole.content (10 ∷ [])) in
-    let last : length line - 1 ≡ length whole.content = omega (arith, long) in
-    record {
+    let last : length line - 1 ≡ length whole.content = omega (arith, long) in record {
       some = omega (arith, long);
       feed = rw last (subst (λ (xs : List ℕ). get_or xs (length whole.content) 0 ≡ 10) (sym whole.line_is) (get_or-append_seam whole.content 10 [] 0));
     }

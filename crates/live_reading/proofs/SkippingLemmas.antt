@@ -12,8 +12,7 @@ use Rattle.live_reading.specs.inner.Lines.{HasPassed, IsPast, Passes, underneath
 -- a line that ends in a text is passed over
 pub line_ends : (text : List ℕ) (len : ℕ) → IsWhole (take len text) → Passes Line text (drop len text) true
 line_ends text len whole = λ more.
-    let left = drop len text ++ more in
-    record {
+    let left = drop len text ++ more in record {
       content = whole.content;
       no_feed = whole.no_feed;
       bytes_are = inl (ap (λ (xs : List ℕ). xs ++ more) (sym (take-append-drop len text)) ∙ append_assoc (take len text) (drop len text) more
@@ -29,8 +28,7 @@ longer text bytes content rest (inr (is_all, none)) = inr (ap (λ (xs : List ℕ
 pub line_goes_on : (text : List ℕ) → has_no_feed text ≡ true → Passes Line text (drop (length text) text) false
 line_goes_on text none =
     let nothing : drop (length text) text ≡ [] = drop_all (length text) text (omega arith) in
-    subst (λ (left : List ℕ). Passes Line text left false) (sym nothing) (all_of_it text none)
-  where
+    subst (λ (left : List ℕ). Passes Line text left false) (sym nothing) (all_of_it text none) where
     all_of_it : (text : List ℕ) → has_no_feed text ≡ true → Passes Line text [] false
     all_of_it text none = (
       omega arith,

@@ -21,8 +21,7 @@ pub grown : (opening : Opening) (book : Book) (more : List Opened) → Replays (
 grown opening book [] are = record { extra = []; is = sym (append-nil book); long = refl }
 grown opening book (one ∷ more) are =
     let a = adds opening book one are.0 in
-    let m = grown opening (with_opened opening book one) more are.1 in
-    record {
+    let m = grown opening (with_opened opening book one) more are.1 in record {
       extra = a.row ∷ m.extra;
       is = m.is ∙ ap (λ (b : Book). b ++ m.extra) a.after ∙ append_assoc book (a.row ∷ []) m.extra;
       long = omega (arith, m.long);

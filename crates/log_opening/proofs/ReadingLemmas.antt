@@ -191,8 +191,7 @@ pub told_some : (text remaining told now next : Option (List ℕ)) (reading : Re
 told_some text remaining told now next reading held was some =
     let first = rows_text was.book [] in
     let more = rows_text some.more [] in
-    let n = some.part.0 in
-    record {
+    let n = some.part.0 in record {
       book = was.book ++ some.more;
       part = (
         length first + n,
@@ -225,8 +224,7 @@ opens text remaining told now reading held opened was end no_end auction_is rows
       lines = subst (λ (xs : List ℕ). AreWholeLines xs opened.kept) (sym is) (subst (AreWholeLines (rows ++ held)) (sym long) (whole_rows was.book held no_end));
       rows = ap (take opened.kept) is ∙ ap (λ n. take n (rows ++ held)) long ∙ take-append_seam rows held;
       tail = tail_is ∙ sym (ap (drop opened.kept) is ∙ ap (λ n. drop n (rows ++ held)) long ∙ drop-append_seam rows held);
-    } in
-    record {
+    } in record {
       book = was.book;
       opens = record {
         start = subst (λ state. IsStartOf state was.book) (sym auction_is) was.has.start;
@@ -256,8 +254,7 @@ pub refused_after : (text remaining told now : Option (List ℕ)) (reading : Rea
 refused_after text remaining told now reading held why first same was refused =
     of_known text (IsRefused why first.limit (length first.counters) first.opening) (λ all is.
     let before = was.known all is in
-    let left = before.0 in
-    record {
+    let left = before.0 in record {
       book = was.book;
       is_book = subst (λ o. IsBook o was.book) same.opening was.has.start.is_of.is_book;
       written = subst (λ n. All (IsWritten n) was.book) same.workers (are_written reading was.book was.has);

@@ -63,8 +63,7 @@ front workers (row ∷ book) n whole few all are =
           let l = length text + 1 in
           let split : take n ((text ++ (10 ∷ [])) ++ rest) ≡ (text ++ (10 ∷ [])) ++ take (n - l) rest = take_past (text ++ (10 ∷ [])) rest n l long (omega (arith, past)) in
           let first = line_first text (take (n - l) rest) whole prints (subst (λ (xs : List ℕ). AreWholeLines xs whole) split are) in
-          let others = front workers book (n - l) (whole - l) few all.1 first.1 in
-          record {
+          let others = front workers book (n - l) (whole - l) few all.1 first.1 in record {
             count = suc others.count;
             within = omega (arith, others.within);
             is = ap (take whole) split ∙ take_past (text ++ (10 ∷ [])) (take (n - l) rest) whole l long first.0 ∙ ap (λ (xs : List ℕ). (text ++ (10 ∷ [])) ++ xs) others.is;

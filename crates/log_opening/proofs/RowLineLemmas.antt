@@ -82,8 +82,7 @@ bid_read row worker fits =
     let i = id_text row.item.worker row.item.serial in
     let a = decimal row.amount in
     let t = decimal row.time in
-    let few = below_64 row.bidder fits.bidder in
-    record {
+    let few = below_64 row.bidder fits.bidder in record {
       fields = decimal w ∷ bid_word ∷ b ∷ i ∷ a ∷ t ∷ [];
       reads = λ rest. six_read (row_line (Bid row) ++ rest) (decimal w) bid_word b i a t rest (bid_line row rest) (plain_number w (below_64 w worker)) refl (plain_number row.bidder few)
           (plain_item row.item.worker row.item.serial fits.item_worker fits.item_serial) (plain_number row.amount fits.amount) (plain_number row.time fits.time);
@@ -110,8 +109,7 @@ buy_read row worker fits =
     let q = decimal row.quantity in
     let t = decimal row.time in
     let few = below_64 row.buyer fits.buyer in
-    let most : row.quantity < 2 ^ 64 = omega (arith, fits.few) in
-    record {
+    let most : row.quantity < 2 ^ 64 = omega (arith, fits.few) in record {
       fields = decimal w ∷ buy_word ∷ b ∷ i ∷ q ∷ t ∷ [];
       reads = λ rest. six_read (row_line (Buy row) ++ rest) (decimal w) buy_word b i q t rest (buy_line row rest) (plain_number w (below_64 w worker)) refl (plain_number row.buyer few)
           (plain_item row.item.worker row.item.serial fits.item_worker fits.item_serial) (plain_number row.quantity most) (plain_number row.time fits.time);
@@ -185,8 +183,7 @@ item_read row worker fits =
     let z = decimal row.facts.closes in
     let t = decimal row.time in
     let q = decimal row.facts.quantity in
-    let most : row.facts.quantity < 2 ^ 64 = omega (arith, f.few) in
-    record {
+    let most : row.facts.quantity < 2 ^ 64 = omega (arith, f.few) in record {
       fields = decimal w ∷ item_word ∷ s ∷ c ∷ n ∷ a ∷ z ∷ t ∷ q ∷ [];
       reads = λ rest.
           let line = row_line (Item row) ++ rest in
@@ -267,8 +264,7 @@ comment_read row worker fits =
     let b = decimal row.about in
     let i = id_text row.item.worker row.item.serial in
     let s = signed_decimal row.stars.value in
-    let given = stars_back row.stars in
-    record {
+    let given = stars_back row.stars in record {
       fields = decimal w ∷ comment_word ∷ a ∷ b ∷ i ∷ s ∷ [];
       reads = λ rest. six_read (row_line (Comment row) ++ rest) (decimal w) comment_word a b i s rest (comment_line row rest) (plain_number w (below_64 w worker)) refl
           (plain_number row.author (below_64 row.author fits.author)) (plain_number row.about (below_64 row.about fits.about)) (plain_item row.item.worker row.item.serial fits.item_worker fits.item_serial) given.1;

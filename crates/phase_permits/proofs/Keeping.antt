@@ -14,8 +14,7 @@ use Rattle.phase_transactions.specs.Works.{Work, Explains, IsWorkOf, IsCommitOf,
 -- the lines of the transactions that take a shard, with one transaction more
 one_line : {X Y : Type 0} (p : X → Bool) (f : X → Y) (xs : List X) (x : X) (b : Bool) → p x ≡ b
     → map f (filter p (xs ++ x ∷ [])) ≡ (if b then map f (filter p xs) ++ f x ∷ [] else map f (filter p xs))
-one_line p f xs x b is = ap (map f) (filter-append p xs (x ∷ [])) ∙ map-append f (filter p xs) (filter p (x ∷ [])) ∙ go b is
-  where
+one_line p f xs x b is = ap (map f) (filter-append p xs (x ∷ [])) ∙ map-append f (filter p xs) (filter p (x ∷ [])) ∙ go b is where
     go : (b : Bool) → p x ≡ b → map f (filter p xs) ++ map f (cond (p x) (x ∷ []) []) ≡ (if b then map f (filter p xs) ++ f x ∷ [] else map f (filter p xs))
     go true is = ap (λ c. map f (filter p xs) ++ map f (cond c (x ∷ []) [])) is
     go false is = ap (λ c. map f (filter p xs) ++ map f (cond c (x ∷ []) [])) is ∙ append-nil (map f (filter p xs))

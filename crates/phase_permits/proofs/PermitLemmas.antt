@@ -52,8 +52,7 @@ commit_explained initial old new request index answer done is =
       opening = (d i).opening;
       shards = shards;
       stocks = sym (ap (λ (w : WorkerState). stocks_of w.slices) done.worker ∙ stocks-acts old.slices (writes_if (row_of old.journal.worker request answer))) i;
-    } in
-    record {
+    } in record {
       worker = ap (λ (w : WorkerState). w.journal.worker) done.worker ∙ is.worker ∙ sym put.worker;
       idle = put.idle;
       work = subst (λ (n : ℕ). IsWorkOf (setting_of new shards) n (work_of new)) (sym put.worker)

@@ -43,8 +43,7 @@ failed_first initial old new back index request fault first some failed before s
     let same : with_first_unstashed back ≡ with_first_unstashed (record old { key = back.key }) =
     sym before ∙ failed.worker ∙ (λ i. record (with_first_unstashed old) { key = (before i).key }) in
     let is : back ≡ record old { key = back.key } = before_calling back (record old { key = back.key }) some' some same in
-    let key : new.key ≡ back.key = ap (λ (w : WorkerState). w.key) before in
-    record {
+    let key : new.key ≡ back.key = ap (λ (w : WorkerState). w.key) before in record {
       index = index;
       request = request;
       first = sym first;

@@ -78,8 +78,7 @@ seen_taken (taken.Two one other) request item needs = ap (option_and_then (λ id
 pub refused_by_shard : {N : Type 0} (w : WorkerState) (request : Request) (homes : Homes) (took : Taken N) (shard : ℕ) (refused : Option Refusal) → homes.item ≡ home.Shard shard
     → refused ≡ refusal_with (stock_taken took request) request → IsRefusedBy w request homes took refused
 refused_by_shard w request homes took shard refused at by =
-    let there = ap shard_at at in
-    record {
+    let there = ap shard_at at in record {
       seen = stock_taken took request;
       saw = record { fixed = λ item needs none. absurd (cc (there, none)); found = λ item t needs is. seen_taken took request item needs };
       by = by;

@@ -32,8 +32,7 @@ module _ (initial : List ShardState) (old new : WorkerState) (request : Request)
       let key_is : new.key ≡ old.key = ap (λ (w : WorkerState). w.key) stored.worker in
       let zero : greatest_clock (setting_of old (length initial)) (hot_txn old request index answer) ≡ 0 = greatest_same (λ s. clock_found s (hot_txn old request index answer)) _ [] untaken in
       let numbered : suc old.clock ≡ suc (max old.clock (greatest_clock (setting_of old (length initial)) (hot_txn old request index answer))) = omega (arith, zero) in
-      let within : suc old.clock ≤ last_number = omega (arith, below) in
-      record {
+      let within : suc old.clock ≤ last_number = omega (arith, below) in record {
         number = suc old.clock;
         found = nothing;
         transacted = record {

@@ -30,8 +30,7 @@ module _ {N : Type 0} (initial : List ShardState) (workers : ℕ) (key : KeyStat
 
   pub first_has : (item : ItemId) (t : ℕ) → IsHomeOf hots (length initial) (Item item) h → shard_at h ≡ Some t → numbers_of (held_in took) ≡ each_once (shard_at h) (shard_at k) → AllByRecursion (IsAsTaken initial workers key) (held_in took)
       → FirstHas took item
-  first_has item t at is numbers all = go took numbers all
-    where
+  first_has item t at is numbers all = go took numbers all where
       go : (its : Taken N) → numbers_of (held_in its) ≡ each_once (shard_at h) (shard_at k) → AllByRecursion (IsAsTaken initial workers key) (held_in its) → FirstHas its item
       go taken.Nothing numbers all = tt
       go (taken.One one) numbers all = lies_first one item t at is all.0 (number_is one.number (shard_at h) (shard_at k) t (in_one one.number (shard_at h) (shard_at k) numbers) is)

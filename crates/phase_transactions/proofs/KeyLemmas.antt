@@ -63,8 +63,7 @@ held_seat seen seat = record seat { holds = true; seen = seen }
 
 pub lines_taken : (key new : KeyState) (s : ℕ) → new ≡ taking key s (seen_at new s) → s < length key.seats → StartsWith (seen_at new s) (seen_at key s) → HasSameLines key new
 lines_taken key new s is known later =
-    let shows = at_each key new s (held_seat (seen_at new s)) is known in
-    record {
+    let shows = at_each key new s (held_seat (seen_at new s)) is known in record {
       boxes = ap (λ (j : KeyState). j.boxes) is;
       worker = ap (λ (j : KeyState). j.worker) is;
       seats = many key new s (held_seat (seen_at new s)) is;

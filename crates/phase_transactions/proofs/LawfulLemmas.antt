@@ -62,8 +62,7 @@ lawful_as w new number index request reply is some after counts keeps stays less
     let waits = ap (λ (s : StashState). length s.requests) stays in
     let last = ap (λ (j : JournalView). last_by entry_number 0 j.entries) keeps ∙ last-push entry_number 0 w.journal.entries entry in
     let limit = is.room.limit in
-    let room = is.room.room in
-    record {
+    let room = is.room.room in record {
       room = record {
         counted = subst AreCounted (sym counts) (still_counted w.counters reply is.room.counted);
         limit = omega (arith, commits, waits, less, limit);

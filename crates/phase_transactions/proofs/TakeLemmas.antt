@@ -18,8 +18,7 @@ pub taken_more : {initial : List ShardState} {workers : ℕ} {old key new : KeyS
     → IsShardHistory initial workers s (seen_at new s) (state_of h.shard) → HasTakenAll initial workers old new (s ∷ shards) (h ∷ held)
 taken_more {initial} {workers} {old} {key} {new} {shards} {held} s h its apart seats is later number history =
     let known : s < length key.seats = subst (λ n. s < n) (sym seats) history.known in
-    let shows = at_each key new s (held_seat (seen_at new s)) is known in
-    record {
+    let shows = at_each key new s (held_seat (seen_at new s)) is known in record {
       numbers = λ i. number i ∷ its.numbers i;
       known = subst (λ n. AllByRecursion (λ (k : HeldState). k.number < n) (h ∷ held)) (sym (many key new s (held_seat (seen_at new s)) is)) (subst (λ n. n < length key.seats) (sym number) known, its.known);
       taken = (

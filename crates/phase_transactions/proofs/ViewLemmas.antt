@@ -144,8 +144,7 @@ module _ {N : Type 0} (step : Step) (w : WorkerState) (request : Request) (b : B
 
   -- it took one shard, which can show what it asks for
   pub on_one : HaveOpening initial w.opening → IsOnOne request took
-  on_one openings = go took begun.taken.taken (begun.taken.numbers ∙ its_home.1.only n its_shard.1)
-    where
+  on_one openings = go took begun.taken.taken (begun.taken.numbers ∙ its_home.1.only n its_shard.1) where
       go : (its : Taken N) → AllByRecursion (IsAsTaken initial step.workers w.key) (held_in its) → numbers_of (held_in its) ≡ n ∷ [] → IsOnOne request its
       go (taken.One one) all numbers =
           let number : one.number ≡ n = (cc) in

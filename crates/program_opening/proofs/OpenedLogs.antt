@@ -46,8 +46,7 @@ front (Some text) book logged opens = (logged.tail.items, split_at text book log
 -- the rows of a log that was read were told whole
 pub told_whole : (text told now : Option (List ℕ)) (logged : LoggedAuction) → Opens text told now logged → TellsFirst text told now
 told_whole text told now logged was =
-    let rows = rows_text was.book [] in
-    record {
+    let rows = rows_text was.book [] in record {
       book = was.book;
       part = (length rows, subst (Appends told now) (sym (take_all (length rows) rows (omega arith))) was.tells);
       text_is = front text was.book logged was.opens;

@@ -8,8 +8,7 @@ use Rattle.program_options.specs.Options.{IsNumberIn, SaysNumber, number_of}
 
 minus_cut : (t : List ℕ) → without_minus t ≡ cond (starts_with_minus t) (drop 1 t) t
 minus_cut [] = refl
-minus_cut (x ∷ xs) = go (x == 45)
-  where
+minus_cut (x ∷ xs) = go (x == 45) where
     go : (b : Bool) → unwrap_or (cond b (Some xs) None) (x ∷ xs) ≡ cond b xs (x ∷ xs)
     go true = refl
     go false = refl
@@ -23,8 +22,7 @@ no_plus (d ∷ ds) h =
 -- without its minus it is that of a number in the range
 pub number_in_range : (least greatest : ℕ) (t : List ℕ) → IsSignedIn (pos least) (pos greatest) t → IsNumberIn least greatest (Some (without_minus t))
 number_in_range least greatest t passed =
-    subst (λ (u : List ℕ). IsNumberIn least greatest (Some u)) (sym (minus_cut t)) (go (starts_with_minus t) refl)
-  where
+    subst (λ (u : List ℕ). IsNumberIn least greatest (Some u)) (sym (minus_cut t)) (go (starts_with_minus t) refl) where
     go : (b : Bool) → starts_with_minus t ≡ b → IsNumberIn least greatest (Some (cond b (drop 1 t) t))
     go true minus =
         let low_ok = rw minus at passed.2 in

@@ -32,8 +32,7 @@ first_some how (v ∷ vs) some = refl
 
 has_found : (xs : List Entry) (id : Text) → HasIn xs id → is_some (option_map (λ e. e.1) (find (λ e. bytes_eq e.0.now id) xs)) ≡ true
 has_found [] id has = absurd (omega (arith, has.1))
-has_found (x ∷ xs) id has = go (has_found xs id) (bytes_eq x.0.now id) refl has.0 has.1 (has.2 x)
-  where
+has_found (x ∷ xs) id has = go (has_found xs id) (bytes_eq x.0.now id) refl has.0 has.1 (has.2 x) where
     go : (HasIn xs id → is_some (option_map (λ e. e.1) (find (λ e. bytes_eq e.0.now id) xs)) ≡ true)
         → (b : Bool) → bytes_eq x.0.now id ≡ b → (i : ℕ) → i < length (x ∷ xs) → bytes_eq (slice_index_or (x ∷ xs) i x).0.now id ≡ true
         → is_some (option_map (λ e. e.1) (cond b (Some x) (find (λ e. bytes_eq e.0.now id) xs))) ≡ true
@@ -95,8 +94,7 @@ module _ (c : Command) (f : Found) (has : Bool) (parsed : IsParsed c f has) (no_
 
   -- a text that was found passed
   pub found_is_read : (text : Text) → one_text f id ≡ Some text → IsRead parser text
-  found_is_read text is = go (matched_of f id) refl is
-    where
+  found_is_read text is = go (matched_of f id) refl is where
       go : (o : Option MatchedArg) → matched_of f id ≡ o → one_text f id ≡ Some text → IsRead parser text
       go None none found =
           let bad : None ≡ Some text = rw none at found in
@@ -147,8 +145,7 @@ module _ (c : Command) (f : Found) (has : Bool) (parsed : IsParsed c f has) (no_
     ]
 
     text_found : is_some (one_text f id) ≡ true
-    text_found = go (matched_of f id) refl
-      where
+    text_found = go (matched_of f id) refl where
         go : (o : Option MatchedArg) → matched_of f id ≡ o → is_some (one_text f id) ≡ true
         go None none = absurd (true≢false (sym (has_found f.entries.items id has_entry) ∙ ap (λ o. is_some o) none))
         go (Some x) some =
@@ -158,8 +155,7 @@ module _ (c : Command) (f : Found) (has : Bool) (parsed : IsParsed c f has) (no_
 
     -- and it is that of a number, where its parser asks for one
     pub number_found : (low high : ℕ) → rule.parser ≡ Some (Signed (pos low) (pos high)) → IsNumberIn low high (one_text f id)
-    number_found low high by = go (one_text f id) refl text_found
-      where
+    number_found low high by = go (one_text f id) refl text_found where
         numeral : (text : Text) → IsRead parser text → IsNumberIn low high (Some text)
         numeral text is =
             let same : parser ≡ Signed (pos low) (pos high) = ap parser_of_value by in

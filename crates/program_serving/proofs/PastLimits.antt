@@ -93,8 +93,7 @@ last_request (one ∷ said) behind w few some free = elim (cases_Bool one.is_row
         request = request;
         worker_is = its_worker one w (subst (λ (xs : List Record). 1 ≤ length (script w (one ∷ xs))) alone some) request;
       })
-]
-  where
+] where
     no_rows_behind : (one : Record) (said : List Record) (behind : List Said) → one.is_row ≡ false → HasNoLateRow (records_said (one ∷ said) ++ behind) → rows_said (records_said said) ≡ []
     no_rows_behind one said behind request free = elim free.0 [
       | inl none ↦ absurd (let no = sym (request_begins false one request) ∙ none in cc no)
@@ -122,8 +121,7 @@ script_few w (one ∷ said) =
         ap (λ (b : Bool). length (cons_option (if not b && (one.worker == w) then Some one.request else None) (script w said))) request,
         at_most_one (one.worker == w) one.request (script w said),
       )
-    ]
-  where
+    ] where
     at_most_one : (b : Bool) (request : Request) (others : List Request) → length (cons_option (if b then Some request else None) others) ≤ 1 + length others
     at_most_one true request others = omega arith
     at_most_one false request others = omega arith

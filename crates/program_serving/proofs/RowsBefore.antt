@@ -36,8 +36,7 @@ unfolding lines_say
 lines_have_no_late_row workers place begun [] = tt
 lines_have_no_late_row workers place begun (line ∷ rest) =
     then_late (line_says workers place begun line) (lines_say workers place begun rest) (λ one. lines_say workers (place + 1) (begun_after begun one) rest)
-    (lines_have_no_late_row workers place begun rest) first (λ one. lines_have_no_late_row workers (place + 1) (begun_after begun one) rest)
-  where
+    (lines_have_no_late_row workers place begun rest) first (λ one. lines_have_no_late_row workers (place + 1) (begun_after begun one) rest) where
     first : (one : Said) → (begun_after false one ≡ false) ⊎ (rows_said (lines_say workers (place + 1) (begun_after begun one) rest) ≡ [])
     first (says.Fault met) = inl refl
     first (says.Record one) = elim (cases_Bool one.is_row) [
@@ -140,8 +139,7 @@ unfolding AreStepRuns RowsComeFirst
 rows_first options book [] rest are free = tt
 rows_first options book (Answer line ∷ steps) rest are free = (inl refl, rows_first options book steps rest are.1 free.1)
 rows_first options book (Part part ∷ steps) rest are free =
-    (first (requests_in part.said) refl, rows_first options next steps rest are.1 (behind said later parted))
-  where
+    (first (requests_in part.said) refl, rows_first options next steps rest are.1 (behind said later parted)) where
     said : List Said
     said = records_said part.said
 

@@ -78,8 +78,7 @@ module _ {L W : Type 0} (accepted : L → Option (List ℕ)) (contents : W → O
       → IsLoggedBefore accepted contents old new options book all
   told_step told step behind is run (inr kept) = told_kept told kept
   told_step told step behind is run (inl part) =
-      let more : List Step = told.steps ++ step ∷ [] in
-      record {
+      let more : List Step = told.steps ++ step ∷ [] in record {
         steps = more;
         rest = behind;
         served = record { all_is = all_more all told.rest behind told.steps step told.served.all_is is; runs = runs_more options book told.steps step told.served.runs run };

@@ -51,8 +51,7 @@ module _ (options : Options) (state next : JoinedState) (book : Book) (scripts :
         (none : IfNone past (run ≡ all)) (some : IfSome past (λ worker. (ends_at_fault options ≡ false) × (IsPastOn mid all worker × (run ≡ map (λ script. []) all)))) where
       -- what is done of what is asked for
       pub done_is : record { rows = asked; scripts = run } ≡ done_of past (record { rows = asked; scripts = all })
-      done_is = each past none some
-        where
+      done_is = each past none some where
           each : (past : Option ℕ) → IfNone past (run ≡ all) → IfSome past (λ worker. (ends_at_fault options ≡ false) × (IsPastOn mid all worker × (run ≡ map (λ script. []) all)))
               → record { rows = asked; scripts = run } ≡ done_of past (record { rows = asked; scripts = all })
           each None none some = λ i. record { rows = asked; scripts = none i }
@@ -60,8 +59,7 @@ module _ (options : Options) (state next : JoinedState) (book : Book) (scripts :
 
       -- and why it is not all
       pub are_done : AreDoneOf options book (record { rows = asked; scripts = all }) past
-      are_done = each past some
-        where
+      are_done = each past some where
           each : (past : Option ℕ) → IfSome past (λ worker. (ends_at_fault options ≡ false) × (IsPastOn mid all worker × (run ≡ map (λ script. []) all))) → AreDoneOf options book (record { rows = asked; scripts = all }) past
           each None some = tt
           each (Some worker) some = (
@@ -116,16 +114,14 @@ module _ (options : Options) (book : Book) (asked : Asked) (auction : JoinedStat
   -- the requests of what is done cannot be counted behind those that went before
   pub requests_past : (before : BeforeView) (read : ℕ) → length auction.counters ≤ MOST_WORKERS → (counts : List (List Request)) → counts ≡ run → CannotCount before counts
       → IsPastCounts options book (gone_by before) read (record { rows = asked.rows; scripts = run })
-  requests_past before read few counts are cannot = at (subst (CannotCount before) are cannot)
-    where
+  requests_past before read few counts are cannot = at (subst (CannotCount before) are cannot) where
       at : CannotCount before run → IsPastCounts options book (gone_by before) read (record { rows = asked.rows; scripts = run })
       at (inl many) = absurd (omega (arith, many, few, begun.begins.workers, begun.begins.start.fits.workers))
       at (inr past) = inr (inl past)
 
   -- why they are not run
   pub run_refused : (gone : Gone) (before : ℕ) (fault : Fault) → AreNotRunOn options fault (book ++ added) run → IsPartRefused options book gone before (done_of past asked) fault
-  run_refused gone before fault why = subst (λ (a : Asked). IsPartRefused options book gone before a fault) begun.done (refused fault why)
-    where
+  run_refused gone before fault why = subst (λ (a : Asked). IsPartRefused options book gone before a fault) begun.done (refused fault why) where
       behind_rows : (fault : Fault) → AreNotRunOn options fault (book ++ added) run → AreNotRunOn options fault (rows_from (opening_asked options) book asked.rows) run
       behind_rows fault why = subst (λ (b : Book). AreNotRunOn options fault b run) (sym begun.adds.adds) why
 

@@ -132,8 +132,7 @@ module _ {L W : Type 0} (accepted : L → Option (List ℕ)) (contents : W → O
       → Next behind → AreTold accepted contents old new (step_rows step) (step_text options (gone_by served.before) step) → IsSession options book all next Next (AreTold accepted contents start new)
   session_step step behind next Next is run starts counted before left told =
       let steps : List Step = session.steps in
-      let more : List Step = steps ++ step ∷ [] in
-      record {
+      let more : List Step = steps ++ step ∷ [] in record {
         steps = more;
         rest = behind;
         so_far = record { all_is = all_more all session.rest behind steps step session.so_far.all_is is; runs = runs_more options book steps step session.so_far.runs run };
@@ -168,8 +167,7 @@ module _ {L W : Type 0} (accepted : L → Option (List ℕ)) (contents : W → O
     -- the next line may be answered
     pub session_passed : (left : Option (LiveInput R)) → PassesFault remaining options.workers options (gone_by served.before) left session.rest (AreTold accepted contents old new)
         → IsSession options book all served (MayHaveToSay remaining options.workers left) (AreTold accepted contents start new)
-    session_passed left passes = passed passes.met passes.goes_on passes.behind passes.rest_is passes.left_is passes.holds
-      where
+    session_passed left passes = passed passes.met passes.goes_on passes.behind passes.rest_is passes.left_is passes.holds where
         passed : (met : Option LineFault) → IfSome met (λ _. ends_at_fault options ≡ false) → (behind : List Said) → session.rest ≡ fault_said met ++ behind → MayHaveToSay remaining options.workers left behind
             → AreTold accepted contents old new [] (fault_answer options (gone_by served.before) met) → IsSession options book all served (MayHaveToSay remaining options.workers left) (AreTold accepted contents start new)
         passed None goes_on behind is has told = record {

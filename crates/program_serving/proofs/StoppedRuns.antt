@@ -69,8 +69,7 @@ module _ (options : Options) (state : JoinedState) (policy : Policy) (scripts : 
   -- what it leaves fits the options yet
   pub run_fits : (outcome : Outcome) → outcome.state.limit ≡ state.limit → ((rows : Book) → IsBookOf state rows → IsOutcome state.opening rows policy scripts outcome) → FitsOptions options outcome.state
   run_fits outcome limit is_outcome =
-      let from = is_outcome book begins.start.of in
-      record {
+      let from = is_outcome book begins.start.of in record {
         opening = from.opening_is ∙ fits.opening;
         limit = limit ∙ fits.limit;
         workers = from.counters ∙ begins.workers;
@@ -86,8 +85,7 @@ next_start state next book is stands of =
     subst (λ s. IsStartOf s book) (sym is) (record {
       is_of = record { is_book = of.is_book; own = subst (λ n. All (λ row. worker_of row < n) book) (sym (many state.counters)) of.own; stands = kept };
       counters = λ w below. at_start state book of w (omega (arith, below, many state.counters));
-    })
-  where
+    }) where
     at_start : (state : JoinedState) (book : Book) → IsBookOf state book → (w : ℕ) → w < length state.counters → counters_at (map stores_as_commits state.counters) w ≡ counters_in book w
     at_start state book of w below =
         let counts = of.stands.counts w below in

@@ -50,8 +50,7 @@ ask_none workers = record {
 pub ask_more : (workers : ℕ) (said : List Record) (first : Record) (asked : Asked) → AskFor workers said asked → first.worker < workers
     → AskFor workers (said ++ (first ∷ [])) (with_record first asked)
 ask_more workers said first asked ask below =
-    let fits : first.worker < length asked.scripts = rw ask.workers_are below in
-    record {
+    let fits : first.worker < length asked.scripts = rw ask.workers_are below in record {
       rows_are = rows_more said first asked ask.rows_are;
       workers_are = count_more first asked ∙ ask.workers_are;
       script_of = λ w inside. script_more said first asked w fits (ask.script_of w inside);

@@ -38,8 +38,7 @@ read_more text from at value reaches within digit so_far =
     let inside : i < length ds = grind (arith, common_steps) in
     let here : get_or ds i 0 ≡ get_or text at 0 = get_or-drop from text i 0 ∙ (let place : from + i ≡ at = omega arith in rw place refl) in
     let one : at + 1 - from ≡ i + 1 = omega arith in
-    let digit_too : is_ascii_digit (get_or ds i 0) ≡ true = rw here digit in
-    record {
+    let digit_too : is_ascii_digit (get_or ds i 0) ≡ true = rw here digit in record {
       digits = rw one (digits_more ds i inside so_far.digits digit_too);
       sure = λ few.
           let v = so_far.sure (omega arith) in
@@ -80,8 +79,7 @@ split_at text from at reaches within =
     let i = at - from in
     let place : from + i ≡ at = omega arith in
     let rest : drop i (drop from text) ≡ get_or text at 0 ∷ drop (at + 1) text = drop-drop i from text ∙ (rw (place, add-one) (drop-cons text at 0 within)) in
-    let last : at + 1 - 1 ≡ at = omega arith in
-    record {
+    let last : at + 1 - 1 ≡ at = omega arith in record {
       text_is = sym (take-append-drop i (drop from text)) ∙ ap (λ (r : List ℕ). span text from at ++ r) rest;
       after = omega arith;
       within = omega arith;

@@ -32,8 +32,7 @@ checked_by : (o : Option ℕ) (workers : ℕ) (check : ℕ → Result Record Cau
     → and_then {B = Record} (ok_or o f) (λ worker. if nat_lt worker workers then result_map_both {U = Record} (λ x. x) h (check worker) else Err g) ≡ Ok said
     → (w : ℕ) × (check w ≡ Ok said)
 checked_by None workers check said f g h e = absurd (cc e)
-checked_by (Some w) workers check said f g h e = (w, within (nat_lt w workers) (check w) e)
-  where
+checked_by (Some w) workers check said f g h e = (w, within (nat_lt w workers) (check w) e) where
     within : (b : Bool) (r : Result Record Cause) → (if b then result_map_both {U = Record} (λ x. x) h r else Err g) ≡ Ok said → r ≡ Ok said
     within true (Ok x) e = cc e
     within b r e = absurd (cc e)

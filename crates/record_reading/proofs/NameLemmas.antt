@@ -28,8 +28,7 @@ name_tested bytes named =
 pub tested_name : (bytes : List ℕ) → is_name bytes ≡ true → IsName bytes
 tested_name bytes e =
     let both = and_parts _ (list_all is_printing bytes) e in
-    let ends = and_parts _ _ both.0 in
-    record {
+    let ends = and_parts _ _ both.0 in record {
       not_empty = leb-true 1 (length bytes) ends.0;
       not_long = leb-true (length bytes) 32 ends.1;
       printing = All-from_recursion IsPrinting bytes (tested_printing bytes both.1);

@@ -110,8 +110,7 @@ pub item_of : (text : List ℕ) (from stop worker at serial next : ℕ) → IsNu
     → IsItemTo text from stop (record { worker = worker; serial = serial }) next
 item_of text from stop worker at serial next first second =
     let xs = first.field in
-    let ys = second.field in
-    record {
+    let ys = second.field in record {
       field = xs ++ (46 ∷ ys);
       there = record {
         text_is = first.there.text_is ∙ ap (λ (r : List ℕ). xs ++ (46 ∷ r)) second.there.text_is ∙ sym (append_assoc xs (46 ∷ ys) (stop ∷ drop next text));
@@ -129,8 +128,7 @@ pub last_item_of : (text : List ℕ) (from worker at serial next : ℕ) → IsNu
 last_item_of text from worker at serial next first second =
     let xs = first.field in
     let ys = second.field in
-    let ends = second.there.ends in
-    record {
+    let ends = second.there.ends in record {
       field = xs ++ (46 ∷ ys);
       there = record {
         ends = ends;

@@ -42,8 +42,7 @@ quoted_to text from at reaches within first second comma unquoted =
     let opens = split_byte text from 34 (omega arith) first in
     let there : IsFieldTo text (from + 1) 34 (at + 1) (span text (from + 1) at) = rw second at (split_at text (from + 1) at reaches (omega arith)) in
     let stops = split_byte text (at + 1) 44 within comma in
-    let last : at + 1 + 1 - 1 ≡ at + 1 = omega arith in
-    record {
+    let last : at + 1 + 1 - 1 ≡ at + 1 = omega arith in record {
       text_is = opens ∙ ap (λ (r : List ℕ). 34 ∷ r) (there.text_is ∙ ap (λ (r : List ℕ). span text (from + 1) at ++ (34 ∷ r)) stops);
       unquoted = unquoted;
       after = omega arith;

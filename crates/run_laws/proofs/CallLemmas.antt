@@ -18,8 +18,7 @@ module _ {R : Type 0} where
 
   count_numbered : (i k : ℕ) (rs : List R) → k ≤ i → how_many (λ call. call.0 == i) (numbered k rs) ≡ cond (nat_lt i (k + length rs)) 1 0
   count_numbered i k [] from = sym (ap (λ b. cond b 1 0) (le-ltb i (k + 0) (omega arith)))
-  count_numbered i k (r ∷ rs) from = go (cases_eq k i) (λ (more : suc k ≤ i). count_numbered i (suc k) rs more)
-    where
+  count_numbered i k (r ∷ rs) from = go (cases_eq k i) (λ (more : suc k ≤ i). count_numbered i (suc k) rs more) where
       go : (k ≡ i) ⊎ (k ≡ i → ⊥) → (suc k ≤ i → how_many (λ call. call.0 == i) (numbered (suc k) rs) ≡ cond (nat_lt i (suc k + length rs)) 1 0) →
           cond (k == i) 1 0 + how_many (λ call. call.0 == i) (numbered (suc k) rs) ≡ cond (nat_lt i (k + suc (length rs))) 1 0
       go (inl same) again =
@@ -59,8 +58,7 @@ module _ {R : Type 0} where
   -- what holds of all calls holds of the one at an index
   pub at_index : (P : ℕ × R → Type 0) (k n : ℕ) (rs : List R) → AllByRecursion P (numbered k rs) → k ≤ n → n < k + length rs → (r : R) × P (n, r)
   at_index P k n [] h from until = absurd (omega arith)
-  at_index P k n (r ∷ rs) h from until = go (cases_eq k n) (λ (more : suc k ≤ n). at_index P (suc k) n rs h.1 more (omega arith))
-    where
+  at_index P k n (r ∷ rs) h from until = go (cases_eq k n) (λ (more : suc k ≤ n). at_index P (suc k) n rs h.1 more (omega arith)) where
       go : (k ≡ n) ⊎ (k ≡ n → ⊥) → (suc k ≤ n → (r : R) × P (n, r)) → (r : R) × P (n, r)
       go (inl same) again = (r, subst (λ m. P (m, r)) same h.0)
       go (inr other) again = again (omega arith)
@@ -87,8 +85,7 @@ module _ {R : Type 0} where
         (λ call both less. last call both less (cases_lt (commit call) n)) (numbered 0 script)
         (all-both (λ call. commit call < n → P call) (λ call. (commit call == n) ≡ true → P call) (numbered 0 script)
         (all_from_turns P n script (all-left P (turns commit n script) (turn commit n script) h))
-        (all-unfilter P (λ call. commit call == n) (numbered 0 script) (all-right P (turns commit n script) (turn commit n script) h)))
-      where
+        (all-unfilter P (λ call. commit call == n) (numbered 0 script) (all-right P (turns commit n script) (turn commit n script) h))) where
         last : (call : ℕ × R) → (commit call < n → P call) × ((commit call == n) ≡ true → P call) → commit call < suc n → (commit call < n) ⊎ (n ≤ commit call) → P call
         last call both less (inl before) = both.0 before
         last call both less (inr from) = both.1 (eq-eqb (commit call) n (omega arith))
@@ -106,8 +103,7 @@ module _ {R : Type 0} where
         (turns commit n script) (turns_commit n script))
 
     count_turns : (p : ℕ × R → Bool) (n : ℕ) (script : List R) → how_many p (turns commit n script) ≡ how_many (λ call. nat_lt (commit call) n && p call) (numbered 0 script)
-    count_turns p zero script = sym (none (numbered 0 script))
-      where
+    count_turns p zero script = sym (none (numbered 0 script)) where
         none : (calls : List (ℕ × R)) → how_many (λ call. nat_lt (commit call) zero && p call) calls ≡ 0
         none [] = refl
         none (call ∷ calls) = ap (λ b. cond (b && p call) 1 0 + how_many (λ c. nat_lt (commit c) zero && p c) calls) (le-ltb (commit call) 0 (omega arith)) ∙ omega (arith, none calls)
@@ -116,8 +112,7 @@ module _ {R : Type 0} where
         ∙ ap (λ m. m + how_many p (turn commit n script)) (count_turns p n script)
         ∙ ap (λ m. how_many (λ call. nat_lt (commit call) n && p call) (numbered 0 script) + m) (count-filter (λ call. commit call == n) p (numbered 0 script))
         ∙ count-sum (λ call. nat_lt (commit call) n && p call) (λ call. (commit call == n) && p call) (λ call. nat_lt (commit call) (suc n) && p call)
-        (λ call. adds (commit call) (p call) (cases_order (commit call) n)) (numbered 0 script)
-      where
+        (λ call. adds (commit call) (p call) (cases_order (commit call) n)) (numbered 0 script) where
         adds : (m : ℕ) (b : Bool) → (m ≡ n) ⊎ ((m < n) ⊎ (n < m)) → cond (nat_lt m n && b) 1 0 + cond ((m == n) && b) 1 0 ≡ cond (nat_lt m (suc n) && b) 1 0
         adds m b (inl same) =
             ap (λ t. cond (t && b) 1 0 + cond ((m == n) && b) 1 0) (le-ltb m n (omega arith)) ∙ ap (λ t. 0 + cond (t && b) 1 0) (eq-eqb m n same)

@@ -56,8 +56,7 @@ module _ (policy : Policy) (scripts : List (List Request)) (p : ℕ) (hot : List
   module _ (chosen : AreChosen policy hot history) (not_chosen_now : is_split p ≡ false → hot_now ≡ [])
       (chosen_now : is_split p ≡ true → hot_now ≡ choose (segment_of (p - 1) history) policy.threshold policy.hot_max) where
     which : (q : ℕ) → q < length (hot ++ hot_now ∷ []) → (q ≡ p) ⊎ (q < p)
-    which q less = go (cases_order q p)
-      where
+    which q less = go (cases_order q p) where
         go : (q ≡ p) ⊎ ((q < p) ⊎ (p < q)) → (q ≡ p) ⊎ (q < p)
         go (inl same) = inl same
         go (inr (inl before)) = inr before
@@ -76,19 +75,16 @@ module _ (policy : Policy) (scripts : List (List Request)) (p : ℕ) (hot : List
     before_split (suc q) split le e = omega arith
 
     pub phase_chosen : AreChosen policy (hot ++ hot_now ∷ []) (history ++ segment)
-    phase_chosen = record { joined = joined; split = split }
-      where
+    phase_chosen = record { joined = joined; split = split } where
         joined : (q : ℕ) → q < length (hot ++ hot_now ∷ []) → is_split q ≡ false → hot_in (hot ++ hot_now ∷ []) q ≡ []
-        joined q less is = go (which q less)
-          where
+        joined q less is = go (which q less) where
             go : (q ≡ p) ⊎ (q < p) → hot_in (hot ++ hot_now ∷ []) q ≡ []
             go (inl same) = ap (hot_in (hot ++ hot_now ∷ [])) same ∙ new ∙ not_chosen_now (sym (ap is_split same) ∙ is)
             go (inr before) = old q (not_this q before) ∙ chosen.joined q (within q before) is
 
         split : (q : ℕ) → q < length (hot ++ hot_now ∷ []) → is_split q ≡ true →
             hot_in (hot ++ hot_now ∷ []) q ≡ choose (segment_of (q - 1) (history ++ segment)) policy.threshold policy.hot_max
-        split q less is = go (which q less)
-          where
+        split q less is = go (which q less) where
             same_segment : q ≤ p → segment_of (q - 1) (history ++ segment) ≡ segment_of (q - 1) history
             same_segment le = segment_elsewhere p history segment run.phases_before phase.phases (q - 1) (before_split q is le)
 
@@ -104,8 +100,7 @@ pub phase_numbered : (opening : Opening) (policy : Policy) (scripts : List (List
     HasRun policy scripts p hot history stashes → IsPhasePerformed policy scripts p hot_now stashes after segment →
     AreNumbered opening policy hot history → IsNumbered opening policy.shards hot_now segment →
     AreNumbered opening policy (hot ++ hot_now ∷ []) (history ++ segment)
-phase_numbered opening policy scripts p hot hot_now history segment stashes after run phase before now q = go (cases_eq q p)
-  where
+phase_numbered opening policy scripts p hot hot_now history segment stashes after run phase before now q = go (cases_eq q p) where
     hot' : ℕ → List Object
     hot' = hot_in (hot ++ hot_now ∷ [])
 

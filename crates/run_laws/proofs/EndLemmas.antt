@@ -48,16 +48,14 @@ module _ (opening : Opening) (policy : Policy) (some : 0 < policy.joined_quota +
     store_first : (d e : Entry) → (d.worker ≡ e.worker → (commit_phase policy hot (call_of d) < commit_phase policy hot (call_of e)) ⊎
         ((commit_phase policy hot (call_of d) ≡ commit_phase policy hot (call_of e)) × (d.index < e.index))) →
         d.worker ≡ e.worker → is_splittable e.request ≡ true → d.index < e.index
-    store_first d e order same store = go (order same)
-      where
+    store_first d e order same store = go (order same) where
         at_once : commit_phase policy hot (call_of e) ≡ phase_reached policy e.index
         at_once = commit_free (phase_reached policy) (λ q request. is_put_off (hot_in hot q) request) (call_of e)
             (and_left (not (is_splittable e.request)) (list_any (λ touched. option_map_or (is_hot (hot_in hot (phase_reached policy e.index))) touched false) (touches e.request)) (ap not store))
 
         go : (commit_phase policy hot (call_of d) < commit_phase policy hot (call_of e)) ⊎ ((commit_phase policy hot (call_of d) ≡ commit_phase policy hot (call_of e)) × (d.index < e.index)) → d.index < e.index
         go (inr both) = both.1
-        go (inl less) = later (cases_lt d.index e.index)
-          where
+        go (inl less) = later (cases_lt d.index e.index) where
             later : (d.index < e.index) ⊎ (e.index ≤ d.index) → d.index < e.index
             later (inl before) = before
             later (inr not_before) =
@@ -71,8 +69,7 @@ module _ (opening : Opening) (policy : Policy) (some : 0 < policy.joined_quota +
         let high : greatest_by (λ e. suc e.phase) history ≤ p = greatest_least (λ e. suc e.phase) p history
         (all-weaker (λ e. e.phase < p) (λ e. suc e.phase ≤ p) (λ e less. omega arith) history run.phases_before) in
         let low : p ≤ greatest_by (λ e. suc e.phase) history = run.needed (greatest_by (λ e. suc e.phase) history) below in
-        let is : length hot ≡ p = run.phase_count in omega arith
-      where
+        let is : length hot ≡ p = run.phase_count in omega arith where
         entries_below : AllByRecursion (λ e. commit_phase policy hot (call_of e) < greatest_by (λ e. suc e.phase) history) history
         entries_below = all-weaker (λ e. (suc e.phase ≤ greatest_by (λ e. suc e.phase) history) × (e.phase ≡ commit_phase policy hot (call_of e)))
             (λ e. commit_phase policy hot (call_of e) < greatest_by (λ e. suc e.phase) history) (λ e both. at e both.0 both.1) history
@@ -115,8 +112,7 @@ module _ (opening : Opening) (policy : Policy) (some : 0 < policy.joined_quota +
           (λ d e. d.worker ≡ e.worker → is_splittable e.request ≡ true → d.index < e.index) store_first history in_order;
       phase_count = greatest_is;
       numbers = numbered_all;
-    }
-      where
+    } where
         in_phase : (d e : Entry) → d.phase ≡ commit_phase policy hot (call_of d) → e.phase ≡ commit_phase policy hot (call_of e) →
             (commit_phase policy hot (call_of d) < commit_phase policy hot (call_of e)) ⊎ ((commit_phase policy hot (call_of d) ≡ commit_phase policy hot (call_of e)) × (d.index < e.index)) → d.phase ≡ e.phase → d.index < e.index
         in_phase d e is is' (inl less) phases = absurd (omega arith)
@@ -127,8 +123,7 @@ pub few_phases : (policy : Policy) (some : 0 < policy.joined_quota + policy.spli
     HasRun policy scripts p hot history stashes → ((w : ℕ) → length (script_of scripts w) ≤ most) → p ≤ 2 * most + 2
 few_phases policy some scripts p most hot history stashes run short = run.needed (2 * most + 2)
     (λ w. all-weaker (λ call. call.0 < most) (λ call. commit_phase policy hot call < 2 * most + 2) (λ call less. early call less) (numbered 0 (script_of scripts w))
-    (numbered_until 0 most (script_of scripts w) (let e : length (script_of scripts w) ≤ most = short w in omega arith)))
-  where
+    (numbered_until 0 most (script_of scripts w) (let e : length (script_of scripts w) ≤ most = short w in omega arith))) where
     early : (call : ℕ × Request) → call.0 < most → commit_phase policy hot call < 2 * most + 2
     early call less =
         let a : commit_phase policy hot call ≤ suc (phase_reached policy call.0) = until policy hot call in

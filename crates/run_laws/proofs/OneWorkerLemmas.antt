@@ -78,8 +78,7 @@ module _ {opening : Opening} {start : Book} {policy : Policy} {script : List Req
 
   -- each request of the script commits in one of the phases
   pub commits_below : (i : ℕ) (r : Request) → slice_get script i ≡ Some r → commit_phase policy hot (i, r) < length hot
-  commits_below i r is = go (cases_lt (commit_phase policy hot (i, r)) (length hot))
-    where
+  commits_below i r is = go (cases_lt (commit_phase policy hot (i, r)) (length hot)) where
       absent : length hot ≤ commit_phase policy hot (i, r) → (e : Entry) → e.phase < length hot → (e.index ≡ i → e.phase ≡ commit_phase policy hot (i, r)) → (e.index == i) ≡ false
       absent high e low in_phase = ne_eqb e.index i (λ same. let p : e.phase ≡ commit_phase policy hot (i, r) = in_phase same in omega arith)
 
@@ -107,8 +106,7 @@ module _ {opening : Opening} {start : Book} {policy : Policy} {script : List Req
         (λ e. ((e.phase == n) && (e.index == i)) ≡ ((commit_phase policy hot (i, r) == n) && (e.index == i)))
         (λ e in_phase. same_test e in_phase (e.index == i) refl) history (in_its_phase i r is))
         ∙ count_where (commit_phase policy hot (i, r) == n) (λ e. e.index == i) history
-        ∙ ap (λ m. cond (commit_phase policy hot (i, r) == n) m 0) (index_count i)
-      where
+        ∙ ap (λ m. cond (commit_phase policy hot (i, r) == n) m 0) (index_count i) where
         same_test : (e : Entry) → (e.index ≡ i → e.phase ≡ commit_phase policy hot (i, r)) → (b : Bool) → (e.index == i) ≡ b →
             ((e.phase == n) && (e.index == i)) ≡ ((commit_phase policy hot (i, r) == n) && (e.index == i))
         same_test e in_phase true is = ap (λ p. (p == n) && (e.index == i)) (in_phase (eqb-true e.index i is))
@@ -164,8 +162,7 @@ module _ {opening : Opening} {start : Book} {policy : Policy} {script : List Req
   module _ (n : ℕ) (before : entries_until n history ≡ entries_until n history') where
     -- the hot sets so far are the same
     same_hot : (q : ℕ) → q ≤ n → q < length hot → q < length hot' → hot_in hot q ≡ hot_in hot' q
-    same_hot q le less less' = go (cases_Bool (is_split q))
-      where
+    same_hot q le less less' = go (cases_Bool (is_split q)) where
         earlier : q - 1 < n → segment_of (q - 1) history ≡ segment_of (q - 1) history'
         earlier early =
             sym (earlier_until (λ e. e.phase) (q - 1) n early history)
@@ -182,8 +179,7 @@ module _ {opening : Opening} {start : Book} {policy : Policy} {script : List Req
 
     -- so the phase has the same requests of the script
     same_test : (i : ℕ) (r : Request) → slice_get script i ≡ Some r → (commit_phase policy hot (i, r) == n) ≡ (commit_phase policy hot' (i, r) == n)
-    same_test i r is = go (cases_lt n (phase_reached policy i))
-      where
+    same_test i r is = go (cases_lt n (phase_reached policy i)) where
         low : phase_reached policy i ≤ commit_phase policy hot (i, r)
         low = from policy hot (i, r)
 
@@ -205,8 +201,7 @@ module _ {opening : Opening} {start : Book} {policy : Policy} {script : List Req
             (same_hot (phase_reached policy i) le (omega arith) (omega arith))
 
     same_part : (i : ℕ) → part (λ call. call.0) i (calls_in n history) ≡ part (λ call. call.0) i (calls_in n history')
-    same_part i = go (slice_get script i) refl
-      where
+    same_part i = go (slice_get script i) refl where
         none : slice_get script i ≡ None → (calls : List (ℕ × Request)) → AllByRecursion (λ call. slice_get script call.0 ≡ Some call.1) calls → part (λ call. call.0) i calls ≡ []
         none is calls are = filter_false (λ call. call.0 == i) calls
             (all-weaker (λ call. slice_get script call.0 ≡ Some call.1) (λ call. (call.0 == i) ≡ false)
@@ -218,8 +213,7 @@ module _ {opening : Opening} {start : Book} {policy : Policy} {script : List Req
             all-weaker (λ call. (slice_get script call.0 ≡ Some call.1) × ((call.0 == i) ≡ true)) (λ call. call ≡ (i, r)) (λ call both. one call both.0 (eqb-true call.0 i both.1))
             (part (λ call. call.0) i calls)
             (all-both (λ call. slice_get script call.0 ≡ Some call.1) (λ call. (call.0 == i) ≡ true) (part (λ call. call.0) i calls)
-            (all-filter (λ call. slice_get script call.0 ≡ Some call.1) (λ call. call.0 == i) calls are) (all-kept (λ call. call.0 == i) calls))
-          where
+            (all-filter (λ call. slice_get script call.0 ≡ Some call.1) (λ call. call.0 == i) calls are) (all-kept (λ call. call.0 == i) calls)) where
             one : (call : ℕ × Request) → slice_get script call.0 ≡ Some call.1 → call.0 ≡ i → call ≡ (i, r)
             one call got same =
                 let some : Some call.1 ≡ Some r = sym got ∙ ap (slice_get script) same ∙ is in

@@ -10,8 +10,7 @@ round_reached : (q j : ℕ) → (i d m k : ℕ) → d * q + m ≡ k → i ≤ d 
 round_reached q j i d m k is low false true before from = omega arith
 round_reached q j i d m k is low false false before from = omega arith
 round_reached q j i d m k is low true false before from = omega arith
-round_reached q j i d m k is low true true before from = go (cases_lt i d)
-  where
+round_reached q j i d m k is low true true before from = go (cases_lt i d) where
     go : (i < d) ⊎ (d ≤ i) → 2 * i + 1 ≤ 2 * d + 0
     go (inl less) = omega arith
     go (inr same) =
@@ -24,8 +23,7 @@ round_not_reached : (q j : ℕ) → (i d m k : ℕ) → d * q + m ≡ k → (b c
 round_not_reached q j i d m k is false true before below up until = let less : d < i = below (omega arith) in omega arith
 round_not_reached q j i d m k is false false before below up until = let less : d < i = below (omega arith) in omega arith
 round_not_reached q j i d m k is true true before below up until = omega arith
-round_not_reached q j i d m k is true false before below up until = go (cases_lt d i)
-  where
+round_not_reached q j i d m k is true false before below up until = go (cases_lt d i) where
     go : (d < i) ⊎ (i ≤ d) → 2 * d + 1 < 2 * i + 1
     go (inl less) = omega arith
     go (inr same) =
@@ -35,8 +33,7 @@ round_not_reached q j i d m k is true false before below up until = go (cases_lt
 
 -- a phase is twice its round, and one more where it is split
 pub halves : (p : ℕ) → p ≡ 2 * (p / 2) + cond (is_split p) 1 0
-halves p = go (is_split p) refl
-  where
+halves p = go (is_split p) refl where
     go : (b : Bool) → is_split p ≡ b → p ≡ 2 * (p / 2) + cond b 1 0
     go true is = let one : p % 2 ≡ 1 = eqb-true (p % 2) 1 is in omega arith
     go false is = let other : p % 2 ≡ 1 → ⊥ = eqb-false (p % 2) 1 is in omega arith
@@ -71,15 +68,13 @@ module _ (j s : ℕ) (some : 0 < j + s) where
       let r : reach j s k < 2 * (p / 2) + cond (is_split p) 1 0 =
       round_not_reached (j + s) j (p / 2) (k / (j + s)) (k % (j + s)) k is (is_split p) (nat_lt (k % (j + s)) j) refl
       (λ less. div_below k (j + s) (p / 2) some less) (omega arith) until in
-      subst (λ n. reach j s k < n) (sym e) r
-    where
+      subst (λ n. reach j s k < n) (sym e) r where
       at_most : (b : Bool) → cond b j 0 ≤ j + s
       at_most true = omega arith
       at_most false = omega arith
 
   pub first_until : (p k : ℕ) → p ≤ reach j s k → first_of j s p ≤ k
-  first_until p k reached = go (cases_lt k (first_of j s p))
-    where
+  first_until p k reached = go (cases_lt k (first_of j s p)) where
       go : (k < first_of j s p) ⊎ (first_of j s p ≤ k) → first_of j s p ≤ k
       go (inl less) = let r : reach j s k < p = reach_until p k less in absurd (omega arith)
       go (inr from) = from
@@ -92,8 +87,7 @@ module _ (j s : ℕ) (some : 0 < j + s) where
 
   -- a phase ends where the next one begins
   pub first_next : (p : ℕ) → first_of j s (suc p) ≡ first_of j s p + cond (is_split p) s j
-  first_next p = go (is_split p) (is_split (suc p)) refl refl
-    where
+  first_next p = go (is_split p) (is_split (suc p)) refl refl where
       go : (b c : Bool) → is_split p ≡ b → is_split (suc p) ≡ c → (suc p / 2) * (j + s) + cond c j 0 ≡ ((p / 2) * (j + s) + cond b j 0) + cond b s j
       go true c is next =
           let one : p % 2 ≡ 1 = eqb-true (p % 2) 1 is in
@@ -113,8 +107,7 @@ module _ (j s : ℕ) (some : 0 < j + s) where
   reach_most k =
       let rows : suc k * 1 ≤ suc k * (j + s) = mul-le (suc k) 1 (suc k) (j + s) (omega arith) some in
       let d : k / (j + s) < suc k = div_below k (j + s) (suc k) some (omega arith) in
-      go (nat_lt (k % (j + s)) j) d
-    where
+      go (nat_lt (k % (j + s)) j) d where
       go : (b : Bool) → k / (j + s) < suc k → 2 * (k / (j + s)) + cond b 0 1 ≤ 2 * k + 1
       go true d = omega arith
       go false d = omega arith

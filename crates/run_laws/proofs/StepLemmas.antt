@@ -41,8 +41,7 @@ module _ (policy : Policy) (some : 0 < policy.joined_quota + policy.split_quota)
     same_commit call less = ap (λ objects. phase_reached policy call.0 + cond (is_split (phase_reached policy call.0) && is_put_off objects call.1) 1 0) (same_before (phase_reached policy call.0) less)
 
     same_test : (q : ℕ) → q < p → (call : ℕ × Request) → (commit_phase policy hot call == q) ≡ (commit_phase policy (hot ++ hot_now ∷ []) call == q)
-    same_test q less call = go (cases_lt (phase_reached policy call.0) p)
-      where
+    same_test q less call = go (cases_lt (phase_reached policy call.0) p) where
         go : (phase_reached policy call.0 < p) ⊎ (p ≤ phase_reached policy call.0) → (commit_phase policy hot call == q) ≡ (commit_phase policy (hot ++ hot_now ∷ []) call == q)
         go (inl before) = ap (λ n. n == q) (sym (same_commit call before))
         go (inr later) =
@@ -52,8 +51,7 @@ module _ (policy : Policy) (some : 0 < policy.joined_quota + policy.split_quota)
             ∙ sym (ne_eqb (commit_phase policy (hot ++ hot_now ∷ []) call) q (λ (e : commit_phase policy (hot ++ hot_now ∷ []) call ≡ q). omega arith))
 
     same_wait : (call : ℕ × Request) → (nat_lt (phase_reached policy call.0) p && (commit_phase policy hot call == p)) ≡ (nat_lt (phase_reached policy call.0) p && (commit_phase policy (hot ++ hot_now ∷ []) call == p))
-    same_wait call = go (cases_lt (phase_reached policy call.0) p)
-      where
+    same_wait call = go (cases_lt (phase_reached policy call.0) p) where
         go : (phase_reached policy call.0 < p) ⊎ (p ≤ phase_reached policy call.0) → (nat_lt (phase_reached policy call.0) p && (commit_phase policy hot call == p)) ≡ (nat_lt (phase_reached policy call.0) p && (commit_phase policy (hot ++ hot_now ∷ []) call == p))
         go (inl before) = ap (λ n. nat_lt (phase_reached policy call.0) p && (n == p)) (sym (same_commit call before))
         go (inr later) =
@@ -68,8 +66,7 @@ module _ (policy : Policy) (some : 0 < policy.joined_quota + policy.split_quota)
     given_is w = given_reaches policy.joined_quota policy.split_quota some p (script_of scripts w)
 
     segment_turn : (w : ℕ) → calls_of w segment ≡ turn (commit_phase policy (hot ++ hot_now ∷ [])) p (script_of scripts w)
-    segment_turn w = go (cases_Bool (is_split p))
-      where
+    segment_turn w = go (cases_Bool (is_split p)) where
         go : (is_split p ≡ true) ⊎ (is_split p ≡ false) → calls_of w segment ≡ turn (commit_phase policy (hot ++ hot_now ∷ [])) p (script_of scripts w)
         go (inl split) =
             phase.split_calls split w
@@ -83,8 +80,7 @@ module _ (policy : Policy) (some : 0 < policy.joined_quota + policy.split_quota)
             ∙ sym (joined_turn (phase_reached policy) (λ q request. is_put_off (hot_in (hot ++ hot_now ∷ []) q) request) p (reach_rises policy.joined_quota policy.split_quota some) joined (script_of scripts w))
 
     after_is : (w : ℕ) → after w ≡ waiting (phase_reached policy) (commit_phase policy (hot ++ hot_now ∷ [])) (suc p) (script_of scripts w)
-    after_is w = go (cases_Bool (is_split p))
-      where
+    after_is w = go (cases_Bool (is_split p)) where
         go : (is_split p ≡ true) ⊎ (is_split p ≡ false) → after w ≡ waiting (phase_reached policy) (commit_phase policy (hot ++ hot_now ∷ [])) (suc p) (script_of scripts w)
         go (inl split) =
             phase.split_stash split w
@@ -112,8 +108,7 @@ module _ (policy : Policy) (some : 0 < policy.joined_quota + policy.split_quota)
         let low : phase_reached policy (first_index policy p) ≤ commit_phase policy (hot ++ hot_now ∷ []) (first_index policy p, call.0) = from policy (hot ++ hot_now ∷ []) (first_index policy p, call.0) in
         let less : commit_phase policy (hot ++ hot_now ∷ []) (first_index policy p, call.0) < n = call.1 in
         omega arith
-    still_needed w (inr waits) n all = go (cases_lt p n)
-      where
+    still_needed w (inr waits) n all = go (cases_lt p n) where
         none : n ≤ p → stashes w ≡ []
         none le = waiting_same w ∙ filter_false (λ call. nat_lt (phase_reached policy call.0) p && (commit_phase policy (hot ++ hot_now ∷ []) call == p)) (numbered 0 (script_of scripts w))
             (all-weaker (λ call. commit_phase policy (hot ++ hot_now ∷ []) call < n) (λ call. (nat_lt (phase_reached policy call.0) p && (commit_phase policy (hot ++ hot_now ∷ []) call == p)) ≡ false)

@@ -7,8 +7,7 @@ use Rattle.run_laws.specs.Turns.{numbered, commits_in, turn, waiting, reaching}
 
 pub filter_twice : {X : Type 0} (p q : X → Bool) (xs : List X) → filter q (filter p xs) ≡ filter (λ x. p x && q x) xs
 filter_twice p q [] = refl
-filter_twice p q (x ∷ xs) = go (p x) (filter_twice p q xs)
-  where
+filter_twice p q (x ∷ xs) = go (p x) (filter_twice p q xs) where
     go : (b : Bool) → filter q (filter p xs) ≡ filter (λ y. p y && q y) xs →
         filter q (cond b (x ∷ filter p xs) (filter p xs)) ≡ cond (b && q x) (x ∷ filter (λ y. p y && q y) xs) (filter (λ y. p y && q y) xs)
     go true again = ap (λ ys. cond (q x) (x ∷ ys) ys) again
@@ -53,16 +52,14 @@ module _ {R : Type 0} (reach : ℕ → ℕ) (held : ℕ → R → Bool) where
   module _ (p : ℕ) where
     -- a call that commits in a later phase than it reaches reached a split phase
     late_is_split : (call : ℕ × R) → reach call.0 < commits_in reach held call → is_split (reach call.0) ≡ true
-    late_is_split call less = go (cases_Bool (is_split (reach call.0)))
-      where
+    late_is_split call less = go (cases_Bool (is_split (reach call.0))) where
         go : (is_split (reach call.0) ≡ true) ⊎ (is_split (reach call.0) ≡ false) → is_split (reach call.0) ≡ true
         go (inl is) = is
         go (inr is) = let e : commits_in reach held call ≡ reach call.0 = commit_joined call is in absurd (omega arith)
 
     -- in a joined phase or later: who commits in p reaches p
     joined_test : is_split p ≡ false → (call : ℕ × R) → p ≤ reach call.0 → (commits_in reach held call == p) ≡ (reach call.0 == p)
-    joined_test joined call from = go (cases_order (reach call.0) p)
-      where
+    joined_test joined call from = go (cases_order (reach call.0) p) where
         go : (reach call.0 ≡ p) ⊎ ((reach call.0 < p) ⊎ (p < reach call.0)) → (commits_in reach held call == p) ≡ (reach call.0 == p)
         go (inl same) = ap (λ n. n == p) (commit_joined call (ap is_split same ∙ joined))
         go (inr (inl less)) = absurd (omega arith)
@@ -72,8 +69,7 @@ module _ {R : Type 0} (reach : ℕ → ℕ) (held : ℕ → R → Bool) where
 
     -- in a split phase: who commits in p reaches it and isn't held back
     split_test : is_split p ≡ true → (call : ℕ × R) → (commits_in reach held call == p) ≡ ((reach call.0 == p) && not (held p call.1))
-    split_test split call = go (cases_order (reach call.0) p)
-      where
+    split_test split call = go (cases_order (reach call.0) p) where
         at : reach call.0 ≡ p → (held p call.1 ≡ true) ⊎ (held p call.1 ≡ false) → (commits_in reach held call == p) ≡ ((reach call.0 == p) && not (held p call.1))
         at same (inl is) =
             let c : commits_in reach held call ≡ suc (reach call.0) = commit_held call (ap is_split same ∙ split) (ap (λ n. held n call.1) same ∙ is) in
@@ -102,8 +98,7 @@ module _ {R : Type 0} (reach : ℕ → ℕ) (held : ℕ → R → Bool) where
     -- after a split phase: who waits reached it and was held back
     waits_test : is_split p ≡ true → (call : ℕ × R) →
         (nat_lt (reach call.0) (suc p) && (commits_in reach held call == suc p)) ≡ ((reach call.0 == p) && held p call.1)
-    waits_test split call = go (cases_order (reach call.0) p)
-      where
+    waits_test split call = go (cases_order (reach call.0) p) where
         at : reach call.0 ≡ p → (held p call.1 ≡ true) ⊎ (held p call.1 ≡ false) →
             (nat_lt (reach call.0) (suc p) && (commits_in reach held call == suc p)) ≡ ((reach call.0 == p) && held p call.1)
         at same (inl is) =
@@ -131,8 +126,7 @@ module _ {R : Type 0} (reach : ℕ → ℕ) (held : ℕ → R → Bool) where
 
     -- after a joined phase nobody waits
     none_waits_test : is_split p ≡ false → (call : ℕ × R) → (nat_lt (reach call.0) (suc p) && (commits_in reach held call == suc p)) ≡ false
-    none_waits_test joined call = go (cases_lt (reach call.0) (suc p))
-      where
+    none_waits_test joined call = go (cases_lt (reach call.0) (suc p)) where
         go : (reach call.0 < suc p) ⊎ (suc p ≤ reach call.0) → (nat_lt (reach call.0) (suc p) && (commits_in reach held call == suc p)) ≡ false
         go (inl less) =
             and_right (nat_lt (reach call.0) (suc p)) (commits_in reach held call == suc p)
@@ -165,8 +159,7 @@ module _ {R : Type 0} (reach : ℕ → ℕ) (held : ℕ → R → Bool) where
           filter (λ call. commits_in reach held call == p) (numbered k rs) ≡
           filter (λ call. nat_lt (reach call.0) p && (commits_in reach held call == p)) (numbered k rs) ++ filter (λ call. reach call.0 == p) (numbered k rs)
       joined_from joined k [] = refl
-      joined_from joined k (r ∷ rs) = go (cases_lt (reach k) p) (joined_from joined (suc k) rs)
-        where
+      joined_from joined k (r ∷ rs) = go (cases_lt (reach k) p) (joined_from joined (suc k) rs) where
           put : (b : Bool) → (fs ws qs : List (ℕ × R)) → fs ≡ ws ++ qs → cond b ((k, r) ∷ fs) fs ≡ cond b ((k, r) ∷ ws) ws ++ qs
           put true fs ws qs e = ap (λ xs. (k, r) ∷ xs) e
           put false fs ws qs e = e

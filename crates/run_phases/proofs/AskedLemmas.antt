@@ -27,8 +27,7 @@ calls_are_of first count script = all-take (IsCallOf script) count (drop first (
 -- so is what a phase leaves in a stash
 pub left_asked : (policy : Policy) (scripts : List (List Request)) (phase : ℕ) (hot : List Object) (stashes after : ℕ → List (ℕ × Request)) (segment : List Entry) →
     IsPhasePerformed policy scripts phase hot stashes after segment → (worker : ℕ) → AllByRecursion (IsCallOf (script_of scripts worker)) (after worker)
-left_asked policy scripts phase hot stashes after segment performed worker = at (cases_Bool (is_split phase))
-  where
+left_asked policy scripts phase hot stashes after segment performed worker = at (cases_Bool (is_split phase)) where
     at : (is_split phase ≡ true) ⊎ (is_split phase ≡ false) → AllByRecursion (IsCallOf (script_of scripts worker)) (after worker)
     at (inl split) =
         let script = script_of scripts worker in

@@ -227,8 +227,7 @@ module _ {policy : Policy} {scripts : List (List Request)} {state : JoinedState}
       calls_are w = ap (map call_of) (parts w)
 
       own_at : (w : ℕ) → AllByRecursion (λ (e : Entry). e.phase ≡ state.phase) (journal_of (receipt_at receipts w)).entries
-      own_at w = at (cases_lt w (length scripts))
-        where
+      own_at w = at (cases_lt w (length scripts)) where
           at : (w < length scripts) ⊎ (length scripts ≤ w) → AllByRecursion (λ (e : Entry). e.phase ≡ state.phase) (journal_of (receipt_at receipts w)).entries
           at (inl less) =
               let before : AreOfPhase (receipt_at permits w) = subst AreOfPhase (sym (begins w less).new) tt in
@@ -271,8 +270,7 @@ module _ {policy : Policy} {scripts : List (List Request)} {state : JoinedState}
             ∙ ap (calls_given policy state.phase) (past_end scripts w beyond) ∙ given_none policy state.phase
 
         calls_done : (w : ℕ) → calls_of w entries ≡ not_put_off hot (asked w)
-        calls_done w = at (cases_lt w (length scripts))
-          where
+        calls_done w = at (cases_lt w (length scripts)) where
             at : (w < length scripts) ⊎ (length scripts ≤ w) → calls_of w entries ≡ not_put_off hot (asked w)
             at (inl less) =
                 let permit : WorkerState = receipt_at permits w in
@@ -284,8 +282,7 @@ module _ {policy : Policy} {scripts : List (List Request)} {state : JoinedState}
             at (inr beyond) = calls_are w ∙ ap (λ (p : WorkerState). committed p) (past w beyond) ∙ sym (ap (not_put_off hot) (none_asked w beyond))
 
         stash_left : (w : ℕ) → waiting_in (map stash_of receipts) w ≡ put_off hot (asked w)
-        stash_left w = at (cases_lt w (length scripts))
-          where
+        stash_left w = at (cases_lt w (length scripts)) where
             at : (w < length scripts) ⊎ (length scripts ≤ w) → waiting_in (map stash_of receipts) w ≡ put_off hot (asked w)
             at (inl less) =
                 let permit : WorkerState = receipt_at permits w in

@@ -39,8 +39,7 @@ module _ (policy : Policy) (some : 0 < policy.joined_quota + policy.split_quota)
 
   -- what it did and what waits now is at most what waited and what it was given
   pub dealt : length (calls_of worker entries) + length (after worker) ≤ length (waits worker) + quota_of policy p script
-  dealt = go (cases_Bool (is_split p))
-    where
+  dealt = go (cases_Bool (is_split p)) where
       go : (is_split p ≡ true) ⊎ (is_split p ≡ false) → length (calls_of worker entries) + length (after worker) ≤ length (waits worker) + quota_of policy p script
       go (inl split) =
           let done : length (calls_of worker entries) ≡ length (filter (λ (call : ℕ × Request). not (is_put_off hot call.1)) (calls_given policy p script)) = ap length (performed.split_calls split worker) in
@@ -149,8 +148,7 @@ goes_on {opening} {rows} is_book {policy} same_policy {scripts} {own_scripts} sa
     }))
 
 all_short : (limit : ℕ) (rows : Book) (scripts : List (List Request)) → AreShortFor limit rows scripts → (worker : ℕ) → length (script_of scripts worker) ≤ 1000000
-all_short limit rows scripts short worker = go (cases_lt worker (length scripts))
-  where
+all_short limit rows scripts short worker = go (cases_lt worker (length scripts)) where
     go : (worker < length scripts) ⊎ (length scripts ≤ worker) → length (script_of scripts worker) ≤ 1000000
     go (inl known) = (short worker known).0
     go (inr past) = let e : length (script_of scripts worker) ≡ 0 = ap length (past_end scripts worker past) in omega (arith, e)
@@ -182,8 +180,7 @@ module _ (policy : Policy) (scripts : List (List Request)) (running : Running) (
   run = on.running_is
 
   hot_exist : DoAllExist running.state.opening (states_of running.state) hot_now
-  hot_exist = go (cases_Bool (is_split running.state.phase))
-    where
+  hot_exist = go (cases_Bool (is_split running.state.phase)) where
       go : (is_split running.state.phase ≡ true) ⊎ (is_split running.state.phase ≡ false) → DoAllExist running.state.opening (states_of running.state) hot_now
       go (inl split) = subst (DoAllExist running.state.opening (states_of running.state)) (sym (chosen split ∙ ap (λ es. choose es policy.threshold policy.hot_max) (sym run.last_entries)))
           (chosen_exist running.state on.rows running.history.entries run.from policy.threshold policy.hot_max (omega (arith, shards, run.shards_are))

@@ -20,8 +20,7 @@ one_stash_more (s ∷ stashes) x empty none (suc worker) = one_stash_more stashe
 
 -- where neither a request nor a stash is left, nothing is
 pub neither : (first len waits : ℕ) → ((first < len) ⊎ (0 < waits) → ⊥) → (len ≤ first) × (waits ≡ 0)
-neither first len waits none = (go (cases_lt first len), at waits (λ some. none (inr some)))
-  where
+neither first len waits none = (go (cases_lt first len), at waits (λ some. none (inr some))) where
     go : (first < len) ⊎ (len ≤ first) → len ≤ first
     go (inl more) = absurd (none (inl more))
     go (inr within) = within
@@ -56,8 +55,7 @@ module _ (scripts : List (List Request)) (stashes : List StashState) (first i : 
 pub nobody : (scripts : List (List Request)) (stashes : List StashState) (first i : ℕ) → length scripts ≤ i → length stashes ≡ length scripts →
     ((w : ℕ) → w < i → (length (script_of scripts w) ≤ first) × (length (waiting_in stashes w) ≡ 0)) →
     (w : ℕ) → (length (script_of scripts w) ≤ first) × (length (waiting_in stashes w) ≡ 0)
-nobody scripts stashes first i all same none w = go (cases_lt w i)
-  where
+nobody scripts stashes first i all same none w = go (cases_lt w i) where
     go : (w < i) ⊎ (i ≤ w) → (length (script_of scripts w) ≤ first) × (length (waiting_in stashes w) ≡ 0)
     go (inl before) = none w before
     go (inr past) =

@@ -30,8 +30,7 @@ pub is_at_guess : (keys : List ℕ) (key guess : ℕ) → guess < length keys �
 is_at_guess keys key guess lt is = λ i. lt-ltb guess (length keys) lt i && eq-eqb (get_or keys guess 0) key is i
 
 pub not_at : (keys : List ℕ) (key guess : ℕ) → (guess < length keys → get_or keys guess 0 ≡ key → ⊥) → is_at keys key guess ≡ false
-not_at keys key guess never = at (is_at keys key guess) refl
-  where
+not_at keys key guess never = at (is_at keys key guess) refl where
     at : (b : Bool) → is_at keys key guess ≡ b → is_at keys key guess ≡ false
     at true is = let found = at_guess keys key guess is in absurd (never found.0 found.1)
     at false is = is
@@ -147,8 +146,7 @@ module _ {Record Slice Look Request Reply Act : Type 0} (rules : Rules Record Sl
   spread_set guesses keys slices place key s are lt there =
       ext_get_or rules.empty _ _
       (length-spread guesses keys (set slices place s) ∙ sym (length-spread guesses keys slices) ∙ sym (length-set (spread rules guesses keys slices) key s))
-      (λ j in_all. at j (omega (arith, in_all, length-spread guesses keys (set slices place s))) (j == key) refl)
-    where
+      (λ j in_all. at j (omega (arith, in_all, length-spread guesses keys (set slices place s))) (j == key) refl) where
       within : key < length guesses
       within = omega (arith, are.within place lt, there)
 
@@ -290,8 +288,7 @@ module _ {Record Slice Look Request Reply Act : Type 0} (rules : Rules Record Sl
             ∙ sym (kept_here (take k keys) (take k slices) j g is)
         beside j g other false is =
             not_kept (take (k + 1) keys) (take (k + 1) slices) j g (not_at (take (k + 1) keys) j g (λ lt_g at. never lt_g at (nat_lt g k) refl))
-            ∙ sym (not_kept (take k keys) (take k slices) j g is)
-          where
+            ∙ sym (not_kept (take k keys) (take k slices) j g is) where
             never : g < length (take (k + 1) keys) → get_or (take (k + 1) keys) g 0 ≡ j → (b : Bool) → nat_lt g k ≡ b → ⊥
             never lt_g at true before =
                 let low = ltb-true g k before in

@@ -42,8 +42,7 @@ mark_there scripts before marks w i q are there = are w i ∙ ap (option_map (λ
 -- if each request is marked, each has a line
 pub all_had : {Q R : Type 0} (scripts : List (List Q)) (lines : List (Line R)) (marks : List (List Bool)) → AreMarks scripts lines marks →
     ((w i : ℕ) → request_at marks w i ≡ Some false → ⊥) → (w i : ℕ) (q : Q) → request_at scripts w i ≡ Some q → has_line lines w i ≡ true
-all_had scripts lines marks are none w i q there = here (has_line lines w i) (mark_there scripts lines marks w i q are there)
-  where
+all_had scripts lines marks are none w i q there = here (has_line lines w i) (mark_there scripts lines marks w i q are there) where
     here : (b : Bool) → request_at marks w i ≡ Some b → b ≡ true
     here true is = refl
     here false is = absurd (none w i is)
@@ -77,8 +76,7 @@ row_others rows w i row old v j at is ne = refl
 
 has-append : {R : Type 0} (before : List (Line R)) (line : Line R) (w i : ℕ) → has_line (before ++ line ∷ []) w i ≡ (has_line before w i || ((line.worker == w) && (line.index == i)))
 has-append [] line w i = or-false ((line.worker == w) && (line.index == i))
-has-append (l ∷ before) line w i = here ((l.worker == w) && (l.index == i)) (has-append before line w i)
-  where
+has-append (l ∷ before) line w i = here ((l.worker == w) && (l.index == i)) (has-append before line w i) where
     here : (b : Bool) → has_line (before ++ line ∷ []) w i ≡ (has_line before w i || ((line.worker == w) && (line.index == i))) →
         (b || has_line (before ++ line ∷ []) w i) ≡ ((b || has_line before w i) || ((line.worker == w) && (line.index == i)))
     here true again = refl
@@ -92,8 +90,7 @@ has_own before line =
     (and_from (line.worker == line.worker) (line.index == line.index) (eq-eqb line.worker line.worker refl) (eq-eqb line.index line.index refl))
 
 other_false : (a w b i : ℕ) → (w ≡ a → i ≡ b → ⊥) → ((a == w) && (b == i)) ≡ false
-other_false a w b i ne = here (a == w) refl
-  where
+other_false a w b i ne = here (a == w) refl where
     here : (x : Bool) → (a == w) ≡ x → (x && (b == i)) ≡ false
     here true is = ne_eqb b i (λ e. ne (sym (eqb-true a w is)) (sym e))
     here false is = refl

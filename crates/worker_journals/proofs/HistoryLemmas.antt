@@ -74,8 +74,7 @@ module _ (old new : List (Vec JournalView)) (len count : ℕ) (journals closed :
   pub history_after : (history : HistoryView) → shown (journals_of old) ≡ history → shown (journals_of new) ≡ with_phase history journals
   history_after history was =
       let last : last_of (journals_of new) ≡ map closed_journal journals = ap last_of phases_after ∙ last_more (journals_of old) (map closed_journal journals) in
-      view_by entries_after last ∙ ap (λ h. with_phase h journals) was
-    where
+      view_by entries_after last ∙ ap (λ h. with_phase h journals) was where
       view_by : {es es' : List Entry} {js js' : List JournalView} → es ≡ es' → js ≡ js' →
           ◌≡◌ {A = HistoryView} (record { entries = es; last = js }) (record { entries = es'; last = js' })
       view_by e f = cc

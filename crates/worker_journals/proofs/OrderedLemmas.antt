@@ -124,8 +124,7 @@ part_put_own w e (x ∷ xs) is rises = elim (cases_Bool (comes_before x e)) [
       ap (part entry_worker w) (cond-true (comes_before x e) _ _ before) ∙ part_other w x (put_in e xs) others
       ∙ part_put_own w e xs is rises.1 ∙ ap (λ ys. e ∷ ys) (sym (part_other w x xs others))
   | inr behind ↦ ap (part entry_worker w) (cond-false (comes_before x e) _ _ behind) ∙ part_own w e (x ∷ xs) is
-]
-  where
+] where
     not_both : (x e : Entry) → Precedes entry_number entry_worker x e → e.number < x.number → ⊥
     not_both x e before less = elim before [ inl lt ↦ omega arith | inr tie ↦ omega (arith, tie.0) ]
 

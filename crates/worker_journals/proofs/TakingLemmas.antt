@@ -53,8 +53,7 @@ pub merged_taken : (journals : List JournalView) (i : ℕ) (e : Entry) → AreBy
     first_of journals i ≡ Some e → IsLeast (map first_number journals) (length journals) i e.number →
     merged journals ≡ e ∷ merged (without_first journals i)
 merged_taken [] i e up lawful is least = absurd (omega (arith, least.within))
-merged_taken (journal ∷ journals) zero e up lawful is least = taken journal.entries refl
-  where
+merged_taken (journal ∷ journals) zero e up lawful is least = taken journal.entries refl where
     taken : (es : List Entry) → journal.entries ≡ es → merged (journal ∷ journals) ≡ e ∷ merged (without_first (journal ∷ journals) zero)
     taken [] has = let none : None ≡ Some e = ap (λ xs. slice_get xs 0) (sym has) ∙ is in cc
     taken (d ∷ ds) has =
@@ -84,8 +83,7 @@ merged_taken (journal ∷ journals) (suc i) e up lawful is least =
 -- where no journal has a first entry, nothing is left
 pub merged_none : (journals : List JournalView) → ((k : ℕ) → k < length journals → get_or (map first_number journals) k None ≡ None) → merged journals ≡ []
 unfolding in_order
-merged_none journals none = ap in_order (empty journals none)
-  where
+merged_none journals none = ap in_order (empty journals none) where
     no_first : (es : List Entry) → slice_get (map entry_number es) 0 ≡ None → es ≡ []
     no_first [] is = refl
     no_first (e ∷ es) is = cc

@@ -14,8 +14,7 @@ loop-number-init g c = record {
 pub loop-number-preserved : goal.loop-number-preserved
 loop-number-preserved g c =
     let W = g.J.WindowName in
-    let view = view_of c.args.viewed in
-    record {
+    let view = view_of c.args.viewed in record {
       onward = prefix_trans c.args.window.now c.loop-number.window c.last_view.new.window c.loop-number.invariant.onward c.last_view.ensures.onward;
       replies = λ all book end.
           view_more W.opening book view c.loop-number.number c.loop-number.replies.items c.push.new.self.items c.last_view.result

@@ -24,8 +24,7 @@ returns-in-Some g c =
     let added = added_text options rows history hot in
     let first : Appends old mid text = c.in_ok-write_commits.ensures.whole in
     let report_is = report_added options.report (opening_asked options) (book_after (opening_asked options) rows history) history hot _ _ _ c.in-Some.is c.requires
-    (ap (λ sets. hot_sets sets) c.deref.ensures.value) c.if-not-options.false in
-    record {
+    (ap (λ sets. hot_sets sets) c.deref.ensures.value) c.if-not-options.false in record {
       whole = on_ok_weaker c.write_report.result
           (λ whole. Appends-trans old mid new text added first (subst (Appends mid new) report_is whole)) c.write_report.ensures.whole;
       part = IfErr-weaker c.write_report.result _ (λ fault. fault ≡ WriteFault.Write → ArePartWritten old new text added)

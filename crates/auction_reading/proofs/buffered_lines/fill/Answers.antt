@@ -7,8 +7,7 @@ loop-init g c = record { within = c.requires.held; more = omega arith; reads = Î
 pub loop-preserved : goal.loop-preserved
 loop-preserved g c =
     let inv = c.loop.invariant in
-    let now = c.in_ok-now.ensures in
-    record {
+    let now = c.in_ok-now.ensures in record {
       within = now.within;
       more = omega (arith, now.more, inv.more);
       reads = Î» all known.
@@ -20,8 +19,7 @@ loop-preserved g c =
 pub returns-then-now-filled : goal.returns-then-now-filled
 returns-then-now-filled g c =
     let inv = c.loop.invariant in
-    let now = c.in_ok-now.ensures in
-    record {
+    let now = c.in_ok-now.ensures in record {
       len = omega (arith, c.read_more.ensures.len, c.loop.auto.buffer);
       more = omega (arith, now.more, inv.more);
       within = now.within;
@@ -36,8 +34,7 @@ returns-then-now-filled g c =
 pub returns-then-now-wanted : goal.returns-then-now-wanted
 returns-then-now-wanted g c =
     let inv = c.loop.invariant in
-    let now = c.in_ok-now.ensures in
-    record {
+    let now = c.in_ok-now.ensures in record {
       len = omega (arith, c.read_more.ensures.len, c.loop.auto.buffer);
       more = omega (arith, now.more, inv.more);
       within = now.within;

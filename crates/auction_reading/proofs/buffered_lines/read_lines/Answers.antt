@@ -14,8 +14,7 @@ loop-init g c = record {
 pub loop-preserved : goal.loop-preserved
 loop-preserved g c =
     let inv = c.loop.invariant in
-    let lines = c.in_ok-left.ensures in
-    record {
+    let lines = c.in_ok-left.ensures in record {
       within = omega (arith, lines.within, c.in_ok-now.ensures.within, c.take_lines.ensures.len);
       workers = scripts_stay c.loop.progress c.take_lines.new.progress _ _ lines.reads ∙ inv.workers;
       room = lines.reads.room;
@@ -27,8 +26,7 @@ loop-preserved g c =
 pub returns-then-now-filled : goal.returns-then-now-filled
 returns-then-now-filled g c =
     let inv = c.loop.invariant in
-    let buffer = c.fill.new.buffer in
-    record {
+    let buffer = c.fill.new.buffer in record {
       within = omega (arith, inv.within, c.fill.ensures.len);
       end = λ none room. c.in_ok-now.ensures.end c.if-now-filled.true (omega (arith, room, c.fill.ensures.len));
       workers = inv.workers;
@@ -43,8 +41,7 @@ returns-then-now-filled g c =
 pub returns-then-not-goes_on : goal.returns-then-not-goes_on
 returns-then-not-goes_on g c =
     let inv = c.loop.invariant in
-    let lines = c.in_ok-left.ensures in
-    record {
+    let lines = c.in_ok-left.ensures in record {
       within = omega (arith, lines.within, c.in_ok-now.ensures.within, c.take_lines.ensures.len);
       end = λ none room. absurd (omega (arith, none, lines.some c.if-not-goes_on.true));
       workers = scripts_stay c.loop.progress c.take_lines.new.progress _ _ lines.reads ∙ inv.workers;

@@ -10,8 +10,7 @@ returns c =
     let early : (said.is_row && old.begun) ≡ false = elim c.else-said.branch [
       | else-said-via-then-said+else-progress w ↦ and_right said.is_row old.begun w.if-progress.false
       | else-said-via-else-said w ↦ and_left said.is_row old.begun w.if-said.false
-    ] in
-    record {
+    ] in record {
       reads = λ text line. reads_line old c.add.new.progress text c.args.at said c.args.next line c.in_ok-add.ensures.adds c.requires.room (omega (arith, c.if-said-len.false, c.len.ensures)) early;
       fails = tt;
     }

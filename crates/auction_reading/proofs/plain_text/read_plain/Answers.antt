@@ -11,8 +11,7 @@ read_line-requires c = record { ends = c.requires.ends; within = omega arith; ro
 
 pub loop-at-preserved : goal.loop-at-preserved
 loop-at-preserved c =
-    let text = c.args.text.now in
-    record {
+    let text = c.args.text.now in record {
       within = c.in_ok-next.ensures.line.within;
       reads = has_read_then (read_by c.args.progress.now) (read_by c.loop-at.progress) (read_by c.read_line.new.progress) text (drop c.loop-at.at text) (drop c.in_ok-next.next text) c.loop-at.invariant.reads c.in_ok-next.ensures.line.reads;
     }

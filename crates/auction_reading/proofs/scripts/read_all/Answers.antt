@@ -34,8 +34,7 @@ returns-in_err-said-clause-fault g c =
 pub loop-progress-preserved : goal.loop-progress-preserved
 loop-progress-preserved g c =
     let inv = c.loop-progress.invariant in
-    let found : c.in_ok-read_next.field-0 ≡ true = c.if-not-branch.false in
-    record {
+    let found : c.in_ok-read_next.field-0 ≡ true = c.if-not-branch.false in record {
       plain = c.in_ok-read_next.ensures.plain inv.plain found;
       counts = c.in_ok-add.ensures.adds.workers ∙ inv.counts;
       room = rw c.in_ok-add.ensures.adds.count (omega arith);

@@ -9,8 +9,7 @@ loop-run-init c = record { long = refl; counted = λ bucket below. get_or-replic
 
 pub loop-run-preserved : goal.loop-run-preserved
 loop-run-preserved c =
-    let so_far = c.loop-run.invariant in
-    record {
+    let so_far = c.loop-run.invariant in record {
       long = length-set c.loop-run.counts _ _ ∙ so_far.long;
       counted = run_in_bucket c.args.runs.now c.loop-run.run-index _ c.loop-run.counts c.bucket_of-bucket.result c.in_ok-sum.sum c.loop-run-test.true c.bucket_of-bucket.ensures.bucket
           (omega (arith, so_far.long, c.bucket_of-bucket.ensures.within)) c.in_ok-sum.ensures so_far.counted;

@@ -15,8 +15,7 @@ loop-entry-init c = record { all = search rules; added = refl }
 pub loop-entry-preserved : goal.loop-entry-preserved
 loop-entry-preserved c =
     let before = objects_of c.args.runs.now.items in
-    let told = c.loop-entry.yielded in
-    record {
+    let told = c.loop-entry.yielded in record {
       all = one_told told c.loop-entry.entry-iterator c.in-Some.entry c.next.new.self _ c.in-Some.ensures.steps c.loop-entry.invariant.all;
       added = c.in_ok-run.ensures
           ∙ (λ k. c.loop-entry.invariant.added k ++ option_to_list (c.object_written.ensures k))

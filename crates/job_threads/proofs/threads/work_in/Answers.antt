@@ -27,8 +27,7 @@ join_all-requires g c =
     let room = c.requires.room in
     let push = c.push_reserved.ensures in
     let handles = c.in_ok-handles.handles in
-    let jobs = c.remove-first.new.self in
-    record {
+    let jobs = c.remove-first.new.self in record {
       room = room_of_rest job_of handles.items jobs.items _ _ _ _ _ _ _ room.0 push.len push.capacity handles.ok.0 c.in_ok-handles.ensures.started jobs.ok.0 c.remove-first.ensures.len
           (subst (λ n. n ≤ vec_capacity c.args.answers) (sym c.args.jobs.ok.0) room.1);
     }

@@ -32,8 +32,7 @@ loop-place-preserved c =
     let rows = c.loop-place.rows.items in
     let opened = c.index-opened-place.result in
     let within : c.loop-place.place < length all = search rules in
-    let has = c.loop-place.invariant.has in
-    record {
+    let has = c.loop-place.invariant.has in record {
       has = record { book = _; is_of = c.in-Ok-add.ensures.book has.book has.is_of };
       same = same_then old mid new c.loop-place.invariant.same c.add.ensures.same;
       added = λ book start.

@@ -11,8 +11,7 @@ returns-clause-first c =
     let same : take n xs ≡ take n ys = subst (λ (i : ℕ). take i xs ≡ take i ys) end c.loop-at.invariant in
     let others : xs ≢ ys = search rules in
     let in_xs : n ≤ length xs = omega (arith, c.min-shorter.ensures) in
-    let in_ys : n ≤ length ys = omega (arith, c.min-shorter.ensures) in
-    record {
+    let in_ys : n ≤ length ys = omega (arith, c.min-shorter.ensures) in record {
       within = in_xs;
       same = same;
       differs = differs_at xs ys n others same in_xs in_ys (λ x y. absurd (shorter_ends (length xs) (length ys) n c.min-shorter.ensures x y));

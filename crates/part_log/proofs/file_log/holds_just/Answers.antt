@@ -15,8 +15,7 @@ returns g c =
       | else-count-gt0-via-then-count-gt0+in_ok-read_at+else-branch-eq0 w ↦ all_there held c.args.count (c.args.count - 1) (omega arith)
           (given_there held (c.args.count - 1) w.in_ok-read_at.field-0 w.read_at.new.buffer w.in_ok-read_at.ensures.bound (omega (arith, w.if-branch-eq0.false)) w.in_ok-read_at.ensures.read)
       | else-count-gt0-via-else-count-gt0 w ↦ no_bytes_there held c.args.count (omega (arith, w.if-count-gt0.false))
-    ] in
-    record {
+    ] in record {
       just = holds_all held c.args.count c.in_ok-read_at-2.field-0 there (λ none. c.in_ok-read_at-2.ensures.end none (search rules))
           (λ some. given_there held c.args.count c.in_ok-read_at-2.field-0 c.read_at-2.new.buffer c.in_ok-read_at-2.ensures.bound some c.in_ok-read_at-2.ensures.read);
     }

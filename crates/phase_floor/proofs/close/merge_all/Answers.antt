@@ -9,8 +9,7 @@ pub merge_own-requires : goal.merge_own-requires
 merge_own-requires c =
     let old = map state_of c.args.shards.now in let now = map state_of c.loop-own.shards in let all = flat_map from_the_last c.args.slices.items in
     let left = flat_map from_the_last (into_iter_items c.loop-own.own-iterator) in let next = flat_map from_the_last (into_iter_items c.next.new.self) in
-    let is = ap (flat_map from_the_last) c.in-Some.ensures.steps.0 in
-    record {
+    let is = ap (flat_map from_the_last) c.in-Some.ensures.steps.0 in record {
       known = first_known old now all left (from_the_last c.in-Some.own) next is c.loop-own.invariant.merged;
       can = first_can old now all left (from_the_last c.in-Some.own) next is c.loop-own.invariant.merged;
     }

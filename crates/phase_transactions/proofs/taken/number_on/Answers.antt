@@ -6,8 +6,7 @@ use Rattle.phase_transactions.proofs.taken.number_on.Goals as goal
 pub returns-in-Nothing : goal.returns-in-Nothing
 returns-in-Nothing g c =
     let own = c.args.own in
-    let next = c.next_number in
-    record {
+    let next = c.next_number in record {
       number = rw c.in-Nothing.is (some_number own 0 (max own 0) refl next.result next.ensures.number);
       within = some_within own 0 next.result next.ensures.number next.ensures.none;
       full = rw c.in-Nothing.is (none_full own 0 (max own 0) refl next.result next.ensures.none);
@@ -20,8 +19,7 @@ returns-in-One g c =
     let next = c.next_number-in-One in
     let most = max own (max (clock c.in-One.one.shard) 0) in
     let one : found ≡ clock c.in-One.one.shard = c.clock.ensures ∙ ap clock c.shard.ensures in
-    let greatest : max own found ≡ most = omega (arith, one) in
-    record {
+    let greatest : max own found ≡ most = omega (arith, one) in record {
       number = rw c.in-One.is (some_number own found most greatest next.result next.ensures.number);
       within = some_within own found next.result next.ensures.number next.ensures.none;
       full = rw c.in-One.is (none_full own found most greatest next.result next.ensures.none);

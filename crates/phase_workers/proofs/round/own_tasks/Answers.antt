@@ -84,8 +84,7 @@ returns g c =
     let left = c.loop-permit.permits.rest in
     let scripts = c.args.round.scripts.now in
     let first : ℕ = c.args.round.first in
-    let none = none_left left.items _ left.ok.0 c.in_default-next.ensures.cases.0 in
-    record {
+    let none = none_left left.items _ left.ok.0 c.in_default-next.ensures.cases.0 in record {
       can = was.3;
       tasks = all_done (map (λ own. task own.permit own.script.now own.first) made.items)
           (tasks left.items (drop (vec_len made) scripts) first) (tasks c.args.permits.items scripts first)

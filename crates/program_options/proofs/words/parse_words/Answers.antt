@@ -6,8 +6,7 @@ use Rattle.program_options.proofs.words.parse_words.Goals as goal
 pub returns-in-Ok-clause-finds : goal.returns-in-Ok-clause-finds
 returns-in-Ok-clause-finds c = λ free.
     let old = c.args.command in
-    let words = map string_bytes c.args.words.now in
-    record {
+    let words = map string_bytes c.args.words.now in record {
       texts = texts_found (app_of old) free words _ c.in-Ok.matches c.in-Ok.ensures.ok.2 refl;
       values = values_found (app_of old) free words _ c.in-Ok.matches c.in-Ok.ensures.ok.2 refl;
       given = given_found (app_of old) free words _ c.in-Ok.matches c.in-Ok.ensures.ok.2 refl;

@@ -66,8 +66,7 @@ returns-in_default-clause-cause g c = λ book asked before begun.
     let past : HasPastPhases options book gone (record { rows = asked.rows; scripts = part.scripts.items }) = record {
       runs = record { added = part.added.items; hot = hot; history = outcome.history.entries; adds = begun.adds; answer = (c.in_ok-outcome.ensures.runs (book ++ part.added.items) begun.begins).answers; holds = tt };
       past = omega (arith, c.in_default.ensures.none, same, count);
-    } in
-    record {
+    } in record {
       past = part.past;
       are = begun.are;
       fails = inl (

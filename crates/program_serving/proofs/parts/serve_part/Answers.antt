@@ -16,8 +16,7 @@ returns g c =
     let old = c.args.teller.now.teller in
     let new = c.perform_part.new.teller.teller in
     let e = c.in_ok-begun.ensures in
-    let Holds : List ℕ → List ℕ → Type 0 = AreTold accepted contents old new in
-    record {
+    let Holds : List ℕ → List ℕ → Type 0 = AreTold accepted contents old new in record {
       serves = IfOk-weaker c.perform_part.result _ (λ done. (book : Book) → BeginsPart options part book → ServesDone options book (gone_by part.served.before) (asked_of part.input) done.past done.served Holds)
           (λ done serves book begins. subst (λ (b : BeforeView). ServesDone options book (gone_by b) (asked_of part.input) done.past done.served Holds) e.before
           (serves book (asked_of part.input) (e.begins book begins))) c.perform_part.ensures.serves;

@@ -24,8 +24,7 @@ loop-byte-preserved c =
     let so_far = c.loop-byte.invariant in
     let next = next_digit c.args.bytes.now c.loop-byte.byte-index c.loop-byte.value c.loop-byte-test.true digit so_far.value in
     let added = c.in_ok-value.ensures in
-    let times = c.in_ok-checked_mul.ensures in
-    record {
+    let times = c.in_ok-checked_mul.ensures in record {
       digits = digits_more c.args.bytes.now c.loop-byte.byte-index c.loop-byte-test.true so_far.digits digit;
       value = omega (arith, next.0, added.1, times.1, c.from.ensures);
     }

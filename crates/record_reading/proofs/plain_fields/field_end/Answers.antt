@@ -8,8 +8,7 @@ loop-byte-preserved c =
     let text = c.args.text.now in
     let at = c.loop-byte.at in
     let inv = c.loop-byte.invariant in
-    let quote : get_or text at 0 ≡ 34 → ⊥ = λ is. omega (arith, is) in
-    record {
+    let quote : get_or text at 0 ≡ 34 → ⊥ = λ is. omega (arith, is) in record {
       reaches = omega arith;
       within = more_after text at c.requires.ends inv.within c.if-byte-eq10.false;
       so_far = inside_more text c.args.from at inv.reaches inv.within c.if-byte-eq44.false c.if-byte-eq10.false c.if-byte-eq13.false quote inv.so_far;

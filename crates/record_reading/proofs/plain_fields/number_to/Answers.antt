@@ -35,8 +35,7 @@ loop-digit-preserved c =
     let here = c.digit_value-digit in
     let digit = digit_of (get_or text at 0) here.result here.ensures.from_zero here.ensures.below_zero c.if-digit-gt9.false in
     let within : at + 1 < length text = more_after text at c.requires.ends inv.within (λ feed. omega (arith, feed, digit.1)) in
-    let next : from + (c.loop-digit.count + 1) ≡ at + 1 = omega arith in
-    record {
+    let next : from + (c.loop-digit.count + 1) ≡ at + 1 = omega arith in record {
       some = omega arith;
       within = omega (arith, within);
       so_far = rw (next, digit.2) (read_more text from at c.loop-digit.value (omega arith) inv.within digit.0 inv.so_far);

@@ -18,8 +18,7 @@ loop-short-init c = record { room = omega (arith, c.requires.room); pushed = sym
 
 pub loop-short-preserved : goal.loop-short-preserved
 loop-short-preserved c =
-    let inv = c.loop-short.invariant in
-    record {
+    let inv = c.loop-short.invariant in record {
       room = omega (arith, inv.room, c.loop-short-test.true, c.push_reserved.ensures.len, c.push_reserved.ensures.capacity);
       pushed = shifted_more (shifted c.args.before) c.args.requests.now.items c.args.others.now c.loop-short.requests.items c.push_reserved.new.self.items c.loop-short.short-index c.short-item.result c.after.result
           c.loop-short-test.true c.short-item.is c.push_reserved.ensures.items c.after.ensures inv.pushed;

@@ -16,8 +16,7 @@ perform_begun-requires-clause-ready g c κs within = can_perform c.requires.plan
 
 pub returns-clause-performed : goal.returns-clause-performed
 returns-clause-performed g c =
-    let phase = c.in_ok-state.ensures in
-    record {
+    let phase = c.in_ok-state.ensures in record {
       history = phase.history;
       last = phase.last;
       closed = ended_phase c.requires.plan.1 c.requires.may c.in_ok-begun.ensures.begun c.requires.shards _ c.requires.kind phase.ended;

@@ -23,8 +23,7 @@ pub returns-clause-turned : goal.returns-clause-turned
 returns-clause-turned g c =
     let s = g.A.Application in let size = length c.args.so_far.now.table.items in
     let p = c.in_ok-perform_all.ensures.performed in
-    let all = p.2.performed ∙ c.deref.ensures.value in
-    record {
+    let all = p.2.performed ∙ c.deref.ensures.value in record {
       more = p.0;
       history_is = p.1;
       replays = p.2.replays;

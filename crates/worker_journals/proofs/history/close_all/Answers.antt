@@ -19,8 +19,7 @@ loop-journal-preserved c =
     let now = c.loop-journal.journals in
     let i = c.loop-journal.journal-index in
     let within : i < length now = omega (arith, c.loop-journal-test.true, c.loop-journal.auto.journals) in
-    let journal = c.journal-item.result in
-    record {
+    let journal = c.journal-item.result in record {
       closed = one_closed c.args.journals.now now i journal within c.journal-item.is inv.open_yet c.close_one.new.journal c.in_ok-close_one.ensures inv.closed;
       open_yet = others_open c.args.journals.now now i journal within c.journal-item.is inv.open_yet c.close_one.new.journal c.in_ok-close_one.ensures;
     }

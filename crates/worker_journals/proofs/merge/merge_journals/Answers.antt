@@ -25,8 +25,7 @@ loop-worker-init c =
     let places = c.in_ok-places.places.items in
     let numbers = c.in_ok-numbers.numbers.items in
     let none = c.in_ok-places.ensures.items_if_clones_equal (λ y is. is) in
-    let value = c.deref-2.ensures.value in
-    record {
+    let value = c.deref-2.ensures.value in record {
       merging = starts_merging journals places numbers c.len.result (omega (arith, c.len.ensures, c.args.journals.ok.0)) c.requires.by_worker
           (subst (AllByRecursion IsLawfulJournal) value c.in_ok-numbers.ensures.lawful) none (c.in_ok-numbers.ensures.numbers ∙ ap (map first_number) value);
       told = ap (λ es. es ++ merged (left_of journals places)) c.in_ok-entries.ensures.items

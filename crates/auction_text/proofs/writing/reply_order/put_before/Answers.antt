@@ -28,8 +28,7 @@ loop-next-preserved g c =
     let less = sym c.comes_before.ensures ∙ c.if-not-comes_before.false in
     let others = drop (c.loop-next.place + 1) c.args.entries.now in
     let first : front comes_before e (drop c.loop-next.place c.args.entries.now) ≡ next ∷ front comes_before e others =
-    ap (front comes_before e) at ∙ front-more comes_before e next others less in
-    record {
+    ap (front comes_before e) at ∙ front-more comes_before e next others less in record {
       within = omega (arith, within);
       left = sym (ap (rest comes_before e) at ∙ rest-more comes_before e next others less) ∙ inv.left;
       told = told_more _ _ _ _ _ _ _ (line_after c.args.gone next) (lines (line_after c.args.gone) (front comes_before e others)) _ inv.told (ap (lines (line_after c.args.gone)) first) c.in_ok-put_reply.ensures.whole;

@@ -26,8 +26,7 @@ pub loop-entry-init : goal.loop-entry-init
 loop-entry-init g c =
     let own = part entry_worker c.args.worker c.args.history.now.entries in
     let entries : c.into_iter-entry-iterator.result ≡ own = search rules in
-    let late_is = c.requires in
-    record {
+    let late_is = c.requires in record {
       within = omega arith;
       up = subst (IsUp comes_before entry_order) (sym late_is) (up-sorted comes_before entry_order (late comes_before None own));
       own = subst (AreOf c.args.worker) (sym entries) (part_own c.args.worker c.args.history.now.entries);

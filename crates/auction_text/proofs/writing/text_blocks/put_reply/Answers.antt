@@ -14,8 +14,7 @@ returns-in_err-make_room g c =
 
 pub returns : goal.returns
 returns g c =
-    let index : c.in-Some.index ≡ c.args.gone + c.args.entry.now.index = omega arith in
-    record {
+    let index : c.in-Some.index ≡ c.args.gone + c.args.entry.now.index = omega arith in record {
       whole = line_put _ _ _ _ _ (line_after c.args.gone c.args.entry.now) c.in_ok-make_room.ensures.puts.whole
           (c.put_reply_line.ensures ∙ ap (λ (n : ℕ). c.make_room.new.block ++ reply_line (record c.args.entry.now { index = n })) index);
       part = tt;

@@ -12,8 +12,7 @@ store-requires c =
     let book = c.requires.book in
     let i = c.loop-row.row-index in
     let within = c.loop-row-test.true in
-    let r = c.row-item.result in
-    record {
+    let r = c.row-item.result in record {
       book = book ++ take i rows;
       holds = c.loop-row.invariant.holds book c.requires.holds c.requires.follow;
       not_full = front_not_full book rows i within c.requires.follow.few;
@@ -24,8 +23,7 @@ store-requires c =
 pub loop-row-preserved : goal.loop-row-preserved
 loop-row-preserved c =
     let rows = c.args.rows.now in
-    let i = c.loop-row.row-index in
-    record {
+    let i = c.loop-row.row-index in record {
       opening_is = c.store.ensures.opening ∙ c.loop-row.invariant.opening_is;
       holds = λ book holds follow.
           subst (HoldsBook c.store.new.self) (sym (one_more book rows i c.row-item.result c.loop-row-test.true c.row-item.is))

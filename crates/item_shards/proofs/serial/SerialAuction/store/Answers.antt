@@ -40,8 +40,7 @@ returns-clause-stored c = λ b holds not_full.
     let shard = c.args.self.now.shard in
     let start = serial_opening c.args.self.now in
     let r = c.args.row.now in
-    let old = c.args.self.now.stored in
-    record {
+    let old = c.args.self.now.stored in record {
       records = stands_moved shard c.write.new.self (after_acts (contents shard) (writes_of r)) (b ++ r ∷ []) [] c.write.ensures.same c.in_ok-write.ensures.written
           (stands_after start shard.parts.value.number shard.parts.value.shards (λ id. true) (contents shard) c.args.self.now.has_all b r holds.records);
       counts = λ w within.

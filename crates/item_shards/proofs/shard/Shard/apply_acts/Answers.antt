@@ -28,8 +28,7 @@ returns c =
     let acts = two_of c.args.acts.now c.index-acts-0.result c.index-acts-1.result c.type_inv.acts in
     let one = c.act.ensures in
     let two = c.act-2.ensures in
-    let set = c.set_clock.ensures in
-    record {
+    let set = c.set_clock.ensures in record {
       contents = set.contents ∙ two.contents
           ∙ ap (λ (now : Contents). after_act now (event_at now second)) one.contents
           ∙ ap (λ (both : List Act). after_acts old (events_of old both)) (sym acts);

@@ -17,8 +17,7 @@ pub invariant_of-self-2 : goal.invariant_of-self-2
 invariant_of-self-2 c =
     let old = c.args.self.now in
     let one = c.args.said.now in
-    let more = c.from.ensures ∙ counted one.is_row in
-    record {
+    let more = c.from.ensures ∙ counted one.is_row in record {
       some = old.some;
       few = omega (arith, c.requires.room.0, more, at_most_one one.is_row);
       few_rows = omega (arith, c.requires.room.1, row_more one (asked_of old.input), ap (λ (a : Asked). length a.rows) c.in_default-add.ensures.adds, c.add.new.self.rows.ok.0, old.input.rows.ok.0);

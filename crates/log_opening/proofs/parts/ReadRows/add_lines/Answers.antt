@@ -29,8 +29,7 @@ returns-in-Err-add_rows-clause-refused c = λ book has behind.
     let workers = length auction.counters in
     let asked : Asked = record { rows = c.in-Ok.input.rows.items; scripts = c.in-Ok.input.scripts.items } in
     let place = c.in-Err-add_rows.field-0.place in
-    let fault = c.in-Err-add_rows.field-0.fault in
-    record {
+    let fault = c.in-Err-add_rows.field-0.fault in record {
       are_lines = c.requires.lines;
       asked = asked;
       read = ap (λ (w : ℕ). input_of w c.args.lines.now) (sym c.workers.ensures.count) ∙ c.in-Ok.ensures.input;

@@ -14,8 +14,7 @@ returns-clause-cut c =
 pub returns-then-not-is_cut_row-clause-refused : goal.returns-then-not-is_cut_row-clause-refused
 returns-then-not-is_cut_row-clause-refused c = λ book has.
     let buffer = c.args.buffer.items in
-    let held : c.as_slice.result.now ≡ take c.args.filled buffer = cc in
-    record {
+    let held : c.as_slice.result.now ≡ take c.args.filled buffer = cc in record {
       bytes = take c.args.filled buffer;
       behind = [];
       text_is = sym (append-nil _);

@@ -24,8 +24,7 @@ returns-in_default-clause-told g c =
 
 pub returns-then-now-filled-clause-all : goal.returns-then-now-filled-clause-all
 returns-then-now-filled-clause-all g c =
-    let was = c.loop.invariant.read in
-    record {
+    let was = c.loop.invariant.read in record {
       no_end = subst HasNoEnd (sym c.in-Ok.ensures.keeps) c.loop.invariant.no_end;
       can = record { book = was.book; has = was.has; room = omega (arith, c.loop.invariant.few, c.loop-test.true) };
       end = c.in-Ok.ensures.end c.if-now-filled.true (omega (arith, c.loop.invariant.filled, c.loop.invariant.len));
@@ -111,8 +110,7 @@ loop-preserved g c =
     let told = g.W.Write.contents c.loop.told in
     let next = g.W.Write.contents c.take_lines.new.told in
     let longer = take c.in-Ok.now c.read_more.new.buffer in
-    let behind = take c.in_ok-filled.filled c.take_lines.new.buffer in
-    record {
+    let behind = take c.in_ok-filled.filled c.take_lines.new.buffer in record {
       len = c.take_lines.ensures.len ∙ c.read_more.ensures.len ∙ c.loop.invariant.len;
       filled = omega (arith, c.if-filled-gt-LONGEST_ROW.false);
       few = omega (arith, c.in_ok-filled.ensures.leaves.kept, c.loop.invariant.few, c.in-Ok.ensures.within, c.read_more.ensures.len, c.loop.invariant.len);

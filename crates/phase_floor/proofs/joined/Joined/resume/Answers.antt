@@ -31,8 +31,7 @@ loop-row-preserved c =
     let all = subst (All (λ row. worker_of row < c.args.workers)) (sym given.rows) c.requires.own in
     let own : worker_of r < c.args.workers = subst (λ row. worker_of row < c.args.workers) (sym c.row-item.is) (All-get_or (λ row. worker_of row < c.args.workers) rows i r low all) in
     let goes_on = next_goes_on [] rows i r low c.row-item.is start (subst (IsBook start) (sym given.rows) given.book) in
-    let more = one_more [] rows i r low c.row-item.is in
-    record {
+    let more = one_more [] rows i r low c.row-item.is in record {
       opening = added.same.opening ∙ was.opening;
       limit = added.same.limit ∙ was.limit;
       phase = added.same.phase ∙ was.phase;
@@ -48,8 +47,7 @@ pub returns : goal.returns
 returns c =
     let rows = c.rows-row-items.result.now in let i = c.loop-row.row-index in let was = c.loop-row.invariant in
     let done : length rows ≤ i = omega arith in
-    let all = take_all i rows done ∙ c.rows-row-items.ensures.rows in
-    record {
+    let all = take_all i rows done ∙ c.rows-row-items.ensures.rows in record {
       opening = was.opening;
       limit = was.limit;
       phase = was.phase;

@@ -112,8 +112,7 @@ put_store-requires-clause-answered g c =
     let request = c.args.request.now in
     let homes = c.homes-homes.result in
     let its = c.in_ok-begun.ensures.begun request (may_begin (length initial) old _ request homes _ c.self.view_is c.number_refusal.ensures c.in_default.is c.requires.can.goes c.homes-homes.ensures.homes c.homes-homes.ensures.footprint) in
-    let refused = c.refusal-refused.ensures in
-    record {
+    let refused = c.refusal-refused.ensures in record {
       seen = refused.seen;
       saw = refused.saw;
       answered = reply_by c.begin.new.self refused.seen request c.refusal-refused.result (reply_of c.reply-reply.result) its.may.allowed refused.by c.reply-reply.ensures;

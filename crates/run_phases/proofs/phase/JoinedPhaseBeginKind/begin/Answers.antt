@@ -5,8 +5,7 @@ use Rattle.run_phases.proofs.phase.JoinedPhaseBeginKind.begin.Goals as goal
 
 pub begin_joined-requires : goal.begin_joined-requires
 begin_joined-requires g c =
-    let may = c.requires.may in
-    record {
+    let may = c.requires.may in record {
       can = record {
         shards = c.requires.shards;
         workers = c.requires.workers;
@@ -23,8 +22,7 @@ begin_fault-requires g c =
 
 pub returns-in-Ok-clause-begun : goal.returns-in-Ok-clause-begun
 returns-in-Ok-clause-begun g c =
-    let start = c.in-Ok.ensures.begun in
-    record {
+    let start = c.in-Ok.ensures.begun in record {
       opening_is = start.opens.opening;
       limit_is = start.opens.limit;
       phase_is = start.opens.phase;

@@ -30,8 +30,7 @@ collect_all-grants-requires g c = record {
 pub take_all-shards-requires : goal.take_all-shards-requires
 take_all-shards-requires g c =
     let grants = c.collect_all-grants.result.items in let keys = c.args.keys.items in let made = c.collect_all-grants.ensures in
-    let room = c.self.invariant in
-    record {
+    let room = c.self.invariant in record {
       opened = room.6;
       boxes = c.deref-2.ensures.len ∙ room.0;
       free = subst (λ (boxes : List BoxId). AreFree g.N.PhaseName.initial g.N.PhaseName.workers boxes 0 grants) (c.deref.ensures.value ∙ sym c.deref-2.ensures.value) made.free;

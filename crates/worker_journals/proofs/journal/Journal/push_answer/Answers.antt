@@ -18,8 +18,7 @@ invariant_of-self c =
 
 pub returns : goal.returns
 returns c =
-    let kept = c.keep-short.ensures in
-    record {
+    let kept = c.keep-short.ensures in record {
       pushed = pushed_shown _ _ _ _ _ _ _ _ _ _ c.self.invariant.0 (some_left _ _ _ _ _ c.self.view_is c.requires.room) c.push.ensures.heads
           c.push.ensures.room kept.kept kept.reply _ c.self.view_is;
     }
