@@ -33,8 +33,7 @@ same_line [] [] rest more h g e = (refl, cc)
 same_line [] (y ∷ other) rest more h g e = absurd (g.0 (cc))
 same_line (x ∷ line) [] rest more h g e = absurd (h.0 (cc))
 same_line (x ∷ line) (y ∷ other) rest more h g e =
-    let head : x ≡ y = cc in
-    let both = same_line line other rest more h.1 g.1 (cc) in
+    let head : x ≡ y = cc in let both = same_line line other rest more h.1 g.1 (cc) in
     ((λ i. head i ∷ both.0 i), both.1)
 
 -- what was read does not end a line: then there is none

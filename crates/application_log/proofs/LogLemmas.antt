@@ -186,8 +186,7 @@ module _ {Record Slice Look Request Reply Act : Type 0} (rules : Rules Record Sl
   cut_first q qs n fits rest (Some text) is =
       elim (cases_lt (length text) n) [
         | inl more ↦
-            let m : ℕ = n - (length text + 1) in
-            let r = rest m in
+            let m : ℕ = n - (length text + 1) in let r = rest m in
             let n_is : n ≡ length text + suc m = omega arith in (
               suc r.0,
               r.1,

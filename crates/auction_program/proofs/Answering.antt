@@ -81,8 +81,7 @@ module _ (options : Options) (rows : List Opened) (scripts : List (List Request)
         → Holds (commits_text options shown performed.history.entries) (added_text options shown performed.history.entries (hot_sets performed.hot.items))
         → IfSome remaining (λ input. Answers options input Holds)
     answered Holds holds =
-        let history = performed.history.entries in
-        let hot = hot_sets performed.hot.items in
+        let history = performed.history.entries in let hot = hot_sets performed.hot.items in
         IfSome_then remaining reads (λ input asks. record {
           text = commits_text options shown history;
           added = added_text options shown history hot;

@@ -16,8 +16,7 @@ views_more : (opening : Opening) (book : Book) (view : ℕ → Request) (n : ℕ
     → views opening book view (n + 1) ≡ views opening book view n ++ reply opening book 0 (view n) ∷ []
 views_more opening book view n =
     let shown : ℕ → Reply = λ number. reply opening book 0 (view number) in
-    let one : n + 1 ≡ suc n = omega arith in
-    let last : 0 + n ≡ n = omega arith in
+    let one : n + 1 ≡ suc n = omega arith in let last : 0 + n ≡ n = omega arith in
     ap (λ k. map shown (range_with_len 0 k)) one ∙ ap (map shown) (range_more 0 n) ∙ map-append shown (range_with_len 0 n) ((0 + n) ∷ [])
     ∙ ap (λ k. map shown (range_with_len 0 n) ++ shown k ∷ []) last
 

@@ -14,8 +14,7 @@ module _ (old new : Option (List ℕ)) (text added : List ℕ) where
 
   pub part_of_first : IsPartWritten old new text → IsPartWritten old new (text ++ added)
   part_of_first part =
-      let n = min part.0 (length text) in
-      let within : n ≤ length text = omega arith in
+      let n = min part.0 (length text) in let within : n ≤ length text = omega arith in
       (n, subst (Appends old new) (sym (take_min part.0 text) ∙ sym (take-append-le n text added within)) part.1)
 
 -- the text of a report whose views are those of a book is what is added where one is asked for
@@ -24,7 +23,6 @@ pub report_added : (report : Bool) (opening : Opening) (book : Book) (history : 
     → report_text history given shown.categories.items shown.users.items ≡ (if report then report_of opening book history hot else [])
 report_added report opening book history hot given lines shown is views hots asked =
     let are = subst (λ o. IfSome o (λ (s : ReportLines). AreViews opening book s.categories.items s.users.items)) is views in
-    let cs = are.categories_are in
-    let us = are.users_are in
+    let cs = are.categories_are in let us = are.users_are in
     let same : report_text history given shown.categories.items shown.users.items ≡ report_of opening book history hot = cc in
     same ∙ ap (λ b. if b then report_of opening book history hot else []) (sym asked)

@@ -109,8 +109,7 @@ first_with : (w : ℕ) (xs : List (List Request)) (parcel : Parcel) (parcels : L
     → scripts_with w (scripts_joined xs (drop w parcel.progress.input.scripts.items)) parcels ≡ scripts_with w xs (parcel ∷ parcels)
 first_with w [] parcel parcels = refl
 first_with w (x ∷ xs) parcel parcels =
-    let ys = parcel.progress.input.scripts.items in
-    let next : suc w ≡ w + 1 = omega arith in
+    let ys = parcel.progress.input.scripts.items in let next : suc w ≡ w + 1 = omega arith in
     ap (λ (ss : List (List Request)). scripts_with w ss parcels) (first_joined ys w x xs)
     ∙ ap₂ (λ (s : List Request) (ss : List (List Request)). s ∷ ss) (append_assoc x (requests_of w parcel) (all_requests_of w parcels))
     (ap (λ (n : ℕ). scripts_with (w + 1) (scripts_joined xs (drop n ys)) parcels) next ∙ first_with (w + 1) xs parcel parcels)

@@ -161,8 +161,7 @@ module _ (shards : List Shard) (one : AreOfOne (map state_of shards)) (object : 
       → ((id : ItemId) → (commit_of r).reply ≡ ItemStored id → HasRoomIn shards id)
       → CanActOn (opening_of shard) (shard_number shard) (shard_count shard) (rooms shard) (contents shard) (first_act (writes_of r))
   can_first (row.Item r) can about room =
-      let its : Some (Item r.id) ≡ Some object = about in
-      let same : Item r.id ≡ object = cc its in
+      let its : Some (Item r.id) ≡ Some object = about in let same : Item r.id ≡ object = cc its in
       (((can_there_of (row.Item r) can).0 (done_there (AddItem r.id r.facts) its)).0, room r.id refl shard (subst (λ o. IsShardOf shards o shard) (sym same) is))
   can_first r can about room = (can_there_of r can).0 (done_there (first_act (writes_of r)) about)
 

@@ -16,8 +16,7 @@ made_at made [] i x same is = absurd (cc is)
 made_at [] (y ∷ ys) i x same is = absurd (cc same)
 made_at (m ∷ ms) (y ∷ ys) zero x same is = (omega arith, cc)
 made_at (m ∷ ms) (y ∷ ys) (suc i) x same is =
-    let tail : map Ok ys ≡ ms = cc in
-    let there = made_at ms ys i x tail is in
+    let tail : map Ok ys ≡ ms = cc in let there = made_at ms ys i x tail is in
     (omega (arith, there.0), there.1)
 
 -- one more was made

@@ -77,8 +77,7 @@ own-moved gone w (e ∷ es) = elim (cases_Bool (e.worker == w)) [
 -- a worker's lines after so many requests of it are its replies in the whole
 pub replies_of-moved : (gone : Gone) (w : ℕ) (es : List Entry) → lines (line_after (gone.requests w)) (in_order (part entry_worker w es)) ≡ replies_of (all_moved gone es) w
 replies_of-moved gone w es =
-    let own = alike gone (gone.requests w) in
-    let ps = part entry_worker w es in
+    let own = alike gone (gone.requests w) in let ps = part entry_worker w es in
     sym (flat_map-map reply_line (moved own) (in_order ps))
     ∙ ap (lines reply_line) (sym (in_order-moved own ps))
     ∙ ap (λ (l : List Entry). lines reply_line (in_order l)) (own-moved gone w es ∙ sym (part-moved gone w es))

@@ -123,8 +123,7 @@ below_none (e ∷ es) = let none : nat_lt e.worker 0 ≡ false = grind (arith, n
 pub below_all : (w : ℕ) (es : List Entry) → AllByRecursion (λ e. e.worker < w) es → below w es ≡ es
 below_all w [] few = refl
 below_all w (e ∷ es) few =
-    let few_first = few.0 in
-    let here : nat_lt e.worker w ≡ true = grind (arith, nat_tests) in
+    let few_first = few.0 in let here : nat_lt e.worker w ≡ true = grind (arith, nat_tests) in
     rw here (ap (λ (l : List Entry). e ∷ l) (below_all w es few.1))
 
 pub all_below : (last n : ℕ) (es : List Entry) → last < n → AllByRecursion (λ e. e.worker ≤ last) es → AllByRecursion (λ e. e.worker < n) es

@@ -25,8 +25,7 @@ in_memory before after none left text empty nothing adds =
 -- a longer text has the parts of its front
 pub part_more : (old new : Option (List ℕ)) (text more : List ℕ) → IsPartWritten old new text → IsPartWritten old new (text ++ more)
 part_more old new text more part =
-    let n = min part.0 (length text) in
-    let within : n ≤ length text = omega arith in
+    let n = min part.0 (length text) in let within : n ≤ length text = omega arith in
     (n, subst (Appends old new) (sym (take_min part.0 text) ∙ sym (take-append-le n text more within)) part.1)
 
 module _ (old mid new : Option (List ℕ)) (waiting between left one two : List ℕ) (first : Adds old waiting mid between one) where

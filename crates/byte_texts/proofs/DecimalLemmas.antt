@@ -64,8 +64,7 @@ two_digits bytes len n has fits some = elim (cases_lt n 10) [
 pub counted_up : (bytes : List ℕ) (len n next : ℕ) → HasDigits bytes len n → next ≡ n + 1 → next < 2 ^ 64 → get_or bytes (len - 1) 0 < 57
     → HasDigits (set bytes (len - 1) (get_or bytes (len - 1) 0 + 1)) len next
 counted_up bytes len n next has is fits less =
-    let e = last_digit n (omega (arith, is, fits)) in
-    let here = has.digits ∙ e.here in
+    let e = last_digit n (omega (arith, is, fits)) in let here = has.digits ∙ e.here in
     let read = last_read bytes e.front len (48 + n % 10) has.within here in
     let more : decimal next ≡ e.front ++ (48 + n % 10 + 1) ∷ [] = ap decimal is ∙ e.next (omega (arith, read, less)) in
     record {
@@ -108,8 +107,7 @@ digits_put bytes own part rest len n at has same within =
 pub digits_from : (bytes written part rest behind : List ℕ) (start n at k : ℕ) → start + length (decimal n) ≡ 20 → drop start written ≡ decimal n ++ behind
     → part ≡ take k (drop start written) → k ≡ 20 → length part ≡ 20 → at ≤ length bytes → take (at + 20 - start) (take at bytes ++ (part ++ rest)) ≡ take at bytes ++ decimal n
 digits_from bytes written part rest behind start n at k ends there is twenty long within =
-    let len = length (decimal n) in
-    let to : at + 20 - start ≡ at + len = omega (arith, ends) in
+    let len = length (decimal n) in let to : at + 20 - start ≡ at + len = omega (arith, ends) in
     let digits : take len part ≡ decimal n =
     ap (take len) is ∙ take-take len k (drop start written) (omega (arith, ends, twenty)) ∙ ap (take len) there ∙ take-append_seam (decimal n) behind in
     ap (λ (i : ℕ). take i (take at bytes ++ (part ++ rest))) to

@@ -66,8 +66,7 @@ number_text f n e = at (is_numeral f && nat_lt (digits_value 10 f) (2 ^ 64)) ref
   at : (b : Bool) → (is_numeral f && nat_lt (digits_value 10 f) (2 ^ 64)) ≡ b → cond b (Some (digits_value 10 f)) None ≡ Some n → f ≡ decimal n
   at true both e =
       let parts = and_parts (is_numeral f) (nat_lt (digits_value 10 f) (2 ^ 64)) both in
-      let plain = numeral_plain f parts.0 in
-      let value : digits_value 10 f ≡ n = cc e in
+      let plain = numeral_plain f parts.0 in let value : digits_value 10 f ≡ n = cc e in
       sym (decimal-digits_value own f plain.digits plain.some plain.no_zero (ltb-true (digits_value 10 f) (2 ^ 64) parts.1)) ∙ ap decimal value
   at false _ e = absurd (cc e)
 

@@ -73,8 +73,7 @@ cut_line (byte ∷ line) rest one =
 
 line_then : (e : Entry) (rest : List ℕ) → ShowsName e.reply → lines_of (history_line e ++ rest) ≡ history_line e ∷ lines_of rest
 line_then e rest named =
-    let commit_id = commit_id_of e in
-    let front = with_commit_id commit_id (reply_text e.reply) in
+    let commit_id = commit_id_of e in let front = with_commit_id commit_id (reply_text e.reply) in
     let whole : history_line e ≡ front ++ 10 ∷ [] = entry_line e ∙ placed_more commit_id (reply_text e.reply) (10 ∷ []) in
     ap (λ line. lines_of (line ++ rest)) whole ∙ ap lines_of (append_assoc front (10 ∷ []) rest)
     ∙ cut_line front rest (placed_one_line commit_id (reply_text e.reply) (reply_one e.reply named)) ∙ ap (λ line. line ∷ lines_of rest) (sym whole)

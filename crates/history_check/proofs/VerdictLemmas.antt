@@ -119,8 +119,7 @@ module _ (opening : Opening) (start : Book) (scripts : List (List Request)) (ord
     at NoRequest wrong = none-some e.request (sym (of_entry line e (λ commit_id text. request_at scripts commit_id.worker commit_id.index ≡ None) wrong is fits) ∙ has)
     at Again wrong =
         let here = of_entry line e (λ commit_id text. count_by (is_of commit_id.worker commit_id.index) before ≡ 1) wrong is fits in
-        let w = e.worker in
-        let i = e.index in
+        let w = e.worker in let i = e.index in
         absurd (omega (
           arith,
           well.at_most_once w i,

@@ -175,8 +175,7 @@ module _ (es : List Entry) (objects : List Object) (table : List (Object × ℕ)
           heat_cmp es (get_or (map (λ (c : Candidate). c.object) cs) (k + 1) (User 0)) (get_or (map (λ (c : Candidate). c.object) cs) k (User 0)) ≡ Less
       adjacent k less =
           let len : length (map (λ (c : Candidate). c.object) cs) ≡ length cs = length-map cs (λ (c : Candidate). c.object) in
-          let a : Candidate = get_or cs k nobody in
-          let b : Candidate = get_or cs (k + 1) nobody in
+          let a : Candidate = get_or cs k nobody in let b : Candidate = get_or cs (k + 1) nobody in
           let at_a : get_or (map (λ (c : Candidate). c.object) cs) k (User 0) ≡ (get_or cs k nobody).object = get_or-map (λ (c : Candidate). c.object) cs k nobody (User 0) (omega arith) in
           let at_b : get_or (map (λ (c : Candidate). c.object) cs) (k + 1) (User 0) ≡ (get_or cs (k + 1) nobody).object = get_or-map (λ (c : Candidate). c.object) cs (k + 1) nobody (User 0) (omega arith) in
           let apart : same_object (get_or cs k nobody).object (get_or cs (k + 1) nobody).object ≡ false =

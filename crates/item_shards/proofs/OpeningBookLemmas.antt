@@ -145,8 +145,7 @@ module _ (start : Opening) (all : List Opened) (fits : ¬ IsTooLong all) (i : �
   -- before a request of a worker below 16 the book is not full
   pub not_full : opened.worker < 16 → length (opening_rows start (take i all)) < 16000000
   not_full below =
-      let part = take (i + 1) all in
-      let longer = one_more all i opened within is in
+      let part = take (i + 1) all in let longer = one_more all i opened within is in
       let known = subst (AllByRecursion (λ one. one.worker < 16)) (sym longer) (all_push (λ one. one.worker < 16) (take i all) opened (workers_known start [] (take i all) are) below) in
       let few : total 16 part ≤ 16 * 1000000 = total_at_most 16 part (λ worker under. omega (arith, part_asks all (i + 1) worker, few_of_each all fits worker under)) in
       omega (arith, rows_counted start [] (take i all) are, all_counted part known, few, ap length longer, length-append (take i all) (opened ∷ []))

@@ -105,9 +105,7 @@ module _ (start : Opening) (number shards : ℕ) (rooms : ItemId → Bool) (cont
 
 -- a book within limits that is not full is so with one more row
 pub limits_next : (b : Book) (r : Row) → IsWithinLimits b → length b < 16000000 → IsWithinLimits (b ++ r ∷ [])
-limits_next b r limits not_full = record {
-  few = omega (arith, not_full, length-append b (r ∷ []));
-}
+limits_next b r limits not_full = record { few = omega (arith, not_full, length-append b (r ∷ [])) }
 
 -- ---- answers
 

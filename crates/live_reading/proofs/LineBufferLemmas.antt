@@ -7,8 +7,7 @@ use Rattle.std.specs.Io.KnownBytes.{IsAtEnd, prepend_known}
 pub held_after : (buffer : List ℕ) (at filled n : ℕ) → n ≤ length (take (filled - at) (drop at buffer))
     → take (filled - (at + n)) (drop (at + n) buffer) ≡ drop n (take (filled - at) (drop at buffer))
 held_after buffer at filled n fits =
-    let m = filled - at in
-    let within : n ≤ m = grind (arith, common_steps) in
+    let m = filled - at in let within : n ≤ m = grind (arith, common_steps) in
     let both : n + (m - n) ≡ m = omega arith in
     let less : filled - (at + n) ≡ m - n = omega arith in
     ap₂ (λ (k : ℕ) (xs : List ℕ). take k xs) less (sym (drop-drop n at buffer)) ∙ sym (drop-take n (m - n) (drop at buffer)) ∙ ap (λ (k : ℕ). drop n (take k (drop at buffer))) both
@@ -35,6 +34,5 @@ at_front buffer at filled start =
 pub reads_behind : (held first next bytes : List ℕ) (rem new : Option (List ℕ)) → prepend_known held rem ≡ Some bytes → first ≡ held
     → ((all : List ℕ) → rem ≡ Some all → (left : List ℕ) × (new ≡ Some left) × (first ++ all ≡ next ++ left)) → prepend_known next new ≡ Some bytes
 reads_behind held first next bytes rem new known same more =
-    let (all, is, are) = known_behind held bytes rem known in
-    let (left, now, both) = more all is in
+    let (all, is, are) = known_behind held bytes rem known in let (left, now, both) = more all is in
     ap (prepend_known next) now ∙ ap Some (sym both ∙ ap (λ (x : List ℕ). x ++ all) same ∙ sym are)

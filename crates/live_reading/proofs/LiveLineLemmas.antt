@@ -106,8 +106,7 @@ plain_says line one next workers place begun whole fits is ends below early =
 pub bid_says : (text : List ℕ) (at : ℕ) (one : Record) (next workers place : ℕ) (begun : Bool) → IsWhole (take (next - at) (drop at text)) → length text ≤ ROOM_TO_READ
     → IsLine (take next text) at one next → next ≤ length text → one.worker < workers → one.is_row ≡ false → line_says workers place begun (take (next - at) (drop at text)) ≡ Some (says.Record one)
 bid_says text at one next workers place begun whole fits is within below request =
-    let line = take (next - at) (drop at text) in
-    let front = take next text in
+    let line = take (next - at) (drop at text) in let front = take next text in
     let to_next : at + (next - at) ≡ next = omega (arith, is.after) in
     let cut : line ≡ drop at front = sym (drop-take at (next - at) text) ∙ ap (λ (n : ℕ). drop at (take n text)) to_next in
     let long : length front ≡ next = length-take-le next text within in

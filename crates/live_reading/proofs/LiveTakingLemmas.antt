@@ -98,8 +98,7 @@ unfolding lines_say
 text_line old new xs len fault whole takes = record {
   same = same_step old new _ fault takes;
   takes = λ all more is.
-      let line = take len xs in
-      let left = drop len xs ++ more in
+      let line = take len xs in let left = drop len xs ++ more in
       let split : xs ++ more ≡ whole.content ++ (10 ∷ left) =
       ap (λ (ys : List ℕ). ys ++ more) (sym (take-append-drop len xs)) ∙ append_assoc line (drop len xs) more
       ∙ ap (λ (l : List ℕ). l ++ left) whole.line_is ∙ append_assoc whole.content (10 ∷ []) left in
@@ -237,8 +236,7 @@ long_line : (front left rest from : List ℕ) → has_no_feed front ≡ true →
     → (line : List ℕ) × (lines_of from ≡ line ∷ lines_of rest) × LongSays front line
 unfolding lines_of
 long_line front left rest from none full are first =
-    let content = first.content in
-    let both = no_feed_both front content none first.no_feed in
+    let content = first.content in let both = no_feed_both front content none first.no_feed in
     elim first.bytes_are [
       | inl feed ↦
           let split : from ≡ (front ++ content) ++ (10 ∷ rest) = are ∙ ap (λ (xs : List ℕ). front ++ xs) feed ∙ sym (append_assoc front content (10 ∷ rest)) in

@@ -22,8 +22,7 @@ all_read : (workers place : ℕ) (book : Book) → workers ≤ 2 ^ 32 → AllByR
 unfolding read_records
 all_read workers place [] few all room = rw none_in_none refl
 all_read workers place (row ∷ book) few all room =
-    let one = written_read workers row few all.0 in
-    let reads = one.reads (lines row_line book) in
+    let one = written_read workers row few all.0 in let reads = one.reads (lines row_line book) in
     let says = one.says workers place all.0.0 in
     let short : nat_lt MOST_RECORDS place ≡ false = lt-leb (suc MOST_RECORDS) place (omega (arith, room)) in
     let others = all_read workers (place + 1) book few all.1 (omega (arith, room)) in

@@ -188,8 +188,7 @@ module _ (opening : Opening) (limit workers : ℕ) (book : Book) (few : workers 
   -- bytes without a line's end are a cut row
   is_cut : HasNoEnd bytes → is_cut_row bytes ≡ true
   is_cut no_end =
-      let n = length text in
-      let l = length (lines row_line first) in
+      let n = length text in let l = length (lines row_line first) in
       let cut : take n (lines row_line book) ≡ text = ap (take n) all_is ∙ take-append_seam text past in
       let whole : AreWholeLines text l = subst (λ (t : List ℕ). AreWholeLines (t ++ bytes) (length t)) (text_alone first) (whole_rows first bytes no_end) in
       ap is_cut_row (sym (ap (drop l) cut ∙ drop-append_seam (lines row_line first) bytes))

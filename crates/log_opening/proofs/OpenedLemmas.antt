@@ -12,8 +12,7 @@ use Rattle.phase_laws.proofs.ListLemmas.{all-take}
 pub opens_first : (opening : Opening) (workers : ℕ) (book rows : Book) (n : ℕ) (opened : LoggedAuction) → workers ≤ 16 → IsBook opening book → All (IsWritten workers) book → opened.auction.opening ≡ opening
     → length opened.auction.counters ≡ workers → OpensWith (Some (take n (rows_text book []))) rows opened → AreFirstOf book n rows
 opens_first opening workers book rows n opened few is written same_opening same_workers opens =
-    let all = recursion_from_All (IsWritten workers) book written in
-    let text = opens.text_is in
+    let all = recursion_from_All (IsWritten workers) book written in let text = opens.text_is in
     let f = front workers book n opened.kept (omega (arith, few)) all (subst (λ (xs : List ℕ). AreWholeLines (take n xs) opened.kept) (text_alone book) text.lines) in
     let lines_are : lines row_line rows ≡ lines row_line (take f.count book) =
     sym (text_alone rows) ∙ sym text.rows ∙ ap (λ (xs : List ℕ). take opened.kept (take n xs)) (text_alone book) ∙ f.is in

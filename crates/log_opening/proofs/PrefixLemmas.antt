@@ -29,8 +29,7 @@ point_prints = record { all = refl }
 
 digit_prints : (d : ℕ) → is_ascii_digit d ≡ true → is_printing d ≡ true
 digit_prints d e =
-    let p = and_parts _ _ e in
-    let low : 48 ≤ d = leb-true 48 d p.0 in
+    let p = and_parts _ _ e in let low : 48 ≤ d = leb-true 48 d p.0 in
     let high : d ≤ 57 = leb-true d 57 p.1 in
     and_from _ _ (le-leb 0x20 d (omega (arith, low))) (le-leb d 0x7E (omega (arith, high)))
 

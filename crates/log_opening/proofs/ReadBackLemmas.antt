@@ -46,8 +46,7 @@ number_of bits n fits few = number_is bits (decimal n) n (numeral n few) (sym (v
 
 pub quantity_of : (n : ℕ) → 1 ≤ n → n ≤ MOST_QUANTITY → quantity (decimal n) ≡ Some n
 quantity_of n some few =
-    let fits : n < 2 ^ 64 = omega (arith, few) in
-    let low : nat_le 1 n ≡ true = le-leb 1 n some in
+    let fits : n < 2 ^ 64 = omega (arith, few) in let low : nat_le 1 n ≡ true = le-leb 1 n some in
     let high : nat_le n MOST_QUANTITY ≡ true = le-leb n MOST_QUANTITY few in
     rw (numeral n fits, value n fits, low, high) refl
 

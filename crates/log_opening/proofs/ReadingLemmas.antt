@@ -146,8 +146,7 @@ held_more text old new told now reading held longer was reads = record {
   has = was.has;
   tells = was.tells;
   known = λ all is.
-      let before = was.known all is in
-      let more = reads before.0 before.1 in
+      let before = was.known all is in let more = reads before.0 before.1 in
       (more.0, more.1, before.2 ∙ ap (λ (bytes : List ℕ). rows_text was.book [] ++ bytes) more.2);
 }
 
@@ -189,8 +188,7 @@ told_first text remaining told now reading held was = record {
 -- and some of the rows that are read then
 pub told_some : (text remaining told now next : Option (List ℕ)) (reading : ReadRows) (held : List ℕ) → IsReadTo text remaining told now reading held → TellsSome held now next → TellsFirst text told next
 told_some text remaining told now next reading held was some =
-    let first = rows_text was.book [] in
-    let more = rows_text some.more [] in
+    let first = rows_text was.book [] in let more = rows_text some.more [] in
     let n = some.part.0 in record {
       book = was.book ++ some.more;
       part = (

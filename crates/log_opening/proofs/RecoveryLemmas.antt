@@ -46,8 +46,7 @@ front workers [] n whole few all are = record {
   begins = λ accepted within short. within;
 }
 front workers (row ∷ book) n whole few all are =
-    let text = row_text row in
-    let rest = lines row_line book in
+    let text = row_text row in let rest = lines row_line book in
     let prints = row_prints row (omega (arith, few, all.0.0)) all.0.1 in
     let long : length (text ++ (10 ∷ [])) ≡ length text + 1 = grind (arith, common_steps) in
     elim (cases_lt (length text) n) [

@@ -54,11 +54,8 @@ below_64 n fits = omega (arith, fits)
 six_read : (line w word x y z t rest : List ℕ) → line ≡ w ++ (44 ∷ (word ++ (44 ∷ (x ++ (44 ∷ (y ++ (44 ∷ (z ++ (44 ∷ (t ++ ((10 ∷ []) ++ rest)))))))))))
     → is_plain w ≡ true → is_plain word ≡ true → is_plain x ≡ true → is_plain y ≡ true → is_plain z ≡ true → is_plain t ≡ true → ReadsFirst line (w ∷ word ∷ x ∷ y ∷ z ∷ t ∷ []) rest
 six_read line w word x y z t rest is plain_w plain_word plain_x plain_y plain_z plain_t =
-    let r5 = t ++ ((10 ∷ []) ++ rest) in
-    let r4 = z ++ (44 ∷ r5) in
-    let r3 = y ++ (44 ∷ r4) in
-    let r2 = x ++ (44 ∷ r3) in
-    let r1 = word ++ (44 ∷ r2) in
+    let r5 = t ++ ((10 ∷ []) ++ rest) in let r4 = z ++ (44 ∷ r5) in let r3 = y ++ (44 ∷ r4) in
+    let r2 = x ++ (44 ∷ r3) in let r1 = word ++ (44 ∷ r2) in
     let one : HasRead line (w ∷ []) r1 = rw is (first_and_comma w r1 plain_w) in
     let two = next_and_comma line (w ∷ []) word r2 one plain_word in
     let three = next_and_comma line (w ∷ word ∷ []) x r3 two plain_x in
@@ -77,10 +74,8 @@ bid_line row rest = simp append_assoc refl
 pub bid_read : (row : BidRow) → row.id.worker < 2 ^ 32 → IsInRange (Bid row) → IsReadAs (row_line (Bid row)) (said_of (Bid row))
 unfolding field_at
 bid_read row worker fits =
-    let w = row.id.worker in
-    let b = decimal row.bidder in
-    let i = id_text row.item.worker row.item.serial in
-    let a = decimal row.amount in
+    let w = row.id.worker in let b = decimal row.bidder in
+    let i = id_text row.item.worker row.item.serial in let a = decimal row.amount in
     let t = decimal row.time in
     let few = below_64 row.bidder fits.bidder in record {
       fields = decimal w ∷ bid_word ∷ b ∷ i ∷ a ∷ t ∷ [];
@@ -103,12 +98,9 @@ buy_line row rest = simp append_assoc refl
 pub buy_read : (row : BuyRow) → row.id.worker < 2 ^ 32 → IsInRange (Buy row) → IsReadAs (row_line (Buy row)) (said_of (Buy row))
 unfolding field_at
 buy_read row worker fits =
-    let w = row.id.worker in
-    let b = decimal row.buyer in
-    let i = id_text row.item.worker row.item.serial in
-    let q = decimal row.quantity in
-    let t = decimal row.time in
-    let few = below_64 row.buyer fits.buyer in
+    let w = row.id.worker in let b = decimal row.buyer in
+    let i = id_text row.item.worker row.item.serial in let q = decimal row.quantity in
+    let t = decimal row.time in let few = below_64 row.buyer fits.buyer in
     let most : row.quantity < 2 ^ 64 = omega (arith, fits.few) in record {
       fields = decimal w ∷ buy_word ∷ b ∷ i ∷ q ∷ t ∷ [];
       reads = λ rest. six_read (row_line (Buy row) ++ rest) (decimal w) buy_word b i q t rest (buy_line row rest) (plain_number w (below_64 w worker)) refl (plain_number row.buyer few)
@@ -174,27 +166,17 @@ item_line row rest = item_shape (decimal row.id.worker) (decimal row.facts.selle
 pub item_read : (row : ItemRow) → row.id.worker < 2 ^ 32 → IsInRange (Item row) → IsReadAs (row_line (Item row)) (said_of (Item row))
 unfolding field_at
 item_read row worker fits =
-    let w = row.id.worker in
-    let f = fits in
-    let s = decimal row.facts.seller in
-    let c = decimal row.facts.category in
-    let n = row.facts.name in
-    let a = decimal row.facts.start in
-    let z = decimal row.facts.closes in
-    let t = decimal row.time in
-    let q = decimal row.facts.quantity in
+    let w = row.id.worker in let f = fits in let s = decimal row.facts.seller in
+    let c = decimal row.facts.category in let n = row.facts.name in
+    let a = decimal row.facts.start in let z = decimal row.facts.closes in
+    let t = decimal row.time in let q = decimal row.facts.quantity in
     let most : row.facts.quantity < 2 ^ 64 = omega (arith, f.few) in record {
       fields = decimal w ∷ item_word ∷ s ∷ c ∷ n ∷ a ∷ z ∷ t ∷ q ∷ [];
       reads = λ rest.
-          let line = row_line (Item row) ++ rest in
-          let r8 = q ++ ((10 ∷ []) ++ rest) in
-          let r7 = t ++ (44 ∷ r8) in
-          let r6 = z ++ (44 ∷ r7) in
-          let r5 = a ++ (44 ∷ r6) in
-          let r4 = 34 ∷ (flat_map byte_in_quotes n ++ (34 ∷ 44 ∷ r5)) in
-          let r3 = c ++ (44 ∷ r4) in
-          let r2 = s ++ (44 ∷ r3) in
-          let r1 = item_word ++ (44 ∷ r2) in
+          let line = row_line (Item row) ++ rest in let r8 = q ++ ((10 ∷ []) ++ rest) in
+          let r7 = t ++ (44 ∷ r8) in let r6 = z ++ (44 ∷ r7) in let r5 = a ++ (44 ∷ r6) in
+          let r4 = 34 ∷ (flat_map byte_in_quotes n ++ (34 ∷ 44 ∷ r5)) in let r3 = c ++ (44 ∷ r4) in
+          let r2 = s ++ (44 ∷ r3) in let r1 = item_word ++ (44 ∷ r2) in
           let one : HasRead line (decimal w ∷ []) r1 = rw (item_line row rest) (first_and_comma (decimal w) r1 (plain_number w (below_64 w worker))) in
           let two = next_and_comma line (decimal w ∷ []) item_word r2 one refl in
           let three = next_and_comma line (decimal w ∷ item_word ∷ []) s r3 two (plain_number row.facts.seller (below_64 row.facts.seller f.seller)) in
@@ -259,11 +241,8 @@ comment_line row rest = simp append_assoc refl
 pub comment_read : (row : CommentRow) → row.id.worker < 2 ^ 32 → IsInRange (Comment row) → IsReadAs (row_line (Comment row)) (said_of (Comment row))
 unfolding field_at
 comment_read row worker fits =
-    let w = row.id.worker in
-    let a = decimal row.author in
-    let b = decimal row.about in
-    let i = id_text row.item.worker row.item.serial in
-    let s = signed_decimal row.stars.value in
+    let w = row.id.worker in let a = decimal row.author in let b = decimal row.about in
+    let i = id_text row.item.worker row.item.serial in let s = signed_decimal row.stars.value in
     let given = stars_back row.stars in record {
       fields = decimal w ∷ comment_word ∷ a ∷ b ∷ i ∷ s ∷ [];
       reads = λ rest. six_read (row_line (Comment row) ++ rest) (decimal w) comment_word a b i s rest (comment_line row rest) (plain_number w (below_64 w worker)) refl

@@ -30,8 +30,7 @@ module _ (workers : ℕ) (few : workers ≤ 2 ^ 32) where
       let one = written_read workers a few x.0 in
       absurd (none_is_some one.fields (records default_config (lines row_line xs)) _ none_in_none (sym same ∙ one.reads (lines row_line xs)))
   same_said (a ∷ xs) (b ∷ ys) x y same =
-      let one = written_read workers a few x.0 in
-      let two = written_read workers b few y.0 in
+      let one = written_read workers a few x.0 in let two = written_read workers b few y.0 in
       let both : one.fields ∷ records default_config (lines row_line xs) ≡ two.fields ∷ records default_config (lines row_line ys) =
       sym (one.reads (lines row_line xs)) ∙ same ∙ two.reads (lines row_line ys) in
       let fields : one.fields ≡ two.fields = cc both in

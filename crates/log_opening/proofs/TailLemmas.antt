@@ -22,8 +22,7 @@ record Few (xs : List ℕ) (n : ℕ) : Type 0 where
 
 join : {xs ys : List ℕ} {a b : ℕ} → Few xs a → Few ys b → Few (xs ++ ys) (a + b)
 join {xs} {ys} {a} {b} one two =
-    let first = one.le in
-    let second = two.le in
+    let first = one.le in let second = two.le in
     record { le = grind (arith, common_steps) }
 
 long_number : (n : ℕ) → n < 2 ^ 64 → Few (decimal n) 20
@@ -47,14 +46,12 @@ two_each x = elim (cases_Bool (x == 34)) [ inl quote ↦ rw quote (record { le =
 in_quotes : (xs : List ℕ) → Few (flat_map byte_in_quotes xs) (2 * length xs)
 in_quotes [] = record { le = omega arith }
 in_quotes (x ∷ xs) =
-    let more = join (two_each x) (in_quotes xs) in
-    let all = more.le in
+    let more = join (two_each x) (in_quotes xs) in let all = more.le in
     record { le = omega (arith, all) }
 
 name_few : (xs : List ℕ) → length xs ≤ 32 → Few (quoted xs) 66
 name_few xs short =
-    let all = join (join quotes (in_quotes xs)) quotes in
-    let most = all.le in
+    let all = join (join quotes (in_quotes xs)) quotes in let most = all.le in
     record { le = omega (arith, most, short) }
 
 after_comma : (n : ℕ) → n < 2 ^ 64 → Few (labelled (codes ",") n) 21
@@ -98,8 +95,7 @@ row_few (Item row) worker fits =
     join (join (join (join word (short_number row.facts.seller fits.seller)) (join comma (short_number row.facts.category fits.category))) comma) (name_few row.facts.name fits.name.not_long) in
     let terms : Few (terms_text row) 84 =
     join (join (join (after_comma row.facts.start fits.start) (after_comma row.facts.closes fits.closes)) (after_comma row.time fits.time)) (after_comma row.facts.quantity (omega (arith, fits.few))) in
-    let all = join (join (short_number row.id.worker worker) offer) terms in
-    let few = all.le in
+    let all = join (join (short_number row.id.worker worker) offer) terms in let few = all.le in
     record { le = omega (arith, few) }
 
 -- a row's text begins with its worker, a comma and a plus
@@ -170,8 +166,7 @@ front_prints (x ∷ xs) (suc n) all =
 
 front_cut : (row : Row) (n : ℕ) → worker_of row < 16 → IsInRange row → is_cut_row (take n (row_text row)) ≡ true
 front_cut row n few fits =
-    let text = row_text row in
-    let wide : worker_of row < 2 ^ 32 = omega (arith, few) in
+    let text = row_text row in let wide : worker_of row < 2 ^ 32 = omega (arith, few) in
     let short = (row_few row wide fits).le in
     let long : length (take n text) ≤ length text = grind (arith, common_steps) in
     and_from _ _ (le-leb (length (take n text)) 189 (omega (arith, short, long)))
@@ -189,8 +184,7 @@ tail_cut workers [] n whole few all are =
     let none : drop whole (take n []) ≡ [] = grind (arith, common_steps) in
     ap is_cut_row none
 tail_cut workers (row ∷ book) n whole few all are =
-    let text = row_text row in
-    let rest = lines row_line book in
+    let text = row_text row in let rest = lines row_line book in
     let small : worker_of row < 16 = omega (arith, few, all.0.0) in
     let prints = row_prints row (omega (arith, small)) all.0.1 in
     let long : length (text ++ (10 ∷ [])) ≡ length text + 1 = grind (arith, common_steps) in

@@ -22,8 +22,7 @@ module _ (text : List ℕ) (whole : ℕ) (within : whole ≤ length text) where
     within = within;
     ended = last_end whole within ends;
     rest = λ i from low ten.
-        let k = i - whole in
-        let place : whole + k ≡ i = omega (arith, from) in
+        let k = i - whole in let place : whole + k ≡ i = omega (arith, from) in
         let here : get_or (drop whole text) k 0 ≡ 10 = get_or-drop whole text k 0 ∙ ap (λ (at : ℕ). get_or text at 0) place ∙ ten in
         false≢true (sym (list_all_at (λ (byte : ℕ). not (byte == 10)) (drop whole text) k 0 (omega (arith, from, low, length-drop whole text)) (ap (λ (byte : ℕ). not (byte == 10)) here)) ∙ none);
   }

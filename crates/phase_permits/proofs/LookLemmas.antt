@@ -43,8 +43,7 @@ module _ (z : Setting) (txn : Txn) (accepted : number_refusal z.opening txn.0.re
       → looks_of txn.1.stock txn.0.reply txn.0.request ++ writes_if (row_of_entry txn.0) ≡ Look shown ∷ acts
       → target (Look shown) ≡ Some object → is_hot (hot_of z) object ≡ false → IsTrueOf (taken (home object)) shown
   look_true taken saw object objects shown acts needed acted about cold =
-      let shard = home object in
-      let here : Event → Bool = is_done_on shard z.shards (hot_of z) in
+      let shard = home object in let here : Event → Bool = is_done_on shard z.shards (hot_of z) in
       first_true here (taken shard) (Look shown) acts
       (ap (λ (o : Option Object). option_map_or (is_cold_in shard z.shards (hot_of z)) o false) about ∙ cold_here shard z.shards (hot_of z) object refl cold)
       (subst (λ all. SawInTurn IsTrueAct after_act (taken shard) (padded (filter here all))) acted

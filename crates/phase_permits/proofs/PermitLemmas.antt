@@ -40,10 +40,8 @@ start_explained shards w can begun = record {
 pub commit_explained : (initial : List ShardState) (old new : WorkerState) (request : Request) (index : ℕ) (answer : Reply) → HasCommitted initial old new request index answer
     → IsExplained (length initial) old → IsExplained (length initial) new
 commit_explained initial old new request index answer done is =
-    let shards = length initial in
-    let z = setting_of old shards in
-    let txn = txn_of old done.number request index answer done.found in
-    let work = work_of old in
+    let shards = length initial in let z = setting_of old shards in
+    let txn = txn_of old done.number request index answer done.found in let work = work_of old in
     let put = done.transacted.put in
     let kept = commit_keeps z old.key.worker work txn is.work (record { own = is.worker; numbered = done.transacted.numbered; answered = done.transacted.answered }) in
     let d = sym done.worker in

@@ -130,24 +130,21 @@ module _ (z : Setting) (taken : ℕ → Contents) (book : Book) (fixed : HasFixe
 
     bid_right : (bidder : ℕ) (item : ItemId) (amount time : ℕ) → IsRightFor (StoreBid bidder item amount time)
     bid_right bidder item amount time given saw stood is =
-        let request = StoreBid bidder item amount time in
-        let txn = txn_with request given in
+        let request = StoreBid bidder item amount time in let txn = txn_with request given in
         store_right request given (BidStored (record { worker = worker; serial = counters.bids })) (stock_seen z txn item) is.answered
         (ap (λ n. BidStored (record { worker = worker; serial = n })) (sym counts.bids))
         (λ accepted. ap (refused_with request) (stock_right txn item [] (writes_if (row_of_entry txn.0)) accepted refl refl saw stood))
 
     buy_right : (buyer : ℕ) (item : ItemId) (quantity time : ℕ) → IsRightFor (BuyNow buyer item quantity time)
     buy_right buyer item quantity time given saw stood is =
-        let request = BuyNow buyer item quantity time in
-        let txn = txn_with request given in
+        let request = BuyNow buyer item quantity time in let txn = txn_with request given in
         store_right request given (Bought (record { worker = worker; serial = counters.buys })) (stock_seen z txn item) is.answered
         (ap (λ n. Bought (record { worker = worker; serial = n })) (sym counts.buys))
         (λ accepted. ap (refused_with request) (stock_right txn item [] (writes_if (row_of_entry txn.0)) accepted refl refl saw stood))
 
     comment_right : (author about : ℕ) (item : ItemId) (stars : Stars) → IsRightFor (StoreComment author about item stars)
     comment_right author about item stars given saw stood is =
-        let request = StoreComment author about item stars in
-        let txn = txn_with request given in
+        let request = StoreComment author about item stars in let txn = txn_with request given in
         let seen = stock_seen z txn item in
         let left_of = λ (s : Option (Facts × ℕ)). unwrap_or (option_map (λ t. t.1) s) 0 in
         store_right request given (CommentStored (record { worker = worker; serial = counters.comments })) seen is.answered

@@ -124,8 +124,7 @@ pub store_answered : (w : WorkerState) (shards number index : ℕ) (request : Re
     → ((item : ItemId) → item_of request ≡ Some item → seen ≡ stock_seen (setting_of w shards) (txn_of w number request index reply found) item)
     → IsAnswered (setting_of w shards) w.counters (txn_of w number request index reply found)
 store_answered w shards number index request reply found seen store goes is same =
-    let z = setting_of w shards in
-    let txn = txn_of w number request index reply found in
+    let z = setting_of w shards in let txn = txn_of w number request index reply found in
     let reasons : refusal_by w.opening seen request ≡ reason_seen z txn =
     refusal_as w.opening request seen (stock_seen z txn) store same ∙ sym (ap (λ b. cond b (number_refusal w.opening request) (refusal_seen z txn)) store) in
     record {
@@ -165,8 +164,7 @@ refusal_stored w new number index request reason refused goes next within is = (
           ∙ (λ i. with_entry w (next i) index request (Refused reason))
           ∙ (λ i. record (with_entry w (suc w.clock) index request (Refused reason)) { slices = slices_after_acts w.slices (writes_if (sym (no_row w.journal.worker request reason) i)) });
       answered = λ shards.
-          let z = setting_of w shards in
-          let txn = hot_txn w request index (Refused reason) in
+          let z = setting_of w shards in let txn = hot_txn w request index (Refused reason) in
           let seen = option_and_then (stock_seen z txn) (item_of request) in
           let by_item = item_refusal request (option_map (λ s. s.0) seen) (unwrap_or (option_map (λ s. s.1) seen) 0) in
           record {

@@ -102,8 +102,7 @@ cold_shard hots shards item (home.Shard shard) at cold = (shard, refl)
 -- so it lies in the first shard that was taken
 pub item_first : {N : Type 0} (step : Step) (w : WorkerState) (request : Request) (b : Begun N) → HasBegun step w request b → IsLawfulWorker w → HasFirst w request b.taken
 item_first step w (StoreItem facts time) b begun lawful stores =
-    let homes = step.homes in
-    let at = begun.may.homes_are.0 in
+    let homes = step.homes in let at = begun.may.homes_are.0 in
     let shard = cold_shard w.slices (length step.initial) (next_item w) homes.item at (next_cold w (is_hot (hot_objects w.slices) (Item (next_item w))) refl lawful) in
     first_has step.initial step.workers w.key w.slices b.taken homes.item homes.other (next_item w) shard.0 at shard.1 begun.taken.numbers begun.taken.taken
 item_first step w request b begun lawful stores = absurd stores

@@ -96,8 +96,7 @@ known_of_numbers seats (h ∷ held) all = (all.0, known_of_numbers seats held al
 pub begun_before : {N : Type 0} {step : Step} {w : WorkerState} {request : Request} (before after : Begun N)
     → states_in after.taken ≡ states_in before.taken → after.number ≡ before.number → HasBegun step w request before → HasBegun step w request after
 begun_before {N} {step} {w} {request} before after same number_is begun =
-    let took = before.taken in
-    let now = after.taken in
+    let took = before.taken in let now = after.taken in
     let numbers = numbers_before took now same in
     let all = taken_before step.initial step.workers w.key took now same begun.taken.taken in
     let known = known_by_numbers (length w.key.seats) (held_in now) (subst (AllByRecursion (λ n. n < length w.key.seats)) (sym numbers) (known_of_numbers (length w.key.seats) (held_in took) begun.held.known)) in

@@ -9,8 +9,7 @@ use Rattle.phase_transactions.specs.Workers.{WorkerState, CanStart, IsLawfulWork
 
 pub start_lawful : (w : WorkerState) → CanStart w → IsLawfulWorker w
 start_lawful w can =
-    let none : length w.journal.entries ≡ 0 = ap length can.empty in
-    let limit = can.limit in
+    let none : length w.journal.entries ≡ 0 = ap length can.empty in let limit = can.limit in
     let room = can.room in record {
       room = record {
         counted = can.counted;

@@ -76,8 +76,7 @@ pub first_same : (initial : List ShardState) (old new : WorkerState) (some : Boo
     (some ≡ true → HasPerformedFirstSome initial (with_try old) new) → IsSamePermit old new
 first_same initial old new false unchanged done = subst (IsSamePermit old) (sym (unchanged refl)) (tried old)
 first_same initial old new true unchanged done =
-    let mid : WorkerState = with_first_unstashed (with_try old) in
-    let first = (done refl).1 in
+    let mid : WorkerState = with_first_unstashed (with_try old) in let first = (done refl).1 in
     same_after old (with_try old) new (tried old)
     (same_after (with_try old) mid new (called (with_try old)) (commit_same initial mid new first.request first.index (done refl).0 first.committed))
 
@@ -228,8 +227,7 @@ pub first_performed : (initial : List ShardState) (old new : WorkerState) (some 
     (some ≡ false → old.stash.requests ≡ []) → (some ≡ false → new ≡ with_try old) → (some ≡ true → HasPerformedFirstSome initial (with_try old) new) →
     HasPerformedWaiting true old new
 first_performed initial old new false empty same done =
-    let is : new ≡ with_try old = same refl in
-    let none : old.stash.requests ≡ [] = empty refl in
+    let is : new ≡ with_try old = same refl in let none : old.stash.requests ≡ [] = empty refl in
     let tried_once : new.tries ≡ old.tries + 1 = ap (λ (p : WorkerState). p.tries) is in record {
       same = first_same initial old new false same done;
       goes = ap (λ ss. put_off (hot_for old) (take 1 ss)) none;

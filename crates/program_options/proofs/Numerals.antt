@@ -25,14 +25,12 @@ number_in_range least greatest t passed =
     subst (λ (u : List ℕ). IsNumberIn least greatest (Some u)) (sym (minus_cut t)) (go (starts_with_minus t) refl) where
     go : (b : Bool) → starts_with_minus t ≡ b → IsNumberIn least greatest (Some (cond b (drop 1 t) t))
     go true minus =
-        let low_ok = rw minus at passed.2 in
-        let high_ok = rw minus at passed.3 in
+        let low_ok = rw minus at passed.2 in let high_ok = rw minus at passed.3 in
         let numeral : IsNumeral 10 (drop 1 t) = rw minus at passed.0 in
         let same = no_plus (drop 1 t) numeral in
         (rw same numeral, (rw same (omega (arith, ints)), rw same (omega (arith, ints))))
     go false minus =
-        let low_ok = rw minus at passed.2 in
-        let high_ok = rw minus at passed.3 in
+        let low_ok = rw minus at passed.2 in let high_ok = rw minus at passed.3 in
         let numeral = rw minus at passed.0 in
         (numeral, (omega (arith, ints), omega (arith, ints)))
 

@@ -33,8 +33,7 @@ one_history options gone book [] are first = tt
 one_history options gone book (Answer line ∷ steps) are first = one_history options gone book steps are.1 first.1
 one_history options gone book (Part part ∷ steps) are (inl none, first) =
     let opening : Opening = opening_asked options in
-    let next : Gone = gone_past options gone (Part part) in
-    let after : Book = book ++ part.added in
+    let next : Gone = gone_past options gone (Part part) in let after : Book = book ++ part.added in
     let rest : ReplaysFrom opening (after ++ added_rows steps) (served_history options next steps)
     = subst (λ (b : Book). ReplaysFrom opening (b ++ added_rows steps) (served_history options next steps)) (ap (λ (h : List Entry). book_after opening after h) none)
     (one_history options next (book_past options book (Part part)) steps are.1 first) in
@@ -42,8 +41,7 @@ one_history options gone book (Part part ∷ steps) are (inl none, first) =
     (subst (λ (b : Book). ReplaysFrom opening b (served_history options next steps)) (append_assoc book part.added (added_rows steps)) rest)
 one_history options gone book (Part part ∷ steps) are (inr none, first) =
     let opening : Opening = opening_asked options in
-    let next : Gone = gone_past options gone (Part part) in
-    let after : Book = book ++ part.added in
+    let next : Gone = gone_past options gone (Part part) in let after : Book = book ++ part.added in
     let left : Book = book_after opening after part.history in
     let rest : ReplaysFrom opening left (served_history options next steps)
     = subst (λ (b : Book). ReplaysFrom opening b (served_history options next steps)) (ap (λ (rs : Book). left ++ rs) none ∙ append-nil left) (one_history options next left steps are.1 first) in

@@ -38,8 +38,7 @@ module _ {L W : Type 0} (accepted : L → Option (List ℕ)) (contents : W → O
       → ((b : Book) → BeginsAt options served.auction asked.scripts b → ServesDone options b (gone_by served.before) asked past next (AreTold accepted contents old new)) → next.rows ≡ served.rows + length asked.rows
       → IsSession options book all next (LeftBehind next.auction Next past) (AreTold accepted contents start new)
   part_served past next each counted =
-      let served_now = each now begins in
-      let done = reads_done past served_now.are in
+      let served_now = each now begins in let done = reads_done past served_now.are in
       session_part accepted contents options book all start old new served Left session most (done_of past asked) (LeftBehind next.auction Next past) (record {
         said = done.said;
         behind = done.behind;

@@ -261,8 +261,7 @@ module _ (options : Options) (auction : JoinedState) (book : Book) (start : IsSt
       → LeftBehind next.auction Next past left
   left_behind None gone next Holds serves left at = at
   left_behind (Some w) gone next Holds serves left at =
-      let runs = serves.runs in
-      let after : Book = book ++ runs.added in
+      let runs = serves.runs in let after : Book = book ++ runs.added in
       let none : runs.history ≡ [] = no_entries (map (λ script. []) asked.scripts) (blank asked.scripts) runs.history runs.answer.serves.requests in
       let starts : IsStart options next.auction after = subst (λ (h : List Entry). IsStart options next.auction (book_after (opening_asked options) after h)) none serves.start in
       let own : w < length next.auction.counters = omega (arith, at.own, starts.fits.workers) in

@@ -27,8 +27,7 @@ no_success (Err x) e P is = tt
 step_told : (options : Options) (book : Book) (step : Step) → IsStepRun options book step → rows_text book [] ++ step_rows step ≡ rows_text (book_past options book step) []
 step_told options book (Answer line) run = append-nil (rows_text book [])
 step_told options book (Part part) run =
-    let opening : Opening = opening_asked options in
-    let from : Book = book ++ part.added in
+    let opening : Opening = opening_asked options in let from : Book = book ++ part.added in
     ap (λ (a : List ℕ). a ++ rows_text part.added part.history) (rows_alone book) ∙ joined book (part.added ++ rows_of part.history)
     ∙ ap (lines row_line) (sym (append_assoc book part.added (rows_of part.history)) ∙ sym (book_after-replays opening from part.history run.answer.replays))
     ∙ sym (rows_alone (book_after opening from part.history))

@@ -88,8 +88,7 @@ next_start state next book is stands of =
     }) where
     at_start : (state : JoinedState) (book : Book) → IsBookOf state book → (w : ℕ) → w < length state.counters → counters_at (map stores_as_commits state.counters) w ≡ counters_in book w
     at_start state book of w below =
-        let counts = of.stands.counts w below in
-        let all = stored state book of.stands w below in
+        let counts = of.stands.counts w below in let all = stored state book of.stands w below in
         at_next state.counters w ∙ (λ i. record {
           items = sym counts.items i;
           bids = sym counts.bids i;

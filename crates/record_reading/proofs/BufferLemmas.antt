@@ -38,8 +38,7 @@ held buffer filled end within =
 pub moved : (buffer : List ℕ) (at end filled : ℕ) → at ≤ end → end ≤ filled → filled ≤ length buffer
     → drop at (take end buffer) ++ take (filled - end) (drop end buffer) ≡ take (filled - at) (paste buffer 0 (drop at buffer) (filled - at))
 moved buffer at end filled before within fits =
-    let rest = drop at buffer in
-    let n = filled - at in
+    let rest = drop at buffer in let n = filled - at in
     let to_end : at + (end - at) ≡ end = omega arith in
     let both : (end - at) + (filled - end) ≡ n = omega arith in
     let nothing : 0 + n ≡ n = omega arith in

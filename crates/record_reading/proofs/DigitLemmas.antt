@@ -33,8 +33,7 @@ read_none text from = let none : from - from ≡ 0 = omega arith in record { dig
 pub read_more : (text : List ℕ) (from at value : ℕ) → from ≤ at → at < length text → is_ascii_digit (get_or text at 0) ≡ true → ReadTo text from at value
     → ReadTo text from (at + 1) (((value * 10) % 2 ^ 64 + (get_or text at 0 - 48)) % 2 ^ 64)
 read_more text from at value reaches within digit so_far =
-    let i = at - from in
-    let ds = drop from text in
+    let i = at - from in let ds = drop from text in
     let inside : i < length ds = grind (arith, common_steps) in
     let here : get_or ds i 0 ≡ get_or text at 0 = get_or-drop from text i 0 ∙ (let place : from + i ≡ at = omega arith in rw place refl) in
     let one : at + 1 - from ≡ i + 1 = omega arith in
@@ -76,8 +75,7 @@ number_is bits field n numeral is fits =
 -- from a place on a text has what is up to another, the byte there, and what is after it
 pub split_at : (text : List ℕ) (from at : ℕ) → from ≤ at → at < length text → IsFieldTo text from (get_or text at 0) (at + 1) (span text from at)
 split_at text from at reaches within =
-    let i = at - from in
-    let place : from + i ≡ at = omega arith in
+    let i = at - from in let place : from + i ≡ at = omega arith in
     let rest : drop i (drop from text) ≡ get_or text at 0 ∷ drop (at + 1) text = drop-drop i from text ∙ (rw (place, add-one) (drop-cons text at 0 within)) in
     let last : at + 1 - 1 ≡ at = omega arith in record {
       text_is = sym (take-append-drop i (drop from text)) ∙ ap (λ (r : List ℕ). span text from at ++ r) rest;
@@ -110,11 +108,8 @@ module _ (text : List ℕ) (from at value stop : ℕ) (reaches : from ≤ at) (w
     (few : at - from ≤ 19) (is_stop : get_or text at 0 ≡ stop) where
   number_with : 1 ≤ at - from → (at - from ≡ 1) ⊎ (get_or text from 0 ≡ 48 → ⊥) → IsNumberTo text from stop 64 value (at + 1)
   number_with some first =
-      let i = at - from in
-      let field = span text from at in
-      let v = so_far.sure few in
-      let long : length field ≡ i = grind (arith, common_steps) in
-      let ten : 1 ≤ 10 = omega arith in
+      let i = at - from in let field = span text from at in let v = so_far.sure few in
+      let long : length field ≡ i = grind (arith, common_steps) in let ten : 1 ≤ 10 = omega arith in
       let most : 10 ^ i ≤ 10 ^ 19 = pow-le-pow_right {n = 10} ten few in
       let fits : value < 2 ^ 64 = omega (arith, v.1, most) in
       let begins : get_or field 0 0 ≡ get_or text from 0 = grind (arith, common_steps) in
@@ -137,7 +132,6 @@ pub digit_of : (c value : ℕ) → (48 ≤ c → value ≡ c - 48) → (c < 48 �
 digit_of c value from_zero below_zero small = elim (cases_lt c 48) [
   | inl below ↦ absurd (omega (arith, below_zero below))
   | inr low ↦
-      let is : value ≡ c - 48 = from_zero low in
-      let high : c ≤ 57 = omega arith in
+      let is : value ≡ c - 48 = from_zero low in let high : c ≤ 57 = omega arith in
       (grind (arith, common_steps), low, is)
 ]

@@ -23,8 +23,7 @@ pub in_run : (fields : List (List ℕ)) (field x tail : List ℕ) → list_all j
 unfolding next_record
 in_run fields field [] tail e = rw (append-nil field) refl
 in_run fields field (b ∷ rest) tail e =
-    let p = and_parts (joins b) (list_all joins rest) e in
-    let q = joins_no_mark b p.0 in
+    let p = and_parts (joins b) (list_all joins rest) e in let q = joins_no_mark b p.0 in
     rw (q.0, q.1, q.2) (in_run fields (field ++ (b ∷ [])) rest tail p.1
     ∙ ap (λ (f : List ℕ). next_record default_config st.InField fields f tail) (append_assoc field (b ∷ []) rest))
 
@@ -92,8 +91,7 @@ turns_enough one two s y a b between = absurd (omega arith)
 -- the records that are left between two records are those of the bytes that are left
 records_left : (y : List ℕ) (rows : List (List (List ℕ))) → Left st.StartRecord y rows → rows ≡ records default_config y
 records_left y rows left =
-    let turns = left.turns in
-    let enough = left.enough in
+    let turns = left.turns in let enough = left.enough in
     left.are ∙ turns_enough turns (length y + 1) st.StartRecord y enough (omega arith) refl
 
 turn_after : (s : State) (y : List ℕ) → next_record default_config s [] [] (10 ∷ y) ≡ next_record default_config st.StartRecord [] [] y
@@ -104,8 +102,7 @@ turn_after s y same (suc turns) enough = ap (λ (o : Option Read). records_next 
 
 left_after_return : (y : List ℕ) (rows : List (List (List ℕ))) → Left st.AfterCr (10 ∷ y) rows → Left st.StartRecord y rows
 left_after_return y rows left =
-    let turns = left.turns in
-    let enough : length (10 ∷ y) < turns = left.enough in
+    let turns = left.turns in let enough : length (10 ∷ y) < turns = left.enough in
     record { turns = turns; enough = omega arith; between = refl; are = left.are ∙ turn_after st.AfterCr y (feed_after_return y) turns enough }
 
 -- a line feed in front leaves the same records
@@ -132,8 +129,7 @@ first_same : (x : List ℕ) (c : ℕ) (tail : List ℕ) → is_plain x ≡ true 
 first_same [] c tail plain r n = record_same [] [] c tail r n
 first_same (b ∷ rest) c tail plain r n =
     let p = and_parts (not (b == 34)) (list_all joins (b ∷ rest)) plain in
-    let q = and_parts (joins b) (list_all joins rest) p.1 in
-    let m = joins_no_mark b q.0 in
+    let q = and_parts (joins b) (list_all joins rest) p.1 in let m = joins_no_mark b q.0 in
     record_same [] [] b (rest ++ (c ∷ tail)) m.1 m.2
 
 -- the first field of a line, and its comma

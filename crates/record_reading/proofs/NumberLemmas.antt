@@ -33,7 +33,6 @@ next_bound v i d below digit = omega (arith, pow_more 10 i)
 -- fewer than 19 digits leave room for one more
 pub room : (v i d : ℕ) → v < 10 ^ i → i < 19 → d ≤ 9 → v * 10 + d < 10000000000000000000
 room v i d below few digit =
-    let short : i ≤ 18 = omega arith in
-    let ten : 1 ≤ 10 = omega arith in
+    let short : i ≤ 18 = omega arith in let ten : 1 ≤ 10 = omega arith in
     let most : 10 ^ i ≤ 10 ^ 18 = pow-le-pow_right {n = 10} ten short in
     omega (arith, most)

@@ -59,8 +59,7 @@ point_after (x ∷ xs) ys all =
 pub item_of_parts : (xs ys : List ℕ) (worker serial : ℕ) → list_all is_ascii_digit xs ≡ true → number 32 xs ≡ Some worker → number 32 ys ≡ Some serial
     → item_id (xs ++ (46 ∷ ys)) ≡ Some (record { worker = worker; serial = serial })
 item_of_parts xs ys worker serial all first second =
-    let field = xs ++ (46 ∷ ys) in
-    let point = point_after xs ys all in
+    let field = xs ++ (46 ∷ ys) in let point = point_after xs ys all in
     let inside : nat_lt (length xs) (length field) ≡ true = lt-ltb (length xs) (length field) (grind (arith, common_steps)) in
     let place : position is_point field ≡ Some (length xs) = rw point (rw inside refl) in
     let before : take (length xs) field ≡ xs = grind (arith, common_steps) in
@@ -78,8 +77,7 @@ inside_byte b comma feed back quote = rw (ne_eqb b 34 quote, ne_eqb b 44 comma, 
 pub span_more : (is : ℕ → Bool) (text : List ℕ) (from at : ℕ) → from ≤ at → at < length text → is (get_or text at 0) ≡ true
     → list_all is (span text from at) ≡ true → list_all is (span text from (at + 1)) ≡ true
 span_more is text from at reaches within byte so_far =
-    let i = at - from in
-    let ds = drop from text in
+    let i = at - from in let ds = drop from text in
     let short : i < length ds = grind (arith, common_steps) in
     let place : from + i ≡ at = omega arith in
     let here : get_or ds i 0 ≡ get_or text at 0 = get_or-drop from text i 0 ∙ (rw place refl) in
@@ -126,8 +124,7 @@ item_of text from stop worker at serial next first second =
 pub last_item_of : (text : List ℕ) (from worker at serial next : ℕ) → IsNumberTo text from 46 32 worker at → IsLastNumber text at 32 serial next
     → IsLastItem text from (record { worker = worker; serial = serial }) next
 last_item_of text from worker at serial next first second =
-    let xs = first.field in
-    let ys = second.field in
+    let xs = first.field in let ys = second.field in
     let ends = second.there.ends in record {
       field = xs ++ (46 ∷ ys);
       there = record {

@@ -192,9 +192,7 @@ pub line_in_place : (text : List ℕ) (at worker at_word : ℕ) (is_row : Bool) 
     → IsLine text at (record { is_row = is_row; worker = worker; request = asked }) next
 unfolding field_at
 line_in_place text at worker at_word is_row asked next w r =
-    let word = r.word in
-    let has = r.there in
-    let rest = r.rest in
+    let word = r.word in let has = r.there in let rest = r.rest in
     let at_rest = at_word + length (word ++ (44 ∷ [])) in
     let first_is : (more : List ℕ) → drop at text ++ more ≡ w.field ++ (44 ∷ (drop at_word text ++ more)) =
     λ more. ap (λ (r : List ℕ). r ++ more) w.there.text_is ∙ append_assoc w.field (44 ∷ drop at_word text) more in

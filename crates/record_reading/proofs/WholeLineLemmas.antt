@@ -121,8 +121,7 @@ module _ (text : List ℕ) (at bidder at_item : ℕ) (item : ItemId) (at_amount 
     (b : IsNumberTo text at 44 32 bidder at_item) (i : IsItemTo text at_item 44 item at_amount) (a : IsNumberTo text at_amount 44 64 amount at_time) (t : IsNumberTo text at_time 10 64 time next) where
   pub bid_alone : IsRestOf kind.Bid (take next text) at (request.StoreBid bidder item amount time) next
   bid_alone =
-      let within = t.there.within in
-      let third : at_time ≤ next = omega (arith, t.there.after) in
+      let within = t.there.within in let third : at_time ≤ next = omega (arith, t.there.after) in
       let second : at_amount ≤ next = omega (arith, a.there.after) in
       let first : at_item ≤ next = omega (arith, i.there.after) in
       let whole : next ≤ next = omega arith in

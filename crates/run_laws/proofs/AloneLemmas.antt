@@ -79,8 +79,7 @@ pub same_entries : (opening : Opening) (phase worker number : ℕ) (book : Book)
     AreAlone opening phase worker number book xs → AreAlone opening phase worker number book ys → xs ≡ ys
 same_entries opening phase worker number book [] [] calls are are' = refl
 same_entries opening phase worker number book (x ∷ xs) (y ∷ ys) calls are are' =
-    let call : call_of x ≡ call_of y = cc in
-    let later : map call_of xs ≡ map call_of ys = cc in
+    let call : call_of x ≡ call_of y = cc in let later : map call_of xs ≡ map call_of ys = cc in
     let workers : x.worker ≡ y.worker = are.workers.0 ∙ sym are'.workers.0 in
     let numbers : x.number ≡ y.number = are.numbers.0 ∙ sym are'.numbers.0 in
     let replies : x.reply ≡ y.reply = are.replays.0 ∙ (λ k. reply opening book (workers k) (call k).1) ∙ sym are'.replays.0 in

@@ -14,8 +14,7 @@ round_reached q j i d m k is low true true before from = go (cases_lt i d) where
     go : (i < d) ⊎ (d ≤ i) → 2 * i + 1 ≤ 2 * d + 0
     go (inl less) = omega arith
     go (inr same) =
-        let e : i ≡ d = omega arith in
-        let f : i * q ≡ d * q = ap (λ n. n * q) e in
+        let e : i ≡ d = omega arith in let f : i * q ≡ d * q = ap (λ n. n * q) e in
         let less : m < j = ltb-true m j before in absurd (omega arith)
 
 round_not_reached : (q j : ℕ) → (i d m k : ℕ) → d * q + m ≡ k → (b c : Bool) → nat_lt m j ≡ c → (k < i * q → d < i) → d ≤ i → k < i * q + cond b j 0 →
@@ -27,8 +26,7 @@ round_not_reached q j i d m k is true false before below up until = go (cases_lt
     go : (d < i) ⊎ (i ≤ d) → 2 * d + 1 < 2 * i + 1
     go (inl less) = omega arith
     go (inr same) =
-        let e : i ≡ d = omega arith in
-        let f : i * q ≡ d * q = ap (λ n. n * q) e in
+        let e : i ≡ d = omega arith in let f : i * q ≡ d * q = ap (λ n. n * q) e in
         let more : j ≤ m = ltb-false m j before in absurd (omega arith)
 
 -- a phase is twice its round, and one more where it is split

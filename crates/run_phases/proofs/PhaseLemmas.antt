@@ -69,8 +69,7 @@ pub not_too_long : {policy : Policy} {scripts : List (List Request)} {state : Jo
 not_too_long may handed quotas handed_is are long =
     let room = may.room long.0 long.1 in
     let same = are long.0 (omega (arith, long.1, may.scripts_are)) in
-    let as_long = ap length (handed_is long.0) in
-    let over = long.2 in
+    let as_long = ap length (handed_is long.0) in let over = long.2 in
     absurd (omega (arith, room, same, as_long, over))
 
 -- what each worker is given is its quota of the phase
@@ -179,8 +178,7 @@ module _ {policy : Policy} {scripts : List (List Request)} {state : JoinedState}
   -- each worker can do its task
   can_all : (initial : List ShardState) → HaveOpening initial floor.opening → AllByRecursion (CanBeDone initial floor.boxes) (tasks permits scripts first)
   can_all initial have = tasks_all (CanBeDone initial floor.boxes) permits scripts first as_many (λ w below.
-      let less : w < length scripts = omega (arith, below, as_many) in
-      let left = left_is w less in
+      let less : w < length scripts = omega (arith, below, as_many) in let left = left_is w less in
       let waits : length (stashed (receipt_at permits w)) ≡ length (waiting_in stashes w) = ap length (stash_is w less) in
       let tries : (receipt_at permits w).tries ≡ 0 = ap (λ (p : WorkerState). p.tries) (begins w less).new in
       let fits = within (cond (is_split state.phase) policy.split_quota policy.joined_quota) (length (script_of scripts w)) (first_index policy state.phase) first first_is in record {

@@ -106,8 +106,7 @@ cons_ne x xs e = cc
 sole : (items : List Shard) (views : List Knowledge) → BoxRule items views → (pass : ℕ) (v : Knowledge) → get_elem? views pass ≡ some v → SpeaksForAll v
     → (j : ℕ) (u : Knowledge) → get_elem? views j ≡ some u → Speaks u → j ≡ pass
 sole items views h pass v at all j u e speaks =
-    let mine = (h.fits pass v at).knows all.some in
-    let theirs = (h.fits j u e).knows speaks in
+    let mine = (h.fits pass v at).knows all.some in let theirs = (h.fits j u e).knows speaks in
     let a : h.box.seat (u.first + 0) ≡ j = theirs.seats 0 speaks in
     let below : u.first < length v.own = omega (arith, theirs.known, speaks, all.all, mine.workers) in
     let b : h.box.seat (v.first + u.first) ≡ pass = mine.seats u.first below in
@@ -217,10 +216,8 @@ put_parts v line list before list_is speaks parts (suc i) below =
 pub puts : (n pass : ℕ) (v : Knowledge) (x : Shard) (line : Option Line) → v.holds ≡ true → MayPut (after_lines (start_of v) v.seen) (state_of x) line
     → Pushes BoxRule n pass v x (λ w. w ≡ put v line)
 puts n pass v x line holds_now may items views room h at =
-    let w : Knowledge = put v line in
-    let held = (h.fits pass v at).holder holds_now in
-    let speaks : Speaks v = held.speaks in
-    let mine = (h.fits pass v at).knows speaks in
+    let w : Knowledge = put v line in let held = (h.fits pass v at).holder holds_now in
+    let speaks : Speaks v = held.speaks in let mine = (h.fits pass v at).knows speaks in
     let more : List (ℕ × Line) = entries v.first line in
     let list : List (ℕ × Line) = h.box.list ++ more in
     let box : BoxState = record h.box { list = list } in

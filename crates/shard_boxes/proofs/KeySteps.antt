@@ -36,8 +36,7 @@ pub key_after : (f : SeatState → SeatState) (worker s : ℕ) (grants : List Gr
     → l'.box_id ≡ l.box_id → seat_of l' ≡ f (seat_of l) → key_of worker (slice_set grants s l') ≡ with_seat x s (f (seat_at x s))
 key_after f worker s grants l l' x is below at same new =
     let seat = read worker grants s l x is below at in
-    let boxes = same_places grants s l l' at same in
-    let seats = map-set seat_of grants s l' in
+    let boxes = same_places grants s l l' at same in let seats = map-set seat_of grants s l' in
     (λ i. record { boxes = boxes i; worker = worker; seats = seats i })
     ∙ (λ i. with_seat (is i) s ((new ∙ ap f (sym seat)) i))
 

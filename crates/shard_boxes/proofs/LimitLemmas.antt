@@ -67,8 +67,7 @@ two_within first second contents n r h = act_within second (after_act contents f
 -- the limits go with the clock, which each line raises
 pub line_within : (state : ShardState) (line : Line) → IsWithin state → state.clock < line.number → IsWithin (after_line state line)
 line_within state line h later =
-    let n : ℕ = MOST_KEPT + 2 * state.clock in
-    let r : ℕ = 5 * MOST_KEPT + 10 * state.clock in
+    let n : ℕ = MOST_KEPT + 2 * state.clock in let r : ℕ = 5 * MOST_KEPT + 10 * state.clock in
     let after = two_within line.acts.first line.acts.second state.contents n r (record { bids = h.bids; comments = h.comments; ratings = h.ratings }) in
     record {
       bids = λ id. omega (arith, after.bids id, later);
@@ -88,8 +87,7 @@ act_fits act contents n r h a b = tt
 pub two_fit : (state : ShardState) (first second : Event) → IsWithin state → state.clock < last_number
     → SawInTurn SumsFit after_act state.contents (first ∷ second ∷ [])
 two_fit state first second h below =
-    let n : ℕ = MOST_KEPT + 2 * state.clock in
-    let r : ℕ = 5 * MOST_KEPT + 10 * state.clock in
+    let n : ℕ = MOST_KEPT + 2 * state.clock in let r : ℕ = 5 * MOST_KEPT + 10 * state.clock in
     let now : WithinBy n r state.contents = record { bids = h.bids; comments = h.comments; ratings = h.ratings } in
     let then : WithinBy (n + 1) (r + 5) (after_act state.contents first) = act_within first state.contents n r now in (
       act_fits first state.contents n r now (omega (arith, below)) (omega (arith, below)),

@@ -57,12 +57,9 @@ place_of box seat items views =
 -- a new pass takes over the first worker
 pub forks : (pass : ℕ) (v : Knowledge) → Speaks v → v.holds ≡ false → Forks BoxRule pass v (rest_of v) (first_of v)
 forks pass v speaks free items views h at =
-    let mine = (h.fits pass v at).knows speaks in
-    let left : Knowledge = rest_of v in
-    let right : Knowledge = first_of v in
-    let middle : List Knowledge = set views pass left in
-    let fresh : ℕ = length middle in
-    let was : ℕ → ℕ = h.box.seat in
+    let mine = (h.fits pass v at).knows speaks in let left : Knowledge = rest_of v in
+    let right : Knowledge = first_of v in let middle : List Knowledge = set views pass left in
+    let fresh : ℕ = length middle in let was : ℕ → ℕ = h.box.seat in
     let list : List (ℕ × Line) = h.box.list in
     let seat : ℕ → ℕ = λ n. cond (n == v.first) fresh (was n) in
     let box : BoxState = record h.box { seat = seat } in
@@ -127,12 +124,10 @@ longer_is list a b p q = elim (ltb (length a) (length b)) as (λ t. StartsWith l
 -- a pass takes in the workers that follow its own
 pub merges : (pass : ℕ) (v : Knowledge) (other : ℕ) (u : Knowledge) → Speaks v → Speaks u → v.holds ≡ false → u.holds ≡ false → u.first ≡ v.first + length v.own → Merges BoxRule pass v other u (joined v u) spent
 merges pass v other u speaks speaks' free free' next items views h at two at' =
-    let both : Knowledge = joined v u in
-    let middle : List Knowledge = set views pass both in
+    let both : Knowledge = joined v u in let middle : List Knowledge = set views pass both in
     let still : get_elem? views other ≡ some u = sym (set_else views pass other both two) ∙ at' in
     let mine = (h.fits pass v at).knows speaks in
-    let theirs = (h.fits other u still).knows speaks' in
-    let was : ℕ → ℕ = h.box.seat in
+    let theirs = (h.fits other u still).knows speaks' in let was : ℕ → ℕ = h.box.seat in
     let list : List (ℕ × Line) = h.box.list in
     let seat : ℕ → ℕ = λ n. cond (was n == other) pass (was n) in
     let box : BoxState = record h.box { seat = seat } in
@@ -150,16 +145,14 @@ merges pass v other u speaks speaks' free free' next items views h at two at' =
         seats = λ i below. ⊎_elim
             (λ (lt : i < length v.own). let e = mine.seats i lt in seat_else (v.first + i) (λ x. two (sym x ∙ e)) ∙ e)
             (λ (le : length v.own ≤ i).
-            let k : ℕ = i - length v.own in
-            let lt : k < length u.own = omega arith in
+            let k : ℕ = i - length v.own in let lt : k < length u.own = omega arith in
             let one : v.first + i ≡ u.first + k = omega arith in
             seat_there (v.first + i) (ap was one ∙ theirs.seats k lt))
             (lt_or_le i (length v.own));
         parts = λ i below. ⊎_elim
             (λ (lt : i < length v.own). get_or-append v.own u.own [] i lt ∙ mine.parts i lt)
             (λ (le : length v.own ≤ i).
-            let k : ℕ = i - length v.own in
-            let lt : k < length u.own = omega arith in
+            let k : ℕ = i - length v.own in let lt : k < length u.own = omega arith in
             let one : u.first + k ≡ v.first + i = omega arith in
             get_or-append_right v.own u.own i [] le ∙ theirs.parts k lt ∙ ap (λ n. lines_of n list) one)
             (lt_or_le i (length v.own));

@@ -69,8 +69,7 @@ module _ {Record Slice Look Request Reply Act : Type 0} (rules : Rules Record Sl
   all_serve size v (s ∷ ss) [] history h f = absurd h
   all_serve size v (s ∷ ss) (d ∷ ds) history h f =
       let serves : Serves rules v s history = λ p.
-      let a = h.0.counts p in
-      let b : count p d.stash.items ≡ 0 = ap (count p) f.0.1 in
+      let a = h.0.counts p in let b : count p d.stash.items ≡ 0 = ap (count p) f.0.1 in
       let c : count p (calls_before s d.next) ≡ count p (calls_before s (length s)) = ap (λ n. count p (calls_before s n)) f.0.0 in
       omega (arith, a, b, c) in
       ((serves, h.0.order.in_turn), all_serve size (suc v) ss ds history h.1 f.1)

@@ -14,8 +14,7 @@ use Rattle.split_engine.specs.inner.Kept.{is_at, AreKept, kept, spread_from, spr
 pub next_at : {X : Type 0} (xs rest : List X) (k : ℕ) (x d : X) → k < length xs → drop k xs ≡ x ∷ rest → (get_or xs k d ≡ x) × (rest ≡ drop (k + 1) xs)
 next_at xs rest k x d lt is =
     let both : get_or xs k d ∷ drop (suc k) xs ≡ x ∷ rest = sym (drop-cons xs k d lt) ∙ is in
-    let first : get_or xs k d ≡ x = cc in
-    let others : drop (suc k) xs ≡ rest = cc in
+    let first : get_or xs k d ≡ x = cc in let others : drop (suc k) xs ≡ rest = cc in
     (first, sym others ∙ ap (λ n. drop n xs) (sym (add-one k)))
 
 -- ---- guesses

@@ -29,8 +29,7 @@ placed : (object : Object) (change : Slice → Slice) (hots : List (Object × Ho
 unfolding IsDistinct
 placed object change [] place old new distinct at is written = refl
 placed object change (hot ∷ hots) zero old new distinct at is written =
-    let here : hot.0 ≡ object = cc in
-    let was : old ≡ hot.1 = cc in
+    let here : hot.0 ≡ object = cc in let was : old ≡ hot.1 = cc in
     let rest = others_stay object change hots (subst (λ o. AllByRecursion (λ other. same_object o other ≡ false) (hot_objects hots)) here distinct.0) in
     (λ i. (hot.0, (written ∙ ap (λ (h : Hot). record h { slice = change h.slice }) was ∙ ap (λ b. cond b (record hot.1 { slice = change hot.1.slice }) hot.1) (sym ((same_objects object hot.0).1 (sym here)))) i) ∷ hots)
     ∙ ap (λ hs. (hot.0, if same_object object hot.0 then record hot.1 { slice = change hot.1.slice } else hot.1) ∷ hs) (sym rest)

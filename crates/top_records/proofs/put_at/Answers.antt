@@ -11,9 +11,7 @@ returns-then-index g c =
 
 pub returns : goal.returns
 returns g c =
-    let k = g.row.K in
-    let index = c.args.index in
-    let held = c.args.entries.now.items in
+    let k = g.row.K in let index = c.args.index in let held = c.args.entries.now.items in
     c.insert.ensures.items ∙ elim c.if-is_full.branch [
       | then-is_full+else-index w ↦
           let full : length held ≡ k = eqb-true _ _ (sym c.is_full.ensures.value ∙ w.if-is_full.true) in

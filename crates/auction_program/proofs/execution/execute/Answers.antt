@@ -10,20 +10,16 @@ use Rattle.auction_program.proofs.execution.execute.Goals as goal
 
 pub returns-in_err-book-clause-cause : goal.returns-in_err-book-clause-cause
 returns-in_err-book-clause-cause g c =
-    let options = c.args.options.now in
-    let rows = c.in_ok-input.input.rows.items in
-    let fault = c.in_err-book.field-0.0 in
-    let remaining = g.I.Read.remaining c.args.reader in
+    let options = c.args.options.now in let rows = c.in_ok-input.input.rows.items in
+    let fault = c.in_err-book.field-0.0 in let remaining = g.I.Read.remaining c.args.reader in
     error_is c.from_residual-in_err-book.result (Resume fault) (λ f. IfSome remaining (λ input. IsCausedBy options input f)) c.from_residual-in_err-book.ensures
     (of_input options rows c.in_ok-input.input.scripts.items remaining c.in_ok-input.ensures.input (λ rs ss. IsRefused (opening_asked options) fault rs)
     (subst (λ o. IsRefused o fault rows) c.opening.ensures (refused c.opening.result rows c.new.result fault c.in_err-book.was c.new.ensures.too_long c.new.ensures.bad_row)))
 
 pub returns-in_err-performed-clause-cause : goal.returns-in_err-performed-clause-cause
 returns-in_err-performed-clause-cause g c =
-    let options = c.args.options.now in
-    let rows = c.in_ok-input.input.rows.items in
-    let scripts = c.in_ok-input.input.scripts.items in
-    let fault = c.in_err-performed.field-0.0 in
+    let options = c.args.options.now in let rows = c.in_ok-input.input.rows.items in
+    let scripts = c.in_ok-input.input.scripts.items in let fault = c.in_err-performed.field-0.0 in
     let remaining = g.I.Read.remaining c.args.reader in
     let opens : book.rows_of_book c.in_ok-book.book ≡ opening_rows (opening_asked options) rows = c.in_ok-book.ensures.rows ∙ ap (λ o. opening_rows o rows) c.opening.ensures in
     error_is c.from_residual-in_err-performed.result fault (λ f. IfSome remaining (λ input. IsCausedBy options input f)) c.from_residual-in_err-performed.ensures
@@ -48,8 +44,7 @@ returns-in_err-write_texts-clause-memory g c = λ is.
 
 pub returns-in_err-write_texts-clause-cause : goal.returns-in_err-write_texts-clause-cause
 returns-in_err-write_texts-clause-cause g c =
-    let options = c.args.options.now in
-    let remaining = g.I.Read.remaining c.args.reader in
+    let options = c.args.options.now in let remaining = g.I.Read.remaining c.args.reader in
     error_is c.from_residual-in_err-write_texts.result (Write c.in_err-write_texts.field-0.0) (λ f. IfSome remaining (λ input. IsCausedBy options input f))
     c.from_residual-in_err-write_texts.ensures
     (answered options _ _ remaining c.in_ok-input.ensures.input _ _ _ _ c.opening.ensures c.in_ok-book.ensures.rows c.rows.ensures.rows

@@ -17,12 +17,9 @@ use Rattle.auction_program.proofs.execution.watch.Goals as goal
 
 pub returns-clause-performs : goal.returns-clause-performs
 returns-clause-performs g c =
-    let W = g.J.WindowName in
-    let options = c.args.options.now in
-    let rows = opened.rows_of_book c.args.book.now in
-    let outcome = c.in_ok-outcome.outcome in
-    let answers = c.in_ok-outcome.ensures in
-    let history = outcome.history.entries in
+    let W = g.J.WindowName in let options = c.args.options.now in
+    let rows = opened.rows_of_book c.args.book.now in let outcome = c.in_ok-outcome.outcome in
+    let answers = c.in_ok-outcome.ensures in let history = outcome.history.entries in
     let shown = answers.board in
     let all : List (List Row) = phase_rows (length outcome.hot.items) history in
     let book : Book = book_after (opening_asked options) rows history in
@@ -45,10 +42,8 @@ returns-clause-performs g c =
 
 pub returns-in_err-outcome-clause-cause : goal.returns-in_err-outcome-clause-cause
 returns-in_err-outcome-clause-cause g c =
-    let rows = opened.rows_of_book c.args.book.now in
-    let scripts = c.args.scripts.items in
-    let fault = c.in_err-outcome.field-0.0 in
-    let refused = c.run_shown.ensures.answer.refused in
+    let rows = opened.rows_of_book c.args.book.now in let scripts = c.args.scripts.items in
+    let fault = c.in_err-outcome.field-0.0 in let refused = c.run_shown.ensures.answer.refused in
     error_is c.from_residual.result (Run fault) (λ f. IsNotPerformed c.args.options.now f rows scripts) c.from_residual.ensures
     (subst (λ p. IsNotRun p fault rows scripts) c.policy.ensures
     (not_run c.policy.result rows scripts c.run_shown.result fault c.in_err-outcome.was refused.workers refused.shards refused.quota refused.too_long

@@ -15,10 +15,8 @@ pub returns-in-Some : goal.returns-in-Some
 returns-in-Some g c =
     let old = g.W.Write.contents c.args.writer.now in
     let mid = g.W.Write.contents c.write_commits.new.writer in
-    let new = g.W.Write.contents c.write_report.new.writer in
-    let options = c.args.options.now in
-    let rows = c.args.rows.now in
-    let history = c.args.performed.now.history.entries in
+    let new = g.W.Write.contents c.write_report.new.writer in let options = c.args.options.now in
+    let rows = c.args.rows.now in let history = c.args.performed.now.history.entries in
     let hot = hot_sets c.args.performed.now.hot.items in
     let text = commits_text options rows history in
     let added = added_text options rows history hot in
@@ -38,8 +36,7 @@ returns-in-None-clause-memory g c = λ _. inr (c.if-not-options.false, c.in_ok-w
 
 pub returns-then-not-options-clause-whole : goal.returns-then-not-options-clause-whole
 returns-then-not-options-clause-whole g c =
-    let options = c.args.options.now in
-    let rows = c.args.rows.now in
+    let options = c.args.options.now in let rows = c.args.rows.now in
     let history = c.args.performed.now.history.entries in
     let hot = hot_sets c.args.performed.now.hot.items in
     let new = g.W.Write.contents c.write_commits.new.writer in

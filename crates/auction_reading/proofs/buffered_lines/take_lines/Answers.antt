@@ -15,10 +15,8 @@ returns-then-end-from-clause-reads g c = has_read_none (read_by c.args.progress.
 
 pub returns-clause-reads : goal.returns-clause-reads
 returns-clause-reads g c =
-    let buffer = c.args.buffer.now in
-    let filled = c.args.filled in
-    let end = c.args.from + c.lines_end.result in
-    let at = c.in_ok-at.at in
+    let buffer = c.args.buffer.now in let filled = c.args.filled in
+    let end = c.args.from + c.lines_end.result in let at = c.in_ok-at.at in
     let within : end ≤ filled = grind (arith, common_steps) in
     let before : at ≤ end = grind (arith, common_steps) in
     let tail = take (filled - end) (drop end buffer) in
@@ -27,8 +25,7 @@ returns-clause-reads g c =
 
 pub returns-clause-some : goal.returns-clause-some
 returns-clause-some g c =
-    let end = c.args.from + c.lines_end.result in
-    let at = c.in_ok-at.at in
+    let end = c.args.from + c.lines_end.result in let at = c.in_ok-at.at in
     let within : end ≤ c.args.filled = grind (arith, common_steps) in
     let before : at ≤ end = grind (arith, common_steps) in
     λ goes_no_further. grind arith

@@ -20,8 +20,7 @@ returns-then-parcel-progress c = (
 
 pub returns-then-not-progress : goal.returns-then-not-progress
 returns-then-not-progress c =
-    let old = c.args.progress.now in
-    let parcel = c.args.parcel.now in
+    let old = c.args.progress.now in let parcel = c.args.parcel.now in
     let same : vec_len old.input.scripts ≡ vec_len parcel.input.scripts = omega (arith, c.if-len.false, c.len.ensures, c.len-2.ensures) in
     let room : old.count + parcel.count ≤ MOST_RECORDS = omega (arith, c.if-parcel-progress.false, c.requires) in (
       λ yes. can_join old parcel same room (λ begun. absurd (false≢true (sym c.if-not-progress.true ∙ begun))),
@@ -30,8 +29,7 @@ returns-then-not-progress c =
 
 pub returns-else-not-progress : goal.returns-else-not-progress
 returns-else-not-progress c =
-    let old = c.args.progress.now in
-    let parcel = c.args.parcel.now in
+    let old = c.args.progress.now in let parcel = c.args.parcel.now in
     let same : vec_len old.input.scripts ≡ vec_len parcel.input.scripts = omega (arith, c.if-len.false, c.len.ensures, c.len-2.ensures) in
     let room : old.count + parcel.count ≤ MOST_RECORDS = omega (arith, c.if-parcel-progress.false, c.requires) in (
       λ yes. can_join old parcel same room (λ begun. eqb-true (vec_len parcel.input.rows) 0 (sym c.is_empty.ensures ∙ yes)),

@@ -8,7 +8,6 @@ was scripts count begun rows = record { asked = record { rows = rows; scripts = 
 
 pub returns-clause-joins : goal.returns-clause-joins
 returns-clause-joins c =
-    let old = c.args.progress.now in
-    let parcel = c.args.parcel.now in
+    let old = c.args.progress.now in let parcel = c.args.parcel.now in
     ap (was old.input.scripts.items (old.count + parcel.count) (old.begun || parcel.begun))
     (c.in-Ok.ensures.items ∙ ap (λ (rows : List Opened). old.input.rows.items ++ rows) c.deref.ensures.value)

@@ -6,11 +6,8 @@ use Rattle.auction_reading.proofs.parcel_joins.+joining.Goals as goal
 
 pub returns : goal.returns
 returns g t c =
-    let cut = c.split_at_mut-first in
-    let xs = cut.result.0.now in
-    let ys = cut.result.1.now in
-    let parcels = c.args.parcels.now in
-    let worker = c.args.worker in
+    let cut = c.split_at_mut-first in let xs = cut.result.0.now in let ys = cut.result.1.now in
+    let parcels = c.args.parcels.now in let worker = c.args.worker in
     let done = c.join_mut-joined.result in
     let front : OnOk done.0 (c.first-1.given.0 ≡ scripts_with worker xs parcels) = search rules in
     let back : OnOk done.1 (c.rest-1.given.0 ≡ scripts_with (worker + 1) ys parcels) = search rules in

@@ -6,8 +6,7 @@ use Rattle.auction_reading.proofs.parcel_joins.add_requests.Goals as goal
 
 pub returns-in-Some : goal.returns-in-Some
 returns-in-Some c =
-    let scripts = c.args.parcel.now.progress.input.scripts.items in
-    let worker = c.args.worker in
+    let scripts = c.args.parcel.now.progress.input.scripts.items in let worker = c.args.worker in
     let there : c.in-Some.requests.now ≡ slice_index_or c.deref.result.now worker [] = rw c.in-Some.is at (c.get.ensures.lookup.4 (omega arith) []) in
     let is : c.in-Some.requests.now ≡ requests_of worker c.args.parcel.now = there ∙ ap (λ (ss : List (List Request)). slice_index_or ss worker []) c.deref.ensures.value in
     on_ok_weaker c.append.result (λ more. more ∙ ap (λ (rs : List Request). c.args.script.now ++ rs) is) c.append.ensures.appended

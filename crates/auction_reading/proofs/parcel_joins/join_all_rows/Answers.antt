@@ -22,12 +22,9 @@ join_rows-requires c =
 
 pub loop-parcel-preserved : goal.loop-parcel-preserved
 loop-parcel-preserved c =
-    let inv = c.loop-parcel.invariant in
-    let parcels = c.args.parcels.now in
-    let parcel = c.parcel-item.result in
-    let many = c.loop-parcel.many in
-    let old = read_by c.args.progress.now in
-    let now = read_by c.loop-parcel.progress in
+    let inv = c.loop-parcel.invariant in let parcels = c.args.parcels.now in
+    let parcel = c.parcel-item.result in let many = c.loop-parcel.many in
+    let old = read_by c.args.progress.now in let now = read_by c.loop-parcel.progress in
     let next = c.join_rows.new.progress in
     let less : many < length parcels = omega (arith, inv.many, c.loop-parcel-test.true) in
     let is : parcel ≡ get_or parcels many parcel = c.parcel-item.is ∙ ap (λ (n : ℕ). get_or parcels n parcel) (sym inv.many) in

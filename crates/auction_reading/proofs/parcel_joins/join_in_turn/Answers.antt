@@ -9,14 +9,10 @@ loop-script-init c = record { at = omega arith; done = refl; yet = refl }
 
 pub loop-script-preserved : goal.loop-script-preserved
 loop-script-preserved c =
-    let inv = c.loop-script.invariant in
-    let scripts = c.args.scripts.now in
-    let parcels = c.args.parcels.now in
-    let first = c.args.first in
-    let now = c.loop-script.scripts in
-    let i = c.loop-script.script-index in
-    let worker = c.loop-script.worker in
-    let script = c.script-item.result in
+    let inv = c.loop-script.invariant in let scripts = c.args.scripts.now in
+    let parcels = c.args.parcels.now in let first = c.args.first in
+    let now = c.loop-script.scripts in let i = c.loop-script.script-index in
+    let worker = c.loop-script.worker in let script = c.script-item.result in
     let new = c.join_script.new.script in
     let within : i < length now = omega (arith, c.loop-script-test.true, c.loop-script.auto.scripts) in
     record {
@@ -27,8 +23,7 @@ loop-script-preserved c =
 
 pub returns : goal.returns
 returns c =
-    let now = c.loop-script.scripts in
-    let i = c.loop-script.script-index in
+    let now = c.loop-script.scripts in let i = c.loop-script.script-index in
     let past : length now ≤ i = omega (arith, c.loop-script-test.false, c.loop-script.auto.scripts) in
     let all : length c.args.scripts.now ≤ i = omega (arith, past, c.loop-script.auto.scripts) in
     sym (take_all i now past) ∙ c.loop-script.invariant.done

@@ -5,8 +5,7 @@ use Rattle.auction_reading.proofs.plain_text.add_line.Goals as goal
 
 pub returns : goal.returns
 returns c =
-    let said = c.args.said.now in
-    let old = c.args.progress.now in
+    let said = c.args.said.now in let old = c.args.progress.now in
     let early : (said.is_row && old.begun) ≡ false = elim c.else-said.branch [
       | else-said-via-then-said+else-progress w ↦ and_right said.is_row old.begun w.if-progress.false
       | else-said-via-else-said w ↦ and_left said.is_row old.begun w.if-said.false

@@ -6,8 +6,7 @@ use Rattle.record_reading.proofs.BufferLemmas.{known_all}
 
 pub returns-clause-input : goal.returns-clause-input
 returns-clause-input g c =
-    let progress = c.args.progress.now in
-    let held = c.args.held.now in
+    let progress = c.args.progress.now in let held = c.args.held.now in
     let first = c.front_of-front.result.now in
     on_ok_weaker c.read_rest.result (λ read. known_all (g.R.Read.remaining c.args.reader) (λ left e bytes up_to.
     let both = read_up_to_front c.args.workers bytes progress (held ++ left) up_to in
@@ -17,8 +16,7 @@ returns-clause-input g c =
 
 pub returns-clause-fault : goal.returns-clause-fault
 returns-clause-fault g c =
-    let progress = c.args.progress.now in
-    let held = c.args.held.now in
+    let progress = c.args.progress.now in let held = c.args.held.now in
     let first = c.front_of-front.result.now in
     IfErr-weaker c.read_rest.result _ _ (λ fault read input. known_all (g.R.Read.remaining c.args.reader) (λ left e bytes up_to.
     let both = read_up_to_front c.args.workers bytes progress (held ++ left) up_to in

@@ -47,8 +47,7 @@ loop-progress-preserved g c =
 
 pub returns-then-branch-clause-fault : goal.returns-then-branch-clause-fault
 returns-then-branch-clause-fault g c = λ input bytes left at is up_to.
-    let inv = c.loop-progress.invariant in
-    let reads = inv.reads bytes left at is up_to in
+    let inv = c.loop-progress.invariant in let reads = inv.reads bytes left at is up_to in
     let found : c.in_ok-read_next-2.field-0 ≡ true = c.if-branch.true in
     let all : c.loop-progress.progress.count ≡ MOST_RECORDS = omega arith in
     reading_long g.R.Read.remaining c.args.workers bytes c.loop-progress.progress.begun c.loop-progress.records c.read_next-2.new.records _ (fields_of c.read_next-2.new.fields)

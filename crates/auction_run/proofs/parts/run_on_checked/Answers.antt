@@ -32,8 +32,7 @@ pub returns : goal.returns
 returns g c =
     let B = g.B.Board in
     let state = c.args.state in let policy = c.args.work.policy in let scripts = c.args.work.scripts.now in
-    let next = c.for_next_run-state.ensures in
-    let outcome = c.in_ok-outcome.outcome in
+    let next = c.for_next_run-state.ensures in let outcome = c.in_ok-outcome.outcome in
     let begins : (book : Book) → IsBookOf state book → BeginsWith c.for_next_run-state.result book policy scripts =
     λ book of. begins_of state c.for_next_run-state.result book policy _ scripts of refl c.requires.few c.requires.ready next.next next.stands in
     let is : (book : Book) → IsBookOf state book → IsOutcome state.opening book policy scripts outcome =

@@ -32,8 +32,7 @@ returns-clause-answer g c =
 
 pub returns-clause-board_after_fault : goal.returns-clause-board_after_fault
 returns-clause-board_after_fault g c =
-    let B = g.B.Board in
-    let book = c.args.book.now in
+    let B = g.B.Board in let book = c.args.book.now in
     subst (λ scripts. IfErr c.run_checked.result (HasShownFirst B.has B.has_refused (opening_of book) (rows_of_book book) c.args.policy scripts c.run_checked.new.board))
     c.in_ok-compact.ensures c.run_checked.ensures.board_after_fault
 
@@ -50,10 +49,8 @@ returns-in_err-check-clause-answer g c =
 
 pub returns-in_err-check-clause-board_after_fault : goal.returns-in_err-check-clause-board_after_fault
 returns-in_err-check-clause-board_after_fault g c =
-    let B = g.B.Board in
-    let book = c.args.book.now in
-    let scripts = g.S.Scripts.asked c.args.scripts in
-    let fault = c.in_err-check.field-0.0 in
+    let B = g.B.Board in let book = c.args.book.now in
+    let scripts = g.S.Scripts.asked c.args.scripts in let fault = c.in_err-check.field-0.0 in
     err_as c.from_residual.result fault (HasShownFirst B.has B.has_refused (opening_of book) (rows_of_book book) c.args.policy scripts c.args.board.now) c.from_residual.ensures.1
     (none_shown B.has B.has_refused (opening_of book) (rows_of_book book) [] c.args.policy scripts c.args.board.now c.requires fault)
 
@@ -64,8 +61,7 @@ returns-in_err-compact-clause-answer g c =
 
 pub returns-in_err-compact-clause-board_after_fault : goal.returns-in_err-compact-clause-board_after_fault
 returns-in_err-compact-clause-board_after_fault g c =
-    let B = g.B.Board in
-    let book = c.args.book.now in
+    let B = g.B.Board in let book = c.args.book.now in
     let scripts = g.S.Scripts.asked c.args.scripts in
     err_as c.from_residual-in_err-compact.result Memory (HasShownFirst B.has B.has_refused (opening_of book) (rows_of_book book) c.args.policy scripts c.args.board.now)
     c.from_residual-in_err-compact.ensures.1

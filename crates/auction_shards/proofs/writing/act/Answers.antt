@@ -8,18 +8,15 @@ use Rattle.auction_shards.proofs.writing.act.Goals as goal
 
 pub act-requires : goal.act-requires
 act-requires c =
-    let shards = c.args.shards.now.items in
-    let old = c.index_mut.result.now in
+    let shards = c.args.shards.now.items in let old = c.index_mut.result.now in
     let many : c.len.result ≡ length shards = omega (arith, c.len.ensures, c.args.shards.now.ok.0) in
     c.requires.can c.in-Some.object old (sym (c.object.ensures (contents old)) ∙ c.in-Some.is)
     (c.index_mut.ensures.value ∙ ap (λ n. get_or shards n old) (c.shard_of-place.ensures.shard ∙ ap (shard_of c.in-Some.object) many))
 
 pub returns-in-Some : goal.returns-in-Some
 returns-in-Some c = λ event is.
-    let shards = c.args.shards.now.items in
-    let object = c.in-Some.object in
-    let place = c.shard_of-place.result in
-    let old = c.index_mut.result.now in
+    let shards = c.args.shards.now.items in let object = c.in-Some.object in
+    let place = c.shard_of-place.result in let old = c.index_mut.result.now in
     let did = c.act.ensures in
     let many : c.len.result ≡ length shards = omega (arith, c.len.ensures, c.args.shards.now.ok.0) in
     let low : place < length shards = omega (arith, c.shard_of-place.ensures.within, many) in

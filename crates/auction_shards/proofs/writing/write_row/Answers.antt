@@ -12,8 +12,7 @@ act-requires-clause-shards c = subst AreOfOne (sym c.in_ok-make_room.ensures.sam
 
 pub act-requires-clause-can : goal.act-requires-clause-can
 act-requires-clause-can c = λ object shard about is.
-    let made = c.in_ok-make_room.ensures in
-    let r = c.args.row.now in
+    let made = c.in_ok-make_room.ensures in let r = c.args.row.now in
     let one : AreOfOne (map state_of c.make_room.new.shards.items) = subst AreOfOne (sym made.same) c.requires.shards in
     let can : CanWriteOn (map state_of c.make_room.new.shards.items) r = subst (λ states. CanWriteOn states r) (sym made.same) c.requires.can in
     let first = c.writes_of-first.ensures.first (contents shard) in
@@ -28,8 +27,7 @@ act-requires-2-clause-shards c =
 
 pub act-requires-2-clause-can : goal.act-requires-2-clause-can
 act-requires-2-clause-can c = λ object shard about is.
-    let made = c.in_ok-make_room.ensures in
-    let r = c.args.row.now in
+    let made = c.in_ok-make_room.ensures in let r = c.args.row.now in
     let one : AreOfOne (map state_of c.make_room.new.shards.items) = subst AreOfOne (sym made.same) c.requires.shards in
     let can : CanWriteOn (map state_of c.make_room.new.shards.items) r = subst (λ states. CanWriteOn states r) (sym made.same) c.requires.can in
     let done = c.act.ensures (first_act (writes_of r)) c.writes_of-first.ensures.first in
@@ -39,8 +37,7 @@ act-requires-2-clause-can c = λ object shard about is.
 
 pub returns-clause-done : goal.returns-clause-done
 returns-clause-done c =
-    let r = c.args.row.now in
-    let all = map state_of c.act-2.new.shards.items in
+    let r = c.args.row.now in let all = map state_of c.act-2.new.shards.items in
     subst (λ states. HaveDone states all (writes_of r)) c.in_ok-make_room.ensures.same
     (both_written (map state_of c.make_room.new.shards.items) (map state_of c.act.new.shards.items) all r
     (c.act.ensures (first_act (writes_of r)) c.writes_of-first.ensures.first)

@@ -8,9 +8,7 @@ same_fault P same h = subst (λ r. IfErr r P) same h
 
 pub returns : goal.returns
 returns g c =
-    let B = g.B.Board in
-    let run = c.run_on_shown-refused in
-    let back = c.given_back-back in
+    let B = g.B.Board in let run = c.run_on_shown-refused in let back = c.given_back-back in
     let stopped = same_fault (IsStopped c.args.state _ _) back.ensures run.ensures.answer.stopped in
     let untouched = same_fault (λ why. GivesBack why → run.new.board ≡ c.args.board.now) back.ensures run.ensures.untouched tt in
     subst (λ board. IsUpToDate B.has board back.result.0) (sym untouched)

@@ -4,8 +4,7 @@ use Rattle.floor_tests.proofs.phases.all_receipts.Goals as goal
 
 pub loop-permit-init : goal.loop-permit-init
 loop-permit-init g c =
-    let permits = c.into_iter-permits.ensures in
-    let room = c.room_for-receipts.ensures in
+    let permits = c.into_iter-permits.ensures in let room = c.room_for-receipts.ensures in
     none_given (omega (arith, c.room_for-receipts.result.ok.0, ap length room.empty)) c.requires permits.rest (omega (arith, permits.len, c.args.permits.ok.0))
     (omega (arith, room.room, c.len.ensures, c.args.permits.ok.0))
 
@@ -17,8 +16,7 @@ push_reserved-requires g c = omega (arith, c.in-Some.ensures.cases.1, c.loop-per
 
 pub loop-permit-preserved : goal.loop-permit-preserved
 loop-permit-preserved g c =
-    let step = c.in-Some.ensures.cases in
-    let push = c.push_reserved.ensures in
+    let step = c.in-Some.ensures.cases in let push = c.push_reserved.ensures in
     one_more_given c.loop-permit.invariant (omega (arith, c.loop-permit.receipts.ok.0)) step.0 (omega (arith, step.1)) c.len-worker.ensures c.receipt.ensures
     push.items (omega (arith, push.len)) (omega (arith, push.capacity))
 

@@ -29,12 +29,10 @@ perform-requires-clause-taken g c = record {
 
 pub returns-in-Some : goal.returns-in-Some
 returns-in-Some g c =
-    let opening = opening_of c.args.book.now in
-    let start = rows_of_book c.args.book.now in
+    let opening = opening_of c.args.book.now in let start = rows_of_book c.args.book.now in
     let first = g.R.Read.remaining c.args.reader.now in
     let old = g.R.Read.remaining c.loop-number.reader in
-    let new = g.R.Read.remaining c.read_next.new.reader in
-    let line = c.read_next.new.line.items in
+    let new = g.R.Read.remaining c.read_next.new.reader in let line = c.read_next.new.line.items in
     let next : ReadsLine old new false line = subst (λ b. ReadsLine old new b line) c.if-not-branch.true c.in_ok-read_next.ensures.line in
     let found = lack_found opening start c.args.scripts.now c.args.order first old new c.loop-number.replay c.loop-number.number line c.loop-number.invariant c.in-Some.worker c.in-Some.index next c.in-Some.ensures.some in
     record {
@@ -45,12 +43,10 @@ returns-in-Some g c =
 
 pub returns-then-not-branch : goal.returns-then-not-branch
 returns-then-not-branch g c =
-    let opening = opening_of c.args.book.now in
-    let start = rows_of_book c.args.book.now in
+    let opening = opening_of c.args.book.now in let start = rows_of_book c.args.book.now in
     let first = g.R.Read.remaining c.args.reader.now in
     let old = g.R.Read.remaining c.loop-number.reader in
-    let new = g.R.Read.remaining c.read_next.new.reader in
-    let line = c.read_next.new.line.items in
+    let new = g.R.Read.remaining c.read_next.new.reader in let line = c.read_next.new.line.items in
     let next : ReadsLine old new false line = subst (λ b. ReadsLine old new b line) c.if-not-branch.true c.in_ok-read_next.ensures.line in
     let found = all_found opening start c.args.scripts.now c.args.order first old new c.loop-number.replay c.loop-number.number line c.loop-number.invariant c.requires.workers next c.in_default.ensures.none in
     record {
@@ -61,20 +57,17 @@ returns-then-not-branch g c =
 
 pub wrong-requires : goal.wrong-requires
 wrong-requires g c =
-    let opening = opening_of c.args.book.now in
-    let start = rows_of_book c.args.book.now in
+    let opening = opening_of c.args.book.now in let start = rows_of_book c.args.book.now in
     let reading = c.loop-number.invariant in
     let wrong = rw c.if-not-branch-2.true at c.in_ok-perform.ensures.wrong in
     some_there c.perform.new.self.wrong (IsWrong opening start c.args.scripts.now c.args.order reading.history c.deref.result.now) (wrong opening start c.args.order reading.history reading.taken)
 
 pub returns-then-not-branch-2 : goal.returns-then-not-branch-2
 returns-then-not-branch-2 g c =
-    let opening = opening_of c.args.book.now in
-    let start = rows_of_book c.args.book.now in
+    let opening = opening_of c.args.book.now in let start = rows_of_book c.args.book.now in
     let first = g.R.Read.remaining c.args.reader.now in
     let old = g.R.Read.remaining c.loop-number.reader in
-    let new = g.R.Read.remaining c.read_next.new.reader in
-    let line = c.read_next.new.line.items in
+    let new = g.R.Read.remaining c.read_next.new.reader in let line = c.read_next.new.line.items in
     let reading = c.loop-number.invariant in
     let next : ReadsLine old new true line = subst (λ b. ReadsLine old new b line) c.if-not-branch.false c.in_ok-read_next.ensures.line in
     let wrong = rw c.if-not-branch-2.true at c.in_ok-perform.ensures.wrong in
@@ -91,12 +84,10 @@ returns-then-not-branch-2 g c =
 
 pub loop-number-preserved : goal.loop-number-preserved
 loop-number-preserved g c =
-    let opening = opening_of c.args.book.now in
-    let start = rows_of_book c.args.book.now in
+    let opening = opening_of c.args.book.now in let start = rows_of_book c.args.book.now in
     let first = g.R.Read.remaining c.args.reader.now in
     let old = g.R.Read.remaining c.loop-number.reader in
-    let new = g.R.Read.remaining c.read_next.new.reader in
-    let line = c.read_next.new.line.items in
+    let new = g.R.Read.remaining c.read_next.new.reader in let line = c.read_next.new.line.items in
     let reading = c.loop-number.invariant in
     let next : ReadsLine old new true line = subst (λ b. ReadsLine old new b line) c.if-not-branch.false c.in_ok-read_next.ensures.line in
     let right = rw c.if-not-branch-2.false at c.in_ok-perform.ensures.right in
@@ -106,8 +97,7 @@ loop-number-preserved g c =
 pub returns-in_err-perform-clause-too_long : goal.returns-in_err-perform-clause-too_long
 returns-in_err-perform-clause-too_long g c = λ is.
     let old = g.R.Read.remaining c.loop-number.reader in
-    let new = g.R.Read.remaining c.read_next.new.reader in
-    let line = c.read_next.new.line.items in
+    let new = g.R.Read.remaining c.read_next.new.reader in let line = c.read_next.new.line.items in
     let next : ReadsLine old new true line = subst (λ b. ReadsLine old new b line) c.if-not-branch.false c.in_ok-read_next.ensures.line in
     one_too_many (opening_of c.args.book.now) (rows_of_book c.args.book.now) c.args.scripts.now c.args.order (g.R.Read.remaining c.args.reader.now) old new c.loop-number.replay c.loop-number.number line
     c.loop-number.invariant next

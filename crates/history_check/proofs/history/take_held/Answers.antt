@@ -7,10 +7,8 @@ use Rattle.history_check.proofs.history.take_held.Goals as goal
 pub returns-clause-line : goal.returns-clause-line
 returns-clause-line g c =
     let old = g.R.Read.remaining c.args.reader.now in
-    let new = g.R.Read.remaining c.consume.new.self in
-    let held = c.in-Ok.held.now in
-    let place = c.in-Some.place in
-    let (none, here) = c.in-Some.ensures in
+    let new = g.R.Read.remaining c.consume.new.self in let held = c.in-Ok.held.now in
+    let place = c.in-Some.place in let (none, here) = c.in-Some.ensures in
     let rested = c.fill_buf.follows.lender-at-none in
     let filled = subst (FillKeeps old (g.R.Read.remaining rested) (g.R.BufRead.consumable_len rested)) c.in-Ok.is c.fill_buf.follows.holds-at-none in
     let taken = Consumes_shown old (g.R.Read.remaining rested) new (g.R.BufRead.consumable_len rested) held (place + 1) (omega (arith, none.high)) c.in-Ok.ensures.front c.in-Ok.ensures.end

@@ -14,10 +14,8 @@ loop-run-init c =
 
 pub loop-run-preserved : goal.loop-run-preserved
 loop-run-preserved c =
-    let runs = c.args.runs.now in
-    let i = c.loop-run.run-index in
-    let counts = c.in_ok-counts.counts in
-    let may = may_be_hot counts c.args.threshold in
+    let runs = c.args.runs.now in let i = c.loop-run.run-index in
+    let counts = c.in_ok-counts.counts in let may = may_be_hot counts c.args.threshold in
     let before = c.loop-run.heats.entries in
     elim c.if-counts-bucket_of.branch [
       | then-counts-bucket_of+in_ok-count w ↦
@@ -37,7 +35,6 @@ loop-run-preserved c =
 
 pub returns : goal.returns
 returns c =
-    let runs = c.args.runs.now in
-    let counts = c.in_ok-counts.counts in
+    let runs = c.args.runs.now in let counts = c.in_ok-counts.counts in
     hot_ones_are_counted (objects_of runs) c.args.threshold counts c.loop-run.heats.entries c.in_ok-counts.ensures
     (subst (λ rs. HasHeatsOf (may_be_hot counts c.args.threshold) (objects_of rs) c.loop-run.heats.entries) (take_all c.loop-run.run-index runs c.loop-run-test.false) c.loop-run.invariant)

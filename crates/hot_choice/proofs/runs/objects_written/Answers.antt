@@ -9,8 +9,7 @@ loop-entry-init c = ap (λ rs. objects_of rs ++ []) c.in_ok-runs.ensures.items
 
 pub loop-entry-preserved : goal.loop-entry-preserved
 loop-entry-preserved c =
-    let entries = c.args.entries.now in
-    let i = c.loop-entry.entry-index in
+    let entries = c.args.entries.now in let i = c.loop-entry.entry-index in
     let e = c.entry-item.result in
     c.in_ok-run.ensures
     ∙ (λ k. c.loop-entry.invariant k ++ option_to_list (c.object_written.ensures k))

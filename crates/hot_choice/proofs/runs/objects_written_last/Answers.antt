@@ -11,8 +11,7 @@ loop-journal-init c = ap objects_of c.in_ok-runs.ensures.items
 
 pub loop-journal-preserved : goal.loop-journal-preserved
 loop-journal-preserved c =
-    let journals = c.last_phase-journals.result.now in
-    let i = c.loop-journal.journal-index in
+    let journals = c.last_phase-journals.result.now in let i = c.loop-journal.journal-index in
     let journal = c.journal-item.result in
     c.in_ok-add_objects.ensures
     ∙ ap (λ (os : List Object). os ++ objects_written journal.entries) c.loop-journal.invariant

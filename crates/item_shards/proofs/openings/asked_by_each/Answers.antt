@@ -5,10 +5,8 @@ use Rattle.item_shards.proofs.openings.asked_by_each.Goals as goal
 
 pub loop-opened-preserved : goal.loop-opened-preserved
 loop-opened-preserved c =
-    let all = c.args.rows.now in
-    let i = c.loop-opened.opened-index in
-    let opened = c.opened-item.result in
-    let counts = c.loop-opened.counts in
+    let all = c.args.rows.now in let i = c.loop-opened.opened-index in
+    let opened = c.opened-item.result in let counts = c.loop-opened.counts in
     let before = c.loop-opened.invariant in
     elim c.if-opened-lt-MOST_WORKERS.branch [
       | then-opened-lt-MOST_WORKERS w ↦ record {

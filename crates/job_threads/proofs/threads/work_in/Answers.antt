@@ -6,8 +6,7 @@ use Rattle.job_threads.proofs.threads.work_in.Goals as goal
 
 pub returns-clause-answers : goal.returns-clause-answers
 returns-clause-answers g c =
-    let keeps = g.J.Job.keeps in
-    let first = c.remove-first.result in
+    let keeps = g.J.Job.keeps in let first = c.remove-first.result in
     let some : 0 < length c.args.jobs.items = subst (λ n. 0 < n) c.args.jobs.ok.0 (not_empty _ _ c.is_empty.ensures c.if-is_empty.false) in
     let none : length c.args.answers.items ≡ 0 = sym c.args.answers.ok.0 ∙ c.requires.room.0 in
     let all = first_and_rest c.args.jobs.items first some c.remove-first.ensures.value ∙ ap (λ js. first ∷ js) (sym c.remove-first.ensures.items ∙ sym c.in_ok-handles.ensures.started) in
@@ -24,8 +23,7 @@ push_reserved-requires g c =
 
 pub join_all-requires : goal.join_all-requires
 join_all-requires g c =
-    let room = c.requires.room in
-    let push = c.push_reserved.ensures in
+    let room = c.requires.room in let push = c.push_reserved.ensures in
     let handles = c.in_ok-handles.handles in
     let jobs = c.remove-first.new.self in record {
       room = room_of_rest job_of handles.items jobs.items _ _ _ _ _ _ _ room.0 push.len push.capacity handles.ok.0 c.in_ok-handles.ensures.started jobs.ok.0 c.remove-first.ensures.len

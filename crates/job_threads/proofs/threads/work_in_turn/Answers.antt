@@ -20,8 +20,7 @@ push_reserved-requires g c = room_for_one _ _ _ _ c.in-Some.ensures.steps.1 c.lo
 
 pub loop-job-preserved : goal.loop-job-preserved
 loop-job-preserved g c =
-    let was = c.loop-job.invariant in
-    let step = c.in-Some.ensures.steps in
+    let was = c.loop-job.invariant in let step = c.in-Some.ensures.steps in
     let push = c.push_reserved.ensures in (
       worked_more g.J.Job.keeps c.args.jobs.items (into_iter_items c.loop-job.job-iterator) (into_iter_items c.next.new.self) c.in-Some.job
           c.loop-job.answers.items c.push_reserved.new.self.items c.work.result step.0 push.items c.work.ensures was.0,
@@ -31,7 +30,6 @@ loop-job-preserved g c =
 
 pub returns : goal.returns
 returns g c =
-    let done = c.loop-job.invariant.0 in
-    let left = c.loop-job.job-iterator.rest in
+    let done = c.loop-job.invariant.0 in let left = c.loop-job.job-iterator.rest in
     subst (λ jobs. AllZip g.J.Job.keeps jobs c.loop-job.answers.items)
     (all_done done.0 left.items c.args.jobs.items (none_left left.items _ left.ok.0 c.in-None.ensures.steps.0) done.1) done.2

@@ -9,16 +9,14 @@ loop-init g c = record { passing = λ bytes known. passing_none g.R.Read.remaini
 
 pub returns-then-is_whole-clause-passes : goal.returns-then-is_whole-clause-passes
 returns-then-is_whole-clause-passes g c = λ bytes known.
-    let front = c.args.front in
-    let len = c.front_len-len.result.0 in
+    let front = c.args.front in let len = c.front_len-len.result.0 in
     let passes = passes_held front c.held.result.now (held c.loop.lines) len c.front_len-len.result.1 true c.held.ensures.value c.if-is_whole.true c.front_len-len.ensures.passes in
     passed_whole g.R.Read.remaining front bytes c.loop.lines c.take.new.self len (c.loop.invariant.passing bytes known) c.take.ensures.underneath c.take.ensures.held passes
 
 pub loop-preserved : goal.loop-preserved
 loop-preserved g c = record {
   passing = λ bytes known.
-      let front = c.args.front in
-      let len = c.front_len-len.result.0 in
+      let front = c.args.front in let len = c.front_len-len.result.0 in
       let passes = passes_held front c.held.result.now (held c.loop.lines) len c.front_len-len.result.1 false c.held.ensures.value c.if-is_whole.false c.front_len-len.ensures.passes in
       passing_read g.R.Read.remaining front bytes c.take.new.self c.read_on.new.self
       (passing_part g.R.Read.remaining front bytes c.loop.lines c.take.new.self len (c.loop.invariant.passing bytes known) c.take.ensures.underneath c.take.ensures.held passes) c.in_ok-read_on.ensures.reads;
@@ -26,8 +24,7 @@ loop-preserved g c = record {
 
 pub returns-then-not-branch-clause-passes : goal.returns-then-not-branch-clause-passes
 returns-then-not-branch-clause-passes g c = λ bytes known.
-    let rem = g.R.Read.remaining in
-    let front = c.args.front in
+    let rem = g.R.Read.remaining in let front = c.args.front in
     let len = c.front_len-len.result.0 in
     let more : c.in_ok-read_on.field-0 ≡ false = c.if-not-branch.true in
     let last = c.read_on.new.self in

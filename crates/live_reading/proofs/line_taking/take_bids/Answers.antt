@@ -15,15 +15,9 @@ loop-at-init c = record {
 
 pub loop-at-preserved : goal.loop-at-preserved
 loop-at-preserved c =
-    let text = c.args.text.now in
-    let at = c.loop-at.at in
-    let old = c.loop-at.taken in
-    let new = c.add.new.self in
-    let inv = c.loop-at.invariant in
-    let bid = c.in-Some.ensures in
-    let one = c.in-Some.one in
-    let next = c.in-Some.next in
-    let below = c.if-one-taken.false in
+    let text = c.args.text.now in let at = c.loop-at.at in let old = c.loop-at.taken in
+    let new = c.add.new.self in let inv = c.loop-at.invariant in let bid = c.in-Some.ensures in
+    let one = c.in-Some.one in let next = c.in-Some.next in let below = c.if-one-taken.false in
     let added = c.in_ok-add.ensures.adds in
     let said = bid_says text at one next old.workers (old.count + 1) old.begun bid.whole c.requires.long bid.alone bid.says.within below bid.request in
     record {

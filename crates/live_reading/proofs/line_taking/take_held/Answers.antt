@@ -5,8 +5,7 @@ use Rattle.record_reading.specs.Lines.{has_no_feed}
 
 pub returns-clause-takes : goal.returns-clause-takes
 returns-clause-takes g c =
-    let old = c.args.taken.now in
-    let new = c.take_text.new.taken in
+    let old = c.args.taken.now in let new = c.take_text.new.taken in
     let how = stop_at c.in_ok-at.fault in
     subst (λ to. TakesText old (held c.args.lines.now) new how to) (sym c.take.ensures.held)
     (subst (λ xs. TakesText old xs new how (drop c.in_ok-at.at xs)) c.held.ensures.value c.in_ok-at.ensures.takes)

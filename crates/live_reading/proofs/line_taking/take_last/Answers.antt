@@ -16,9 +16,7 @@ take_read-requires-clause-room g c = (omega (arith, c.requires.open.0, c.args.ta
 
 pub returns-in-Some-clause-takes : goal.returns-in-Some-clause-takes
 returns-in-Some-clause-takes g c =
-    let rem = g.R.Read.remaining in
-    let lines = c.args.lines.now in
-    let old = c.args.taken.now in
+    let rem = g.R.Read.remaining in let lines = c.args.lines.now in let old = c.args.taken.now in
     let new = c.take_read.new.taken in
     let few : length (held lines) < ROOM_TO_READ = omega (arith, ap length c.held.ensures.value) in
     let said = subst (λ xs. TakesSaid old (next_says old xs) new c.in_ok-fault-2.fault) c.held-2.ensures.value c.in_ok-fault-2.ensures.takes in
@@ -27,9 +25,7 @@ returns-in-Some-clause-takes g c =
 
 pub returns-in-None-clause-takes : goal.returns-in-None-clause-takes
 returns-in-None-clause-takes g c =
-    let rem = g.R.Read.remaining in
-    let lines = c.args.lines.now in
-    let old = c.args.taken.now in
+    let rem = g.R.Read.remaining in let lines = c.args.lines.now in let old = c.args.taken.now in
     let new = c.take_read.new.taken in
     let few : length (held lines) < ROOM_TO_READ = omega (arith, ap length c.held.ensures.value) in
     let said = subst (λ xs. TakesSaid old (next_says old xs) new c.in_ok-fault-2.fault) c.held-2.ensures.value c.in_ok-fault-2.ensures.takes in

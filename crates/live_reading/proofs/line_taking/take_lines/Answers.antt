@@ -10,11 +10,8 @@ loop-init g c = record { takes = from_none g.R.Read.remaining c.args.lines.now c
 
 pub loop-preserved : goal.loop-preserved
 loop-preserved g c =
-    let rem = g.R.Read.remaining in
-    let lines = c.loop.lines in
-    let mid = c.take_held.new.lines in
-    let old = c.loop.taken in
-    let new = c.take_held.new.taken in
+    let rem = g.R.Read.remaining in let lines = c.loop.lines in let mid = c.take_held.new.lines in
+    let old = c.loop.taken in let new = c.take_held.new.taken in
     let text = subst (λ f. TakesText old (held lines) new (stop_at f) (held mid)) c.in_default.is c.in_ok-fault.ensures.takes in
     let here = from_held rem lines mid old new Full c.in_ok-fault.ensures.underneath text in
     let all = from_then rem c.args.lines.now lines mid c.args.taken.now old new Full c.loop.invariant.takes here in
@@ -25,33 +22,22 @@ loop-preserved g c =
 
 pub returns-in-Some-clause-takes : goal.returns-in-Some-clause-takes
 returns-in-Some-clause-takes g c =
-    let rem = g.R.Read.remaining in
-    let lines = c.loop.lines in
-    let mid = c.take_held.new.lines in
-    let old = c.loop.taken in
-    let new = c.take_held.new.taken in
-    let how = Fault c.in-Some.fault in
+    let rem = g.R.Read.remaining in let lines = c.loop.lines in let mid = c.take_held.new.lines in
+    let old = c.loop.taken in let new = c.take_held.new.taken in let how = Fault c.in-Some.fault in
     let text = subst (λ f. TakesText old (held lines) new (stop_at f) (held mid)) c.in-Some.is c.in_ok-fault.ensures.takes in
     from_then rem c.args.lines.now lines mid c.args.taken.now old new how c.loop.invariant.takes (from_held rem lines mid old new how c.in_ok-fault.ensures.underneath text)
 
 pub returns-then-may_end-clause-takes : goal.returns-then-may_end-clause-takes
 returns-then-may_end-clause-takes g c =
-    let rem = g.R.Read.remaining in
-    let lines = c.loop.lines in
-    let mid = c.take_held.new.lines in
-    let old = c.loop.taken in
-    let new = c.take_held.new.taken in
+    let rem = g.R.Read.remaining in let lines = c.loop.lines in let mid = c.take_held.new.lines in
+    let old = c.loop.taken in let new = c.take_held.new.taken in
     let text = subst (λ f. TakesText old (held lines) new (stop_at f) (held mid)) c.in_default.is c.in_ok-fault.ensures.takes in
     from_then rem c.args.lines.now lines mid c.args.taken.now old new Full c.loop.invariant.takes (from_held rem lines mid old new Full c.in_ok-fault.ensures.underneath text)
 
 pub returns-then-not-branch-clause-takes : goal.returns-then-not-branch-clause-takes
 returns-then-not-branch-clause-takes g c =
-    let rem = g.R.Read.remaining in
-    let lines = c.loop.lines in
-    let mid = c.take_held.new.lines in
-    let next = c.read_on.new.self in
-    let first = c.args.taken.now in
-    let old = c.loop.taken in
+    let rem = g.R.Read.remaining in let lines = c.loop.lines in let mid = c.take_held.new.lines in
+    let next = c.read_on.new.self in let first = c.args.taken.now in let old = c.loop.taken in
     let new = c.take_held.new.taken in
     let text = subst (λ f. TakesText old (held lines) new (stop_at f) (held mid)) c.in_default.is c.in_ok-fault.ensures.takes in
     let here = from_held rem lines mid old new Full c.in_ok-fault.ensures.underneath text in

@@ -12,8 +12,7 @@ returns-in-None-clause-takes c =
 
 pub returns-in_ok-add-in-Some-Record-clause-takes : goal.returns-in_ok-add-in-Some-Record-clause-takes
 returns-in_ok-add-in-Some-Record-clause-takes c =
-    let old = c.args.taken.now in
-    let one = c.in-Some-Record.one in
+    let old = c.args.taken.now in let one = c.in-Some-Record.one in
     let place : c.in-Some.place ≡ old.count + 1 = omega (arith, c.in-Some.ensures) in
     let said : c.in_ok-said.said ≡ Some (says.Record one) = c.in-Some-Record.is ∙ ap Some c.in-Some-Record.field-0-is in
     takes_read old c.add.new.self c.args.line.now c.in-Some.place (Some (says.Record one)) None c.requires.short place (sym said ∙ c.in_ok-said.ensures.value)
@@ -21,8 +20,7 @@ returns-in_ok-add-in-Some-Record-clause-takes c =
 
 pub returns-in-Some-Fault-clause-takes : goal.returns-in-Some-Fault-clause-takes
 returns-in-Some-Fault-clause-takes c =
-    let old = c.args.taken.now in
-    let met = c.in-Some-Fault.fault in
+    let old = c.args.taken.now in let met = c.in-Some-Fault.fault in
     let place : c.in-Some.place ≡ old.count + 1 = omega (arith, c.in-Some.ensures) in
     let said : c.in_ok-said.said ≡ Some (says.Fault met) = c.in-Some-Fault.is ∙ ap Some c.in-Some-Fault.field-0-is in
     let new = c.count_to.new.self in

@@ -28,10 +28,8 @@ take_bids-requires-clause-ends c = λ some.
 
 pub loop-taken-preserved-then-behind-at : goal.loop-taken-preserved-then-behind-at
 loop-taken-preserved-then-behind-at c =
-    let text = c.args.text.now in
-    let end = c.lines_end.result in
-    let fits = c.lines_end.ensures.within in
-    let bids = c.in_ok-behind.ensures in
+    let text = c.args.text.now in let end = c.lines_end.result in
+    let fits = c.lines_end.ensures.within in let bids = c.in_ok-behind.ensures in
     let within : c.in_ok-behind.behind ≤ end = omega (arith, length-take-le end text fits, bids.within c.if-behind-at.true) in
     record {
       within = omega (arith, fits);
@@ -40,13 +38,9 @@ loop-taken-preserved-then-behind-at c =
 
 pub loop-taken-preserved : goal.loop-taken-preserved
 loop-taken-preserved c =
-    let first = c.args.taken.now in
-    let text = c.args.text.now in
-    let at = c.loop-taken.at in
-    let len = c.in-Some.len in
-    let rest = take (length text - at) (drop at text) in
-    let new = c.take_other.new.taken in
-    let inv = c.loop-taken.invariant in
+    let first = c.args.taken.now in let text = c.args.text.now in let at = c.loop-taken.at in
+    let len = c.in-Some.len in let rest = take (length text - at) (drop at text) in
+    let new = c.take_other.new.taken in let inv = c.loop-taken.invariant in
     let before = subst (λ t. TakesText first text t Full (drop at text)) (sym (c.in_ok-behind.ensures.none c.if-behind-at.false)) inv.takes in
     record {
       within = within_more text rest at len (take_rest text at) inv.within c.in-Some.ensures.within;
@@ -56,9 +50,7 @@ loop-taken-preserved c =
 
 pub returns-in_default-fault-clause-takes : goal.returns-in_default-fault-clause-takes
 returns-in_default-fault-clause-takes c =
-    let first = c.args.taken.now in
-    let text = c.args.text.now in
-    let at = c.loop-taken.at in
+    let first = c.args.taken.now in let text = c.args.text.now in let at = c.loop-taken.at in
     let before = subst (λ t. TakesText first text t Full (drop at text)) (sym (c.in_ok-behind.ensures.none c.if-behind-at.false)) c.loop-taken.invariant.takes in
     text_more first c.take_bids.new.taken c.take_other.new.taken text (take (length text - at) (drop at text)) at c.in-Some.len c.in_ok-fault.fault (take_rest text at)
     before c.in-Some.ensures.len c.in_ok-fault.ensures.takes

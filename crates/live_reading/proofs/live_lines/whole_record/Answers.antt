@@ -6,8 +6,7 @@ use Rattle.live_reading.proofs.live_lines.whole_record.Goals as goal
 
 pub returns-clause-says : goal.returns-clause-says
 returns-clause-says c = λ place.
-    let one = c.in-Some.one in
-    let begun = c.args.begun in
+    let one = c.in-Some.one in let begun = c.args.begun in
     let early : (one.is_row && begun) ≡ false = elim c.else-one.branch [
       | else-one-via-then-one+else-begun w ↦ and_right one.is_row begun w.if-begun.false
       | else-one-via-else-one w ↦ and_left one.is_row begun w.if-one.false

@@ -8,8 +8,7 @@ use Rattle.load_program.proofs.options.read_plan.Goals as goal
 
 pub returns-in-Ok-parse_words : goal.returns-in-Ok-parse_words
 returns-in-Ok-parse_words c =
-    let parse = c.in-Ok-parse_words in
-    let words = map string_bytes c.args.words.now in
+    let parse = c.in-Ok-parse_words in let words = map string_bytes c.args.words.now in
     let free = is_free (app_of c.in-Ok.command) c.in-Ok.ensures in
     let finds : FindsSaid program words (found_of parse.matches) = subst (λ (a : App). FindsSaid a words (found_of parse.matches)) c.in-Ok.ensures (parse.ensures.finds free) in
     record {

@@ -7,10 +7,8 @@ use Rattle.log_opening.proofs.adding.add_rows.Goals as goal
 
 pub returns-in-Err-clause-refused : goal.returns-in-Err-clause-refused
 returns-in-Err-clause-refused c = λ book start.
-    let all = c.args.opened.now in
-    let mid = c.loop-place.auction in
-    let rows = c.loop-place.rows.items in
-    let opened = c.index-opened-place.result in
+    let all = c.args.opened.now in let mid = c.loop-place.auction in
+    let rows = c.loop-place.rows.items in let opened = c.index-opened-place.result in
     let within : c.loop-place.place < length all = search rules in
     let was = c.loop-place.invariant.added book start in
     first_refused c.args.auction.now mid book all c.loop-place.place opened within c.index-opened-place.is rows c.loop-place.invariant.same was c.in-Err.fault
@@ -18,18 +16,14 @@ returns-in-Err-clause-refused c = λ book start.
 
 pub returns-in_default-clause-refused : goal.returns-in_default-clause-refused
 returns-in_default-clause-refused c = λ book start.
-    let all = c.args.opened.now in
-    let within : c.loop-place.place < length all = search rules in
+    let all = c.args.opened.now in let within : c.loop-place.place < length all = search rules in
     first_refused c.args.auction.now c.loop-place.auction book all c.loop-place.place c.index-opened-place.result within c.index-opened-place.is c.loop-place.rows.items c.loop-place.invariant.same
     (c.loop-place.invariant.added book start) Memory tt
 
 pub loop-place-preserved : goal.loop-place-preserved
 loop-place-preserved c =
-    let all = c.args.opened.now in
-    let old = c.args.auction.now in
-    let mid = c.loop-place.auction in
-    let new = c.add.new.self in
-    let rows = c.loop-place.rows.items in
+    let all = c.args.opened.now in let old = c.args.auction.now in let mid = c.loop-place.auction in
+    let new = c.add.new.self in let rows = c.loop-place.rows.items in
     let opened = c.index-opened-place.result in
     let within : c.loop-place.place < length all = search rules in
     let has = c.loop-place.invariant.has in record {

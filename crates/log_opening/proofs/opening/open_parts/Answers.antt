@@ -7,8 +7,7 @@ use Rattle.log_opening.proofs.opening.open_parts.Goals as goal
 
 pub returns-in_default-clause-refused : goal.returns-in_default-clause-refused
 returns-in_default-clause-refused g c =
-    let auction = c.args.auction in
-    let text = g.R.Read.remaining c.args.reader.now in
+    let auction = c.args.auction in let text = g.R.Read.remaining c.args.reader.now in
     let told = g.W.Write.contents c.args.told.now in
     let reading : ReadRows = record { auction = auction; rows = 0; kept = 0 } in
     let was = none_read text told reading (begins auction c.requires) in
@@ -19,8 +18,7 @@ read_parts-requires-clause-start g c = begins c.args.auction c.requires
 
 pub end-requires-clause-no_end : goal.end-requires-clause-no_end
 end-requires-clause-no_end g c =
-    let buffer = c.in-Ok.buffer in
-    let new = c.read_parts.new.buffer in
+    let buffer = c.in-Ok.buffer in let new = c.read_parts.new.buffer in
     let same : length new ≡ length buffer.items = omega (arith, c.read_parts.ensures.len, ap length c.deref_mut.ensures.value) in
     subst (λ (b : List ℕ). HasNoEnd (take c.in_ok-filled.filled b)) (sym (refilled buffer.len new buffer.items same (sym buffer.ok.0))) c.in_ok-filled.ensures.all.no_end
 
@@ -32,10 +30,8 @@ returns g c =
     let text = g.R.Read.remaining c.args.reader.now in
     let left = g.R.Read.remaining c.read_parts.new.reader in
     let told = g.W.Write.contents c.args.told.now in
-    let next = g.W.Write.contents c.read_parts.new.told in
-    let buffer = c.in-Ok.buffer in
-    let new = c.read_parts.new.buffer in
-    let filled = c.in_ok-filled.filled in
+    let next = g.W.Write.contents c.read_parts.new.told in let buffer = c.in-Ok.buffer in
+    let new = c.read_parts.new.buffer in let filled = c.in_ok-filled.filled in
     let reading = c.read_parts.new.self in
     let same : length new ≡ length buffer.items = omega (arith, c.read_parts.ensures.len, ap length c.deref_mut.ensures.value) in
     let is = sym (refilled buffer.len new buffer.items same (sym buffer.ok.0)) in

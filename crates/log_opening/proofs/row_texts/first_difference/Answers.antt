@@ -4,9 +4,7 @@ use Rattle.log_opening.proofs.row_texts.first_difference.Goals as goal
 
 pub returns-clause-first : goal.returns-clause-first
 returns-clause-first c =
-    let xs = c.args.text.now in
-    let ys = c.args.other.now in
-    let n = c.min-shorter.result in
+    let xs = c.args.text.now in let ys = c.args.other.now in let n = c.min-shorter.result in
     let end : c.loop-at.at ≡ n = omega arith in
     let same : take n xs ≡ take n ys = subst (λ (i : ℕ). take i xs ≡ take i ys) end c.loop-at.invariant in
     let others : xs ≢ ys = search rules in

@@ -8,9 +8,7 @@ use Rattle.part_log.proofs.log.tell_part.Goals as goal
 
 pub returns-clause-first : goal.returns-clause-first
 returns-clause-first g c =
-    let log = g.L.Log.accepted in
-    let contents = g.W.Write.contents in
-    let old = c.args.log.now in
+    let log = g.L.Log.accepted in let contents = g.W.Write.contents in let old = c.args.log.now in
     let rows = c.args.rows.now in
     let logged : Appends (log old) (log c.if-not-is_empty.log) rows = elim c.if-not-is_empty.branch [
       | then-not-is_empty+in_default w ↦ subst (λ l. Appends (log old) (log l) rows) (sym w.log-is) w.in_default.ensures.accepted
@@ -20,8 +18,7 @@ returns-clause-first g c =
 
 pub returns-clause-found : goal.returns-clause-found
 returns-clause-found g c = λ going same.
-    let found = g.L.Log.found in
-    let accepted = g.L.Log.accepted in
+    let found = g.L.Log.found in let accepted = g.L.Log.accepted in
     let never : IfErr c.map_err.result (λ fault. IsUnlogged fault → ⊥) = search rules in
     found_by c.map_err.result never (accepted c.if-not-is_empty.log) (found c.if-not-is_empty.log) c.args.rows.now (elim c.if-not-is_empty.branch [
       | then-not-is_empty+in_default w ↦ subst (λ l. found l ≡ accepted l) (sym w.log-is) w.in_default.ensures.found

@@ -6,9 +6,7 @@ use Rattle.phase_tests.proofs.box_tests.list.Goals as goal
 
 pub returns-clause-after : goal.returns-clause-after
 returns-clause-after c =
-    let one = c.act.ensures in
-    let two = c.act-2.ensures in
-    let end = c.set_clock.ensures in
+    let one = c.act.ensures in let two = c.act-2.ensures in let end = c.set_clock.ensures in
     λ i. record {
       number = (end.same.number ∙ two.same.number ∙ one.same.number) i;
       shards = (end.same.shards ∙ two.same.shards ∙ one.same.shards) i;

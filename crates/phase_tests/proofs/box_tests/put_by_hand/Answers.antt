@@ -24,8 +24,7 @@ list-line-requires-clause-known g c =
 
 pub put-requires-clause-may : goal.put-requires-clause-may
 put-requires-clause-may g c =
-    let take = c.take-held.ensures in
-    let line = c.list-line.ensures in
+    let take = c.take-held.ensures in let line = c.list-line.ensures in
     let found = ap state_of c.shard_mut.ensures.value ∙ take.history.state_is ∙ ap (taken_at g.N.PhaseName.initial c.take-held.new.key) (sym take.number) in
     let clocks = ap (λ (s : ShardState). s.clock) found in (
       line.before ∙ clocks,
@@ -35,8 +34,7 @@ put-requires-clause-may g c =
 
 pub close_one-shards-requires-clause-key : goal.close_one-shards-requires-clause-key
 close_one-shards-requires-clause-key g c =
-    let key = c.in_ok-boxes.key in
-    let take = c.take-held.ensures in
+    let key = c.in_ok-boxes.key in let take = c.take-held.ensures in
     let seen = seen_at c.take-held.new.key 0 in
     let line = Some (seen_line (taken_at g.N.PhaseName.initial c.take-held.new.key c.take-held.result.number) c.list-line.result) in
     let put = c.put.ensures ∙ (λ i. putting (take.key i) (take.number i) line) in record {

@@ -6,10 +6,8 @@ use Rattle.phase_tests.proofs.testing.four.Goals as goal
 
 pub loop-number-preserved : goal.loop-number-preserved
 loop-number-preserved c =
-    let was = c.loop-number.invariant in
-    let p = c.in_ok-push.ensures in
-    let before = c.loop-number.shards in
-    let shard = c.in_ok-new.field-0 in
+    let was = c.loop-number.invariant in let p = c.in_ok-push.ensures in
+    let before = c.loop-number.shards in let shard = c.in_ok-new.field-0 in
     let same : length (map state_of before.items) ≡ length before.items = simp length-map in
     let many : length (map state_of before.items) ≡ c.loop-number.number = omega (arith, same, was.0, before.ok.0) in
     let grown = ap (map state_of) p.items ∙ map_push state_of before.items shard in (

@@ -30,8 +30,7 @@ few_tries tries waiting left none one empty = omega (arith, none, one, empty)
 
 pub serve_all-requires-clause-can : goal.serve_all-requires-clause-can
 serve_all-requires-clause-can g c = λ lifetimes within.
-    let permit = c.in_ok-permit.permit in
-    let made = c.in_ok-permit.ensures in
+    let permit = c.in_ok-permit.permit in let made = c.in_ok-permit.ensures in
     alone g.N.PhaseName.initial c.args.boxes.now permit _ _
     (c.push_reserved.ensures.items ∙ ap (λ (l : List WorkerState). l ++ permit ∷ []) (IfOk-at_ok _ c.expect-permits.ensures c.with_capacity.ensures.items))
     c.requires.scripts
@@ -46,8 +45,7 @@ serve_all-requires-clause-can g c = λ lifetimes within.
 
 pub serve_all-requires-clause-of : goal.serve_all-requires-clause-of
 serve_all-requires-clause-of g c = λ lifetimes within.
-    let permit = c.in_ok-permit.permit in
-    let made = c.in_ok-permit.ensures in
+    let permit = c.in_ok-permit.permit in let made = c.in_ok-permit.ensures in
     of_one permit _
     (c.push_reserved.ensures.items ∙ ap (λ (l : List WorkerState). l ++ permit ∷ []) (IfOk-at_ok _ c.expect-permits.ensures c.with_capacity.ensures.items))
     (record { phase_is = made.phase; worker_is = ap (λ (k : KeyState). k.worker) made.key ∙ c.requires.worker })

@@ -14,9 +14,7 @@ returns-in-Nothing g c =
 
 pub returns-in-One : goal.returns-in-One
 returns-in-One g c =
-    let own = c.args.own in
-    let found = c.clock.result in
-    let next = c.next_number-in-One in
+    let own = c.args.own in let found = c.clock.result in let next = c.next_number-in-One in
     let most = max own (max (clock c.in-One.one.shard) 0) in
     let one : found ≡ clock c.in-One.one.shard = c.clock.ensures ∙ ap clock c.shard.ensures in
     let greatest : max own found ≡ most = omega (arith, one) in record {
@@ -27,8 +25,7 @@ returns-in-One g c =
 
 pub returns-in-Two : goal.returns-in-Two
 returns-in-Two g c =
-    let own = c.args.own in
-    let found = c.clock-in-Two-2.result in
+    let own = c.args.own in let found = c.clock-in-Two-2.result in
     let next = c.next_number-in-Two in
     let most = max own (max (clock c.in-Two.item.shard) (max (clock c.in-Two.other.shard) 0)) in
     let other : c.clock-in-Two.result ≡ clock c.in-Two.other.shard = c.clock-in-Two.ensures ∙ ap clock c.shard-in-Two.ensures in

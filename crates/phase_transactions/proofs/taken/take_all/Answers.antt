@@ -30,10 +30,8 @@ returns-in-Some-None g c =
 
 pub returns-in-Some-Some : goal.returns-in-Some-Some
 returns-in-Some-Some g c =
-    let a = c.in-Some-Some.item in
-    let b = c.in-Some-Some.other in
-    let first = c.take-on_item.ensures in
-    let second = c.take-on_other.ensures in
+    let a = c.in-Some-Some.item in let b = c.in-Some-Some.other in
+    let first = c.take-on_item.ensures in let second = c.take-on_other.ensures in
     let apart : a ≢ b = λ same. omega arith in
     rw (sym c.shard.ensures ∙ c.in-Some-Some.is-0, sym c.shard-2.ensures ∙ c.in-Some-Some.is-1, ne_eqb a b apart)
     (taken_turned (taken_more _ _ (taken_more _ _ (taken_none _ _ _ c.requires.ready.idle) refl first.seats first.key first.later first.number first.history)
@@ -41,20 +39,16 @@ returns-in-Some-Some g c =
 
 pub returns-in-Some-Some-2 : goal.returns-in-Some-Some-2
 returns-in-Some-Some-2 g c =
-    let a = c.in-Some-Some.item in
-    let b = c.in-Some-Some.other in
+    let a = c.in-Some-Some.item in let b = c.in-Some-Some.other in
     let first = c.take-on_other-in-Some-Some-2.ensures in
-    let second = c.take-on_item-in-Some-Some-2.ensures in
-    let apart : b ≢ a = λ same. omega arith in
+    let second = c.take-on_item-in-Some-Some-2.ensures in let apart : b ≢ a = λ same. omega arith in
     rw (sym c.shard.ensures ∙ c.in-Some-Some.is-0, sym c.shard-2.ensures ∙ c.in-Some-Some.is-1, ne_eqb a b (λ e. apart (sym e)))
     (taken_more _ _ (taken_more _ _ (taken_none _ _ _ c.requires.ready.idle) refl first.seats first.key first.later first.number first.history)
     (or_from _ _ (ne_eqb b a apart) refl) second.seats second.key second.later second.number second.history)
 
 pub returns-in-Some-Some-3 : goal.returns-in-Some-Some-3
 returns-in-Some-Some-3 g c =
-    let a = c.in-Some-Some.item in
-    let b = c.in-Some-Some.other in
-    let took = c.take-in-Some-Some-3.ensures in
-    let same : a ≡ b = omega arith in
+    let a = c.in-Some-Some.item in let b = c.in-Some-Some.other in
+    let took = c.take-in-Some-Some-3.ensures in let same : a ≡ b = omega arith in
     rw (sym c.shard.ensures ∙ c.in-Some-Some.is-0, sym c.shard-2.ensures ∙ c.in-Some-Some.is-1, eq-eqb a b same)
     (taken_more _ _ (taken_none _ _ _ c.requires.ready.idle) refl took.seats took.key took.later took.number took.history)

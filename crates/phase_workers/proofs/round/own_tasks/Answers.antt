@@ -13,10 +13,8 @@ overflow_cast-worker g c =
 
 pub loop-permit-preserved : goal.loop-permit-preserved
 loop-permit-preserved g c =
-    let was = c.loop-permit.invariant in
-    let step = c.in-Some.ensures.cases in
-    let push = c.push_reserved.ensures in
-    let n : ℕ = vec_len c.loop-permit.made in
+    let was = c.loop-permit.invariant in let step = c.in-Some.ensures.cases in
+    let push = c.push_reserved.ensures in let n : ℕ = vec_len c.loop-permit.made in
     let script = c.index-round-worker.result in
     let same : c.len-worker.result ≡ n = c.len-worker.ensures in
     let within : n < length c.args.round.scripts.now = next_within _ _ _ _ step.1 was.0 in
@@ -60,10 +58,8 @@ bounds-round-worker g c =
 
 pub loop-permit-init : goal.loop-permit-init
 loop-permit-init g c =
-    let permits = c.into_iter-permits in
-    let given = permits.ensures.rest in
-    let made = c.in-Ok.ensures in
-    let scripts = c.args.round.scripts.now in
+    let permits = c.into_iter-permits in let given = permits.ensures.rest in
+    let made = c.in-Ok.ensures in let scripts = c.args.round.scripts.now in
     let first : ℕ = c.args.round.first in
     let same : tasks c.args.permits.items scripts first ≡ tasks (into_iter_items permits.result) (drop (vec_len c.in-Ok.made) scripts) first =
     λ i. tasks (sym given i) (drop (sym made.len i) scripts) first in (
@@ -79,10 +75,8 @@ loop-permit-init g c =
 
 pub returns : goal.returns
 returns g c =
-    let was = c.loop-permit.invariant in
-    let made = c.loop-permit.made in
-    let left = c.loop-permit.permits.rest in
-    let scripts = c.args.round.scripts.now in
+    let was = c.loop-permit.invariant in let made = c.loop-permit.made in
+    let left = c.loop-permit.permits.rest in let scripts = c.args.round.scripts.now in
     let first : ℕ = c.args.round.first in
     let none = none_left left.items _ left.ok.0 c.in_default-next.ensures.cases.0 in record {
       can = was.3;

@@ -6,8 +6,7 @@ use Rattle.job_threads.proofs.ThreadLemmas.{none_left, all_done, room_at_first, 
 
 pub loop-answer-preserved : goal.loop-answer-preserved
 loop-answer-preserved g c =
-    let was = c.loop-answer.invariant in
-    let step = c.in-Some.ensures.steps in
+    let was = c.loop-answer.invariant in let step = c.in-Some.ensures.steps in
     let push = c.push_reserved.ensures in (
       receipt_more c.loop-answer.receipts.items c.push_reserved.new.self.items c.in-Some.answer (into_iter_items c.loop-answer.answer-iterator) (into_iter_items c.next.new.self) c.args.answers.items
           c.in-Ok.is step.0 push.items was.0,

@@ -11,11 +11,9 @@ use Rattle.job_threads.proofs.ThreadLemmas.{err_as}
 
 pub loop-place-preserved : goal.loop-place-preserved
 loop-place-preserved g c =
-    let was = c.loop-place.invariant in
-    let old : WorkerState = c.args.permit.now in
+    let was = c.loop-place.invariant in let old : WorkerState = c.args.permit.now in
     let mid : WorkerState = c.loop-place.permit in
-    let new : WorkerState = c.perform_next.new.permit in
-    let first : ℕ = c.args.first in
+    let new : WorkerState = c.perform_next.new.permit in let first : ℕ = c.args.first in
     let k : ℕ = c.loop-place.place in
     let calls : List (ℕ × Request) = calls_from c.args.first old.left c.args.script.now in
     let less : c.loop-place.place < old.left = subst (λ n. c.loop-place.place < n) c.left-place-end.ensures c.loop-place-test.true in
@@ -36,10 +34,8 @@ loop-place-preserved g c =
 
 pub returns-in_err-perform_next-clause-stopped : goal.returns-in_err-perform_next-clause-stopped
 returns-in_err-perform_next-clause-stopped g c =
-    let was = c.loop-place.invariant in
-    let old : WorkerState = c.args.permit.now in
-    let first : ℕ = c.args.first in
-    let k : ℕ = c.loop-place.place in
+    let was = c.loop-place.invariant in let old : WorkerState = c.args.permit.now in
+    let first : ℕ = c.args.first in let k : ℕ = c.loop-place.place in
     let calls : List (ℕ × Request) = calls_from c.args.first old.left c.args.script.now in
     let less : c.loop-place.place < old.left = subst (λ n. c.loop-place.place < n) c.left-place-end.ensures c.loop-place-test.true in
     let there = request_there c.args.script.now (first + k) (within_script _ _ _ _ less c.requires.given) in

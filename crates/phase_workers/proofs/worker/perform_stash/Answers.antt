@@ -10,12 +10,9 @@ use Rattle.job_threads.proofs.ThreadLemmas.{err_as}
 
 pub loop-call-preserved : goal.loop-call-preserved
 loop-call-preserved g c =
-    let was = c.loop-call.invariant in
-    let takes : Bool = g.K.Kind.IS_JOINED in
-    let old : WorkerState = c.args.permit.now in
-    let mid : WorkerState = c.loop-call.permit in
-    let new : WorkerState = c.perform_first.new.permit in
-    let k : ℕ = c.loop-call._call in
+    let was = c.loop-call.invariant in let takes : Bool = g.K.Kind.IS_JOINED in
+    let old : WorkerState = c.args.permit.now in let mid : WorkerState = c.loop-call.permit in
+    let new : WorkerState = c.perform_first.new.permit in let k : ℕ = c.loop-call._call in
     let own : List (ℕ × Request) = taken takes old in
     let yes : takes ≡ true = takes_some takes old k (subst (λ n. c.loop-call._call < n) c.waiting-call-end.ensures c.loop-call-test.true) in
     let step : HasPerformedWaiting true mid new = subst (λ t. HasPerformedWaiting t mid new) yes c.in_ok-perform_first.ensures.performed in
@@ -30,8 +27,7 @@ loop-call-preserved g c =
 
 pub returns-clause-done : goal.returns-clause-done
 returns-clause-done g c =
-    let was = c.loop-call.invariant in
-    let old : WorkerState = c.args.permit.now in
+    let was = c.loop-call.invariant in let old : WorkerState = c.args.permit.now in
     let own : List (ℕ × Request) = taken g.K.Kind.IS_JOINED old in
     let rest : List (ℕ × Request) = still_waiting g.K.Kind.IS_JOINED old in
     let all = subst (λ n. n ≤ c.loop-call._call) c.waiting-call-end.ensures c.loop-call-test.false in
@@ -46,8 +42,7 @@ returns-clause-done g c =
 
 pub returns-in_err-perform_first-clause-stopped : goal.returns-in_err-perform_first-clause-stopped
 returns-in_err-perform_first-clause-stopped g c =
-    let was = c.loop-call.invariant in
-    let takes : Bool = g.K.Kind.IS_JOINED in
+    let was = c.loop-call.invariant in let takes : Bool = g.K.Kind.IS_JOINED in
     let old : WorkerState = c.args.permit.now in
     let new : WorkerState = c.perform_first.new.permit in
     err_as c.from_residual.result c.in_err-perform_first.field-0.0 (HasStopped takes g.N.PhaseName.initial (taken takes old) old new) c.from_residual.ensures.1

@@ -5,8 +5,7 @@ use Rattle.phase_workers.proofs.worker.perform_stash.Given as goal
 -- the first so many that are taken of the stash are committed, since none is to be put off, and the others wait
 abbrev pub invariant-loop-call : goal.invariant-loop-call
 invariant-loop-call g l =
-    let old = l.fn.permit in
-    let mid = l.permit in
+    let old = l.fn.permit in let mid = l.permit in
     IsSamePermit old mid
     × (committed mid ≡ committed old ++ take l._call (taken g.K.Kind.IS_JOINED old))
     × (stashed mid ≡ still_waiting g.K.Kind.IS_JOINED old ++ drop l._call (taken g.K.Kind.IS_JOINED old))

@@ -20,8 +20,7 @@ perform_stash-requires-clause-tries g c =
 
 pub returns-in_err-perform_stash-clause-stopped : goal.returns-in_err-perform_stash-clause-stopped
 returns-in_err-perform_stash-clause-stopped g c =
-    let old : WorkerState = c.args.permit.now in
-    let takes : Bool = g.K.Kind.IS_JOINED in
+    let old : WorkerState = c.args.permit.now in let takes : Bool = g.K.Kind.IS_JOINED in
     let new : WorkerState = c.perform_stash.new.permit in
     err_as c.from_residual.result c.in_err-perform_stash.field-0.0 (HasMetFault takes g.N.PhaseName.initial (task old c.args.script.now c.args.first) new) c.from_residual.ensures.1
     (stopped_early g.N.PhaseName.initial old old new c.in_err-perform_stash.field-0.0 takes (taken takes old)
@@ -31,8 +30,7 @@ pub returns-clause-done : goal.returns-clause-done
 returns-clause-done g c =
     let old : WorkerState = c.args.permit.now in
     let mid : WorkerState = c.perform_stash.new.permit in
-    let stash = c.in_ok-perform_stash.ensures.done in
-    let quota = c.perform_quota.ensures in
+    let stash = c.in_ok-perform_stash.ensures.done in let quota = c.perform_quota.ensures in
     on_ok3 c.perform_quota.result quota.same quota.calls quota.stash
     (task_done g.K.Kind.IS_JOINED c.args.script.now c.args.first old mid c.perform_quota.new.permit stash.same stash.go stash.calls stash.stash stash.left)
 
@@ -40,8 +38,7 @@ pub returns-clause-stopped : goal.returns-clause-stopped
 returns-clause-stopped g c =
     let old : WorkerState = c.args.permit.now in
     let mid : WorkerState = c.perform_stash.new.permit in
-    let new : WorkerState = c.perform_quota.new.permit in
-    let takes : Bool = g.K.Kind.IS_JOINED in
+    let new : WorkerState = c.perform_quota.new.permit in let takes : Bool = g.K.Kind.IS_JOINED in
     let stash = c.in_ok-perform_stash.ensures.done in
     let calls : List (ℕ × Request) = calls_from c.args.first mid.left c.args.script.now in
     IfErr-weaker c.perform_quota.result (HasStopped false g.N.PhaseName.initial calls mid new) (HasMetFault takes g.N.PhaseName.initial (task old c.args.script.now c.args.first) new)

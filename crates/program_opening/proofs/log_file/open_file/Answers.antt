@@ -8,8 +8,7 @@ cut_log-requires g c = let was = c.in-Ok.ensures.opens in (was.book, was.opens)
 
 pub returns-in-Ok-cut_log-clause-opens : goal.returns-in-Ok-cut_log-clause-opens
 returns-in-Ok-cut_log-clause-opens g c =
-    let logged = c.in-Ok.logged in
-    let cut = c.in-Ok-cut_log.ensures in
+    let logged = c.in-Ok.logged in let cut = c.in-Ok-cut_log.ensures in
     let cut_is : c.len-cut.result ≡ length logged.tail.items = c.len-cut.ensures ∙ logged.tail.ok.0 in
     opened_from _ _ _ logged c.in-Ok-cut_log.log c.len-cut.result c.in-Ok.ensures.opens cut_is cut.accepted cut.found cut.goes_on
 

@@ -10,8 +10,7 @@ use Rattle.program_opening.proofs.options.read_options.Goals as goal
 
 pub returns : goal.returns
 returns c =
-    let parse = c.in_ok-matches in
-    let found = found_of parse.matches in
+    let parse = c.in_ok-matches in let found = found_of parse.matches in
     let words = map string_bytes c.args.words.now in
     let free = is_free (app_of c.in-Ok.command) c.in-Ok.ensures in
     let finds : FindsSaid program words found = subst (λ (a : App). FindsSaid a words found) c.in-Ok.ensures (parse.ensures.finds free) in

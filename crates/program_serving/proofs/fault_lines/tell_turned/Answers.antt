@@ -11,8 +11,7 @@ returns-clause-told g c =
 
 pub returns-in_err-tell_part-clause-so_far : goal.returns-in_err-tell_part-clause-so_far
 returns-in_err-tell_part-clause-so_far g c =
-    let log = g.L.Log.accepted in
-    let contents = g.W.Write.contents in
+    let log = g.L.Log.accepted in let contents = g.W.Write.contents in
     let old = c.args.teller.now.teller in
     let new = record old { log = c.tell_part.new.log; writer = c.tell_part.new.writer } in
     let fault = c.in_err-tell_part.field-0.0 in

@@ -35,10 +35,8 @@ returns-in_default-clause-cause c = λ book begins. (None, (tt, inr (refl, inl (
 
 pub returns-in_err-added-clause-cause : goal.returns-in_err-added-clause-cause
 returns-in_err-added-clause-cause c =
-    let options = c.args.options.now in
-    let state = c.args.part.served.auction in
-    let scripts = c.args.part.input.scripts.items in
-    let next = c.for_next_run-auction.ensures in
+    let options = c.args.options.now in let state = c.args.part.served.auction in
+    let scripts = c.args.part.input.scripts.items in let next = c.for_next_run-auction.ensures in
     let fault = c.in_err-added.field-0.0 in
     error_is c.from_residual.result fault (λ (f : Fault). (book : Book) → BeginsAt options state scripts book → IsNotBegun options book (gone_by c.args.part.served.before) c.args.part.served.rows (asked_of c.args.part.input) f)
     c.from_residual.ensures (λ book begins. (
@@ -52,14 +50,10 @@ returns-in_err-added-clause-cause c =
 
 pub returns-in_default-with_scripts-clause-cause : goal.returns-in_default-with_scripts-clause-cause
 returns-in_default-with_scripts-clause-cause c = λ book begins.
-    let options = c.args.options.now in
-    let before = c.args.part.served.before in
-    let read = c.args.part.served.rows in
-    let asked = asked_of c.args.part.input in
-    let mid = c.add_part.new.auction in
-    let added = c.in_ok-added.added.items in
-    let run = c.take_past-past.new.scripts.items in
-    let past = c.take_past-past.result in
+    let options = c.args.options.now in let before = c.args.part.served.before in
+    let read = c.args.part.served.rows in let asked = asked_of c.args.part.input in
+    let mid = c.add_part.new.auction in let added = c.in_ok-added.added.items in
+    let run = c.take_past-past.new.scripts.items in let past = c.take_past-past.result in
     let next = c.for_next_run-auction.ensures in
     let has = begun options c.args.part.served.auction c.for_next_run-auction.result book c.args.part.input.scripts.items begins next.next next.stands mid c.as_slice.result.now c.args.part.input.rows.items c.as_slice.ensures.value
     added c.add_part.ensures.same c.in_ok-added.ensures.adds c.args.part.input.scripts.items past run refl c.take_past-past.ensures.none c.take_past-past.ensures.some c.take_past-past.ensures.short in (

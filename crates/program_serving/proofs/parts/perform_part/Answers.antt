@@ -13,11 +13,8 @@ use Rattle.program_serving.proofs.parts.perform_part.Goals as goal
 
 pub returns-clause-serves : goal.returns-clause-serves
 returns-clause-serves g c = λ book asked begun.
-    let options = c.args.options.now in
-    let part = c.args.begun in
-    let run = part.scripts.items in
-    let gone = gone_by part.before in
-    let outcome = c.in_ok-outcome.outcome in
+    let options = c.args.options.now in let part = c.args.begun in let run = part.scripts.items in
+    let gone = gone_by part.before in let outcome = c.in_ok-outcome.outcome in
     let hot = hot_sets outcome.hot.items in
     let count : c.len.result ≡ length hot = c.len.ensures ∙ outcome.hot.ok.0 ∙ sym (length-map outcome.hot.items (λ set. set.keys)) in
     let same : part.next.phases ≡ part.before.phases + 0 = ap (λ (g : Gone). g.phases) c.requires.next in
@@ -37,12 +34,9 @@ returns-clause-has g c = c.in_ok-outcome.ensures.has
 
 pub returns-in_err-outcome-clause-cause : goal.returns-in_err-outcome-clause-cause
 returns-in_err-outcome-clause-cause g c =
-    let accepted = g.L.Log.accepted in
-    let contents = g.W.Write.contents in
-    let options = c.args.options.now in
-    let part = c.args.begun in
-    let teller = c.args.teller.now.teller in
-    let fault = c.in_err-outcome.field-0.0 in
+    let accepted = g.L.Log.accepted in let contents = g.W.Write.contents in
+    let options = c.args.options.now in let part = c.args.begun in
+    let teller = c.args.teller.now.teller in let fault = c.in_err-outcome.field-0.0 in
     error_is c.from_residual.result fault (λ (f : Fault). (book : Book) (asked : Asked) (before : ℕ) → IsBegun options book asked part.auction part.added.items part.scripts.items part.past
     → FailsPart accepted contents teller teller options book (gone_by part.before) before asked f) c.from_residual.ensures
     (λ book asked before begun. record {
@@ -56,11 +50,8 @@ returns-in_err-outcome-clause-cause g c =
 
 pub returns-in_default-clause-cause : goal.returns-in_default-clause-cause
 returns-in_default-clause-cause g c = λ book asked before begun.
-    let options = c.args.options.now in
-    let part = c.args.begun in
-    let gone = gone_by part.before in
-    let outcome = c.in_ok-outcome.outcome in
-    let hot = hot_sets outcome.hot.items in
+    let options = c.args.options.now in let part = c.args.begun in let gone = gone_by part.before in
+    let outcome = c.in_ok-outcome.outcome in let hot = hot_sets outcome.hot.items in
     let count : c.len.result ≡ length hot = c.len.ensures ∙ outcome.hot.ok.0 ∙ sym (length-map outcome.hot.items (λ set. set.keys)) in
     let same : part.next.phases ≡ part.before.phases + 0 = ap (λ (g : Gone). g.phases) c.requires.next in
     let past : HasPastPhases options book gone (record { rows = asked.rows; scripts = part.scripts.items }) = record {
@@ -77,14 +68,10 @@ returns-in_default-clause-cause g c = λ book asked before begun.
 
 pub returns-in_err-tell_committed-clause-cause : goal.returns-in_err-tell_committed-clause-cause
 returns-in_err-tell_committed-clause-cause g c =
-    let accepted = g.L.Log.accepted in
-    let contents = g.W.Write.contents in
-    let options = c.args.options.now in
-    let part = c.args.begun in
-    let outcome = c.in_ok-outcome.outcome in
-    let old = c.args.teller.now.teller in
-    let new = c.tell_committed.new.teller.teller in
-    let fault = c.in_err-tell_committed.field-0.0 in
+    let accepted = g.L.Log.accepted in let contents = g.W.Write.contents in
+    let options = c.args.options.now in let part = c.args.begun in
+    let outcome = c.in_ok-outcome.outcome in let old = c.args.teller.now.teller in
+    let new = c.tell_committed.new.teller.teller in let fault = c.in_err-tell_committed.field-0.0 in
     error_is c.from_residual-in_err-tell_committed.result fault (λ (f : Fault). (book : Book) (asked : Asked) (before : ℕ) → IsBegun options book asked part.auction part.added.items part.scripts.items part.past
     → FailsPart accepted contents old new options book (gone_by part.before) before asked f) c.from_residual-in_err-tell_committed.ensures
     (λ book asked before begun. record {

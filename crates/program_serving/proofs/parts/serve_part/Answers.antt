@@ -9,12 +9,9 @@ use Rattle.program_serving.proofs.parts.serve_part.Goals as goal
 
 pub returns : goal.returns
 returns g c =
-    let accepted = g.L.Log.accepted in
-    let contents = g.W.Write.contents in
-    let options = c.args.options.now in
-    let part = c.args.part in
-    let old = c.args.teller.now.teller in
-    let new = c.perform_part.new.teller.teller in
+    let accepted = g.L.Log.accepted in let contents = g.W.Write.contents in
+    let options = c.args.options.now in let part = c.args.part in
+    let old = c.args.teller.now.teller in let new = c.perform_part.new.teller.teller in
     let e = c.in_ok-begun.ensures in
     let Holds : List ℕ → List ℕ → Type 0 = AreTold accepted contents old new in record {
       serves = IfOk-weaker c.perform_part.result _ (λ done. (book : Book) → BeginsPart options part book → ServesDone options book (gone_by part.served.before) (asked_of part.input) done.past done.served Holds)
@@ -33,10 +30,8 @@ perform_part-requires-clause-next g c = λ lives within. c.in_ok-begun.ensures.n
 
 pub returns-in_err-begun-clause-cause : goal.returns-in_err-begun-clause-cause
 returns-in_err-begun-clause-cause g c =
-    let accepted = g.L.Log.accepted in
-    let contents = g.W.Write.contents in
-    let options = c.args.options.now in
-    let part = c.args.part in
+    let accepted = g.L.Log.accepted in let contents = g.W.Write.contents in
+    let options = c.args.options.now in let part = c.args.part in
     let teller = c.args.teller.now.teller in
     error_is c.from_residual.result c.in_err-begun.field-0.0 (λ (f : Fault). (book : Book) → BeginsPart options part book
     → FailsPart accepted contents teller teller options book (gone_by part.served.before) part.served.rows (asked_of part.input) f) c.from_residual.ensures

@@ -13,8 +13,7 @@ use Rattle.program_serving.proofs.session.serve.Goals as goal
 
 pub returns-clause-all : goal.returns-clause-all
 returns-clause-all g c =
-    let options = c.args.options.now in
-    let old = c.args.teller.now.teller in
+    let options = c.args.options.now in let old = c.args.teller.now.teller in
     let first : Served = record { auction = c.args.source.auction; rows = 0; before = c.none.result } in
     on_ok_weaker c.serve_lines.result (λ ensures book start. IfSome_then (g.I.Read.remaining c.args.source.reader) c.in_ok-left.ensures.says (λ input has.
     let all = live_says options.workers input in
@@ -23,10 +22,8 @@ returns-clause-all g c =
 
 pub returns-clause-cause : goal.returns-clause-cause
 returns-clause-cause g c =
-    let accepted = g.L.Log.accepted in
-    let contents = g.W.Write.contents in
-    let options = c.args.options.now in
-    let old = c.args.teller.now.teller in
+    let accepted = g.L.Log.accepted in let contents = g.W.Write.contents in
+    let options = c.args.options.now in let old = c.args.teller.now.teller in
     let first : Served = record { auction = c.args.source.auction; rows = 0; before = c.none.result } in
     IfErr-weaker c.serve_lines.result _ (λ (f : Fault). (book : Book) → IsStart options c.args.source.auction book
     → IfSome (g.I.Read.remaining c.args.source.reader) (λ input. IsServeFault accepted contents old c.serve_lines.new.teller.teller options book (live_says options.workers input) f))
@@ -49,26 +46,21 @@ returns-clause-book g c = λ book start had.
 
 pub returns-in_err-left-clause-cause : goal.returns-in_err-left-clause-cause
 returns-in_err-left-clause-cause g c =
-    let accepted = g.L.Log.accepted in
-    let contents = g.W.Write.contents in
-    let options = c.args.options.now in
-    let known = g.I.Read.remaining c.args.source.reader in
-    let old = c.args.teller.now.teller in
-    let fault = c.in_err-left.field-0.0 in
+    let accepted = g.L.Log.accepted in let contents = g.W.Write.contents in
+    let options = c.args.options.now in let known = g.I.Read.remaining c.args.source.reader in
+    let old = c.args.teller.now.teller in let fault = c.in_err-left.field-0.0 in
     error_is c.from_residual.result (Read fault) (λ (f : Fault). (book : Book) → IsStart options c.args.source.auction book
     → IfSome known (λ input. IsServeFault accepted contents old old options book (live_says options.workers input) f)) c.from_residual.ensures
     (λ book start. unread accepted contents options book old known (live_says options.workers) fault c.in_err-left.ensures.fails)
 
 pub returns-in_err-left-clause-logged : goal.returns-in_err-left-clause-logged
 returns-in_err-left-clause-logged g c = λ book start.
-    let options = c.args.options.now in
-    let old = c.args.teller.now.teller in
+    let options = c.args.options.now in let old = c.args.teller.now.teller in
     either_logged g.L.Log.accepted g.W.Write.contents options book old old (g.I.Read.remaining c.args.source.reader) (live_says options.workers)
     c.args.source.auction start c.from_residual.result (no_success c.from_residual.result _ _ c.from_residual.ensures) (returns-in_err-left-clause-cause g c)
 
 pub returns-in_err-left-clause-book : goal.returns-in_err-left-clause-book
 returns-in_err-left-clause-book g c = λ book start had.
-    let options = c.args.options.now in
-    let old = c.args.teller.now.teller in
+    let options = c.args.options.now in let old = c.args.teller.now.teller in
     IfSome_then (g.I.Read.remaining c.args.source.reader) (returns-in_err-left-clause-logged g c book start) (λ input first.
     served_book g.L.Log.accepted g.W.Write.contents old old options book (live_says options.workers input) had first)

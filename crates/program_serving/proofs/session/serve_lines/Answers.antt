@@ -31,9 +31,7 @@ returns-in_err-next-clause-cause g c =
 
 pub returns-clause-cause : goal.returns-clause-cause
 returns-clause-cause g c = λ book all start session.
-    let accepted = g.L.Log.accepted in
-    let contents = g.W.Write.contents in
-    let options = c.args.options.now in
-    let now = c.loop.teller.teller in
+    let accepted = g.L.Log.accepted in let contents = g.W.Write.contents in
+    let options = c.args.options.now in let now = c.loop.teller.teller in
     session_stops accepted contents options book all start now now c.loop.session.served (GoesOnTo g.I.Read.remaining options.workers c.loop.session.end) (c.loop.invariant.session book all start session) (Read read.Read)
     (nothing_told accepted contents now, λ input. absurd input)

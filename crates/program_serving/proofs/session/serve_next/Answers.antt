@@ -14,12 +14,9 @@ use Rattle.program_serving.proofs.session.serve_next.Goals as goal
 
 pub returns-in_default-clause-goes_on : goal.returns-in_default-clause-goes_on
 returns-in_default-clause-goes_on g c = λ book all start session.
-    let remaining = g.I.Read.remaining in
-    let accepted = g.L.Log.accepted in
-    let contents = g.W.Write.contents in
-    let options = c.args.options.now in
-    let new = c.pass_fault.new.teller.teller in
-    let left = c.in_ok-left.field-0 in
+    let remaining = g.I.Read.remaining in let accepted = g.L.Log.accepted in
+    let contents = g.W.Write.contents in let options = c.args.options.now in
+    let new = c.pass_fault.new.teller.teller in let left = c.in_ok-left.field-0 in
     let passed = session_passed accepted contents options book all start c.args.teller.now.teller new c.args.session.served (GoesOnTo remaining options.workers c.args.session.end) session remaining left
     (c.in_ok-left.ensures.passes remaining options.workers session.rest session.left) in
     let none : passed.rest ≡ [] = subst (λ o. MayHaveToSay remaining options.workers o passed.rest) (is_none left c.in_default.not-Some) passed.left in
@@ -27,12 +24,9 @@ returns-in_default-clause-goes_on g c = λ book all start session.
 
 pub returns-clause-goes_on : goal.returns-clause-goes_on
 returns-clause-goes_on g c = λ book all start session.
-    let remaining = g.I.Read.remaining in
-    let accepted = g.L.Log.accepted in
-    let contents = g.W.Write.contents in
-    let options = c.args.options.now in
-    let mid = c.pass_fault.new.teller.teller in
-    let next = c.serve_part.new.teller.teller in
+    let remaining = g.I.Read.remaining in let accepted = g.L.Log.accepted in
+    let contents = g.W.Write.contents in let options = c.args.options.now in
+    let mid = c.pass_fault.new.teller.teller in let next = c.serve_part.new.teller.teller in
     let passed = subst (λ left. IsSession options book all c.args.session.served (MayHaveToSay remaining options.workers left) (AreTold accepted contents start mid)) c.in-Some.is
     (session_passed accepted contents options book all start c.args.teller.now.teller mid c.args.session.served (GoesOnTo remaining options.workers c.args.session.end) session remaining c.in_ok-left.field-0
     (c.in_ok-left.ensures.passes remaining options.workers session.rest session.left)) in
@@ -53,12 +47,9 @@ returns-clause-has g c = c.in_ok-done.ensures.has
 
 pub returns-in_err-left-clause-cause : goal.returns-in_err-left-clause-cause
 returns-in_err-left-clause-cause g c =
-    let remaining = g.I.Read.remaining in
-    let accepted = g.L.Log.accepted in
-    let contents = g.W.Write.contents in
-    let options = c.args.options.now in
-    let mid = c.pass_fault.new.teller.teller in
-    let fault = c.in_err-left.field-0.0 in
+    let remaining = g.I.Read.remaining in let accepted = g.L.Log.accepted in
+    let contents = g.W.Write.contents in let options = c.args.options.now in
+    let mid = c.pass_fault.new.teller.teller in let fault = c.in_err-left.field-0.0 in
     error_is c.from_residual.result fault (λ (f : Fault). (book : Book) (all : List Said) (start : Teller _ _)
     → IsServedSoFar remaining accepted contents start c.args.teller.now.teller options book all c.args.session
     → IsServeFault accepted contents start mid options book all f) c.from_residual.ensures
@@ -68,12 +59,9 @@ returns-in_err-left-clause-cause g c =
 
 pub returns-in_err-input-clause-cause : goal.returns-in_err-input-clause-cause
 returns-in_err-input-clause-cause g c =
-    let remaining = g.I.Read.remaining in
-    let accepted = g.L.Log.accepted in
-    let contents = g.W.Write.contents in
-    let options = c.args.options.now in
-    let mid = c.pass_fault.new.teller.teller in
-    let fault = c.in_err-input.field-0.0 in
+    let remaining = g.I.Read.remaining in let accepted = g.L.Log.accepted in
+    let contents = g.W.Write.contents in let options = c.args.options.now in
+    let mid = c.pass_fault.new.teller.teller in let fault = c.in_err-input.field-0.0 in
     error_is c.from_residual-in_err-input.result (Read fault) (λ (f : Fault). (book : Book) (all : List Said) (start : Teller _ _)
     → IsServedSoFar remaining accepted contents start c.args.teller.now.teller options book all c.args.session
     → IsServeFault accepted contents start mid options book all f) c.from_residual-in_err-input.ensures
@@ -86,12 +74,9 @@ returns-in_err-input-clause-cause g c =
 
 pub returns-in_err-done-clause-cause : goal.returns-in_err-done-clause-cause
 returns-in_err-done-clause-cause g c =
-    let remaining = g.I.Read.remaining in
-    let accepted = g.L.Log.accepted in
-    let contents = g.W.Write.contents in
-    let options = c.args.options.now in
-    let mid = c.pass_fault.new.teller.teller in
-    let new = c.serve_part.new.teller.teller in
+    let remaining = g.I.Read.remaining in let accepted = g.L.Log.accepted in
+    let contents = g.W.Write.contents in let options = c.args.options.now in
+    let mid = c.pass_fault.new.teller.teller in let new = c.serve_part.new.teller.teller in
     let fault = c.in_err-done.field-0.0 in
     error_is c.from_residual-in_err-done.result fault (λ (f : Fault). (book : Book) (all : List Said) (start : Teller _ _)
     → IsServedSoFar remaining accepted contents start c.args.teller.now.teller options book all c.args.session
@@ -108,14 +93,10 @@ returns-in_err-done-clause-cause g c =
 
 pub returns-in_err-tell_past-clause-cause : goal.returns-in_err-tell_past-clause-cause
 returns-in_err-tell_past-clause-cause g c =
-    let remaining = g.I.Read.remaining in
-    let accepted = g.L.Log.accepted in
-    let contents = g.W.Write.contents in
-    let options = c.args.options.now in
-    let mid = c.pass_fault.new.teller.teller in
-    let next = c.serve_part.new.teller.teller in
-    let new = c.tell_past.new.teller.teller in
-    let fault = c.in_err-tell_past.field-0.0 in
+    let remaining = g.I.Read.remaining in let accepted = g.L.Log.accepted in
+    let contents = g.W.Write.contents in let options = c.args.options.now in
+    let mid = c.pass_fault.new.teller.teller in let next = c.serve_part.new.teller.teller in
+    let new = c.tell_past.new.teller.teller in let fault = c.in_err-tell_past.field-0.0 in
     error_is c.from_residual-in_err-tell_past.result fault (λ (f : Fault). (book : Book) (all : List Said) (start : Teller _ _)
     → IsServedSoFar remaining accepted contents start c.args.teller.now.teller options book all c.args.session
     → IsServeFault accepted contents start new options book all f) c.from_residual-in_err-tell_past.ensures

@@ -16,8 +16,7 @@ returns-clause-told g c =
 
 pub returns-clause-so_far : goal.returns-clause-so_far
 returns-clause-so_far g c =
-    let options = c.args.options.now in
-    let gone = gone_by c.args.done.now.served.before in
+    let options = c.args.options.now in let gone = gone_by c.args.done.now.served.before in
     let limit = c.args.done.now.served.auction.limit in
     let At = AreToldAt g.L.Log.accepted g.W.Write.contents c.args.teller.now.teller c.tell_turned.new.teller.teller in
     IfErr-weaker c.tell_turned.result _ (λ (f : Fault). MatchOption c.args.done.now.past ⊥ (λ worker. At f [] (past_answer options gone limit (Some worker)))) (λ fault told.

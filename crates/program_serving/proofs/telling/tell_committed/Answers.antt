@@ -7,8 +7,7 @@ use Rattle.program_serving.proofs.telling.tell_committed.Goals as goal
 
 pub returns-clause-told : goal.returns-clause-told
 returns-clause-told g c =
-    let log = g.L.Log.accepted in
-    let contents = g.W.Write.contents in
+    let log = g.L.Log.accepted in let contents = g.W.Write.contents in
     let old = c.args.teller.now.teller in
     let new = record old { log = c.tell_part.new.log; writer = c.tell_part.new.writer } in
     let committed = c.args.committed.now in (
@@ -27,14 +26,11 @@ returns-in_err-make_text-clause-so_far g c =
 
 pub returns-in_err-tell_part-clause-so_far : goal.returns-in_err-tell_part-clause-so_far
 returns-in_err-tell_part-clause-so_far g c =
-    let log = g.L.Log.accepted in
-    let contents = g.W.Write.contents in
+    let log = g.L.Log.accepted in let contents = g.W.Write.contents in
     let old = c.args.teller.now.teller in
     let new = record old { log = c.tell_part.new.log; writer = c.tell_part.new.writer } in
-    let fault = c.in_err-tell_part.field-0.0 in
-    let added = c.args.committed.now.rows.items in
-    let history = c.args.committed.now.history.entries in
-    let rows = rows_text added history in
+    let fault = c.in_err-tell_part.field-0.0 in let added = c.args.committed.now.rows.items in
+    let history = c.args.committed.now.history.entries in let rows = rows_text added history in
     let text = part_text c.args.options.now (gone_by c.args.committed.now.before) added history in
     error_is c.from_residual-in_err-tell_part.result (of_telling fault) (λ f. AreToldAt log contents old new f rows text) c.from_residual-in_err-tell_part.ensures
     (told_so_far log contents old new fault c.as_slice.result.now rows c.as_slice-2.result.now text c.in_err-tell_part.ensures.fault

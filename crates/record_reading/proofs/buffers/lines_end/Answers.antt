@@ -6,9 +6,7 @@ use Rattle.record_reading.proofs.buffers.lines_end.Goals as goal
 
 pub returns-in-Some-clause-ends : goal.returns-in-Some-clause-ends
 returns-in-Some-clause-ends c = λ some.
-    let text = c.args.text.now in
-    let k = c.in-Some.place in
-    let (none, here) = c.in-Some.ensures in
+    let text = c.args.text.now in let k = c.in-Some.place in let (none, here) = c.in-Some.ensures in
     let within : k + 1 ≤ length text = omega (arith, none.high) in
     let long : length (take (k + 1) text) ≡ k + 1 = length-take-le (k + 1) text within in
     let last : k + 1 - 1 ≡ k = omega arith in
@@ -17,8 +15,7 @@ returns-in-Some-clause-ends c = λ some.
 
 pub returns-in-Some-clause-rest : goal.returns-in-Some-clause-rest
 returns-in-Some-clause-rest c =
-    let text = c.args.text.now in
-    let behind = c.in-Some.place + 1 in
+    let text = c.args.text.now in let behind = c.in-Some.place + 1 in
     let (none, here) = c.in-Some.ensures in
     no_feed_in (drop behind text) (λ j less feed.
     none.after (behind + j) (omega arith) (omega (arith, less, length-drop behind text)) (subst (λ (byte : ℕ). (byte == 10) ≡ true) (get_or-drop behind text j 0) feed))

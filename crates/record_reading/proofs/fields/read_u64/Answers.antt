@@ -4,8 +4,7 @@ use Rattle.record_reading.proofs.fields.read_u64.Goals as goal
 
 pub returns-in_default : goal.returns-in_default
 returns-in_default c =
-    let field = c.args.field.now in
-    let found = c.short_number.result in
+    let field = c.args.field.now in let found = c.short_number.result in
     let some : 1 ≤ length field = search rules in
     let first : get_or field 0 0 ≡ 48 → ⊥ = search rules in
     let fits : IfSome found (λ n. n < 18446744073709551616) = search rules in
@@ -13,8 +12,7 @@ returns-in_default c =
 
 pub returns-in_default-2 : goal.returns-in_default-2
 returns-in_default-2 c =
-    let field = c.args.field.now in
-    let found = c.long_number.result in
+    let field = c.args.field.now in let found = c.long_number.result in
     let some : 1 ≤ length field = search rules in
     let first : get_or field 0 0 ≡ 48 → ⊥ = search rules in
     let fits : IfSome found (λ n. n < 18446744073709551616) = search rules in

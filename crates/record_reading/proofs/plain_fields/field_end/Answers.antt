@@ -5,9 +5,7 @@ use Rattle.record_reading.proofs.plain_fields.field_end.Goals as goal
 
 pub loop-byte-preserved : goal.loop-byte-preserved
 loop-byte-preserved c =
-    let text = c.args.text.now in
-    let at = c.loop-byte.at in
-    let inv = c.loop-byte.invariant in
+    let text = c.args.text.now in let at = c.loop-byte.at in let inv = c.loop-byte.invariant in
     let quote : get_or text at 0 ≡ 34 → ⊥ = λ is. omega (arith, is) in record {
       reaches = omega arith;
       within = more_after text at c.requires.ends inv.within c.if-byte-eq10.false;

@@ -4,9 +4,7 @@ use Rattle.record_reading.proofs.plain_fields.number_to.Goals as goal
 
 pub returns-then-text-from : goal.returns-then-text-from
 returns-then-text-from c =
-    let text = c.args.text.now in
-    let from = c.args.from in
-    let first = c.digit_value-first in
+    let text = c.args.text.now in let from = c.args.from in let first = c.digit_value-first in
     let digit = digit_of (get_or text from 0) first.result first.ensures.from_zero first.ensures.below_zero c.if-first-gt9.false in
     let within : from + 1 < length text = more_after text from c.requires.ends c.requires.within (λ feed. omega (arith, feed, digit.1)) in
     let read : ReadTo text from (from + 1) first.result = rw digit.2 (read_first text from c.requires.within digit.0) in
@@ -16,9 +14,7 @@ returns-then-text-from c =
 
 pub loop-digit-init : goal.loop-digit-init
 loop-digit-init c =
-    let text = c.args.text.now in
-    let from = c.args.from in
-    let first = c.digit_value-first in
+    let text = c.args.text.now in let from = c.args.from in let first = c.digit_value-first in
     let digit = digit_of (get_or text from 0) first.result first.ensures.from_zero first.ensures.below_zero c.if-first-gt9.false in
     record {
       some = omega arith;
@@ -28,11 +24,8 @@ loop-digit-init c =
 
 pub loop-digit-preserved : goal.loop-digit-preserved
 loop-digit-preserved c =
-    let text = c.args.text.now in
-    let from = c.args.from in
-    let at = from + c.loop-digit.count in
-    let inv = c.loop-digit.invariant in
-    let here = c.digit_value-digit in
+    let text = c.args.text.now in let from = c.args.from in let at = from + c.loop-digit.count in
+    let inv = c.loop-digit.invariant in let here = c.digit_value-digit in
     let digit = digit_of (get_or text at 0) here.result here.ensures.from_zero here.ensures.below_zero c.if-digit-gt9.false in
     let within : at + 1 < length text = more_after text at c.requires.ends inv.within (λ feed. omega (arith, feed, digit.1)) in
     let next : from + (c.loop-digit.count + 1) ≡ at + 1 = omega arith in record {
@@ -43,11 +36,8 @@ loop-digit-preserved c =
 
 pub returns : goal.returns
 returns c =
-    let text = c.args.text.now in
-    let from = c.args.from in
-    let at = from + c.loop-digit.count in
-    let inv = c.loop-digit.invariant in
-    let stop : get_or text at 0 ≡ c.args.stop = omega arith in
+    let text = c.args.text.now in let from = c.args.from in let at = from + c.loop-digit.count in
+    let inv = c.loop-digit.invariant in let stop : get_or text at 0 ≡ c.args.stop = omega arith in
     let few : at - from ≤ 19 = omega arith in
     number_of_more text from at c.loop-digit.value c.args.stop (omega arith) inv.within inv.so_far few stop (omega (arith, inv.some))
     (λ zero. omega (arith, zero, c.digit_value-first.ensures.from_zero, c.if-first-eq0.false))

@@ -9,11 +9,8 @@ quote_or_feed-at-requires-clause-within c =
 
 pub returns : goal.returns
 returns c =
-    let text = c.args.text.now in
-    let from = c.args.from in
-    let at = c.quote_or_feed-at.result in
-    let end = c.quote_or_feed-at.ensures in
-    let opens : get_or text from 0 ≡ 34 = omega arith in
+    let text = c.args.text.now in let from = c.args.from in let at = c.quote_or_feed-at.result in
+    let end = c.quote_or_feed-at.ensures in let opens : get_or text from 0 ≡ 34 = omega arith in
     let closes : get_or text at 0 ≡ 34 = omega arith in
     let comma : get_or text (at + 1) 0 ≡ 44 = omega arith in
     let inside : at + 1 < length text = more_after text at c.requires.ends end.within (λ feed. omega (arith, closes, feed)) in

@@ -31,8 +31,7 @@ act-requires g c =
     let first : ItemId = record { worker = 0; serial = 0 } in
     let new = IfOk-at_ok _ c.expect-shard.ensures c.new.ensures in
     let user = c.merge_user.ensures.merged.same in
-    let category = c.merge_category.ensures.merged.same in
-    let room = c.prepare_item.ensures.same in
+    let category = c.merge_category.ensures.merged.same in let room = c.prepare_item.ensures.same in
     let item = c.merge_item.ensures.merged in (
       ap (shard_of (Item first)) (item.same.shards ∙ room.shards ∙ category.shards ∙ user.shards ∙ new.shards_is)
           ∙ sym (item.same.number ∙ room.number ∙ category.number ∙ user.number ∙ new.number_is),

@@ -6,8 +6,7 @@ use Rattle.run_phases.proofs.course.next_phase.Goals as goal
 
 pub returns-clause-performed : goal.returns-clause-performed
 returns-clause-performed g c =
-    let phase = c.in_ok-next.ensures.performed in
-    let hot_now = c.in_ok-hot_now.hot_now in
+    let phase = c.in_ok-next.ensures.performed in let hot_now = c.in_ok-hot_now.hot_now in
     let can = c.requires.can in record {
       runs = λ opening rows is_book run.
           stepped can.quotas is_book _ run can.left.0 can.left.1 phase.history phase.last phase.closed
@@ -21,10 +20,8 @@ returns-clause-performed g c =
 
 pub perform_phase-requires-clause-may : goal.perform_phase-requires-clause-may
 perform_phase-requires-clause-may g c κs within =
-    let policy = c.args.plan.policy in
-    let scripts = c.args.plan.round.scripts.now in
-    let hot = c.in_ok-hot_now.hot_now.keys in
-    let can = c.requires.can in
+    let policy = c.args.plan.policy in let scripts = c.args.plan.round.scripts.now in
+    let hot = c.in_ok-hot_now.hot_now.keys in let can = c.requires.can in
     may_still policy scripts c.args.running.state c.args.running.stashes.items hot can.counted can.asked c.in_ok-hot_now.ensures.joined
     (λ never. can.goes_on (λ on.
     never (may_perform policy scripts c.args.running can.shards.some on can.counted hot c.in_ok-hot_now.ensures.joined c.in_ok-hot_now.ensures.split can.asked)))

@@ -47,8 +47,7 @@ next_phase-requires-clause-plan g c κs within =
 
 pub next_phase-requires-clause-can : goal.next_phase-requires-clause-can
 next_phase-requires-clause-can g c κs within =
-    let some = c.is_left.ensures.some (search rules) in
-    let same = c.new-plan.ensures in
+    let some = c.is_left.ensures.some (search rules) in let same = c.new-plan.ensures in
     let plan = c.new-plan.ensures.plan in record {
       shards = subst HasShards (sym same.policy) c.requires.shards;
       quotas = some_given (subst HasQuotas (sym same.policy) c.requires.quotas);
@@ -76,8 +75,7 @@ loop-phase-init g c = record {
 
 pub show_phase-requires : goal.show_phase-requires
 show_phase-requires g c = λ watched.
-    let can = c.requires.board watched in
-    let same = c.new-plan.ensures in
+    let can = c.requires.board watched in let same = c.new-plan.ensures in
     let rows = book_of can.rows can.before in
     let next = next_runs c.args.state.opening rows can.begins.is_book c.args.work.policy c.new-plan.result.policy c.args.work.scripts.now c.new-plan.result.round.scripts.now c.loop-phase._phase
     c.loop-phase.running c.in_ok-running-2.running same.policy same.scripts (c.loop-phase.invariant.running rows can.begins) c.in_ok-running-2.ensures.performed.runs in
@@ -87,8 +85,7 @@ show_phase-requires g c = λ watched.
 
 pub loop-phase-preserved : goal.loop-phase-preserved
 loop-phase-preserved g c =
-    let same = c.new-plan.ensures in
-    let scripts = c.args.work.scripts.now in
+    let same = c.new-plan.ensures in let scripts = c.args.work.scripts.now in
     let one_more : suc c.loop-phase._phase ≡ c.loop-phase._phase + 1 = omega arith in
     let next : (rows : Book) → BeginsWith c.args.state rows c.args.work.policy scripts → IsRunning c.args.state.opening rows c.args.work.policy scripts (suc c.loop-phase._phase) c.in_ok-running-2.running =
     λ rows begins. next_runs c.args.state.opening rows begins.is_book c.args.work.policy c.new-plan.result.policy scripts c.new-plan.result.round.scripts.now c.loop-phase._phase c.loop-phase.running
@@ -115,8 +112,7 @@ returns-in_err-running-2-clause-fault g c =
 
 pub returns-in_err-running-clause-board_after_fault : goal.returns-in_err-running-clause-board_after_fault
 returns-in_err-running-clause-board_after_fault g c =
-    let B = g.B.Board in
-    let scripts = c.args.work.scripts.now in
+    let B = g.B.Board in let scripts = c.args.work.scripts.now in
     err_as c.from_residual.result Memory
     (λ fault. (rows : Book) (before : List (List Row)) → BeginsWith c.args.state (book_of rows before) c.args.work.policy scripts → B.has c.args.board.now c.args.state.opening rows before →
     HasShownFirstAfter B.has B.has_refused c.args.state.opening rows before c.args.work.policy scripts c.args.board.now fault)
@@ -125,8 +121,7 @@ returns-in_err-running-clause-board_after_fault g c =
 
 pub returns-in_err-running-2-clause-board_after_fault : goal.returns-in_err-running-2-clause-board_after_fault
 returns-in_err-running-2-clause-board_after_fault g c =
-    let B = g.B.Board in
-    let scripts = c.args.work.scripts.now in
+    let B = g.B.Board in let scripts = c.args.work.scripts.now in
     let fault = c.in_err-running-2.field-0.0 in
     err_as c.from_residual-in_err-running-2.result fault
     (λ fault. (rows : Book) (before : List (List Row)) → BeginsWith c.args.state (book_of rows before) c.args.work.policy scripts → B.has c.args.board.now c.args.state.opening rows before →
@@ -137,8 +132,7 @@ returns-in_err-running-2-clause-board_after_fault g c =
 
 pub returns-in_err-show_phase-clause-board_after_fault : goal.returns-in_err-show_phase-clause-board_after_fault
 returns-in_err-show_phase-clause-board_after_fault g c =
-    let B = g.B.Board in
-    let scripts = c.args.work.scripts.now in
+    let B = g.B.Board in let scripts = c.args.work.scripts.now in
     err_as c.from_residual-in_err-show_phase.result Memory
     (λ fault. (rows : Book) (before : List (List Row)) → BeginsWith c.args.state (book_of rows before) c.args.work.policy scripts → B.has c.args.board.now c.args.state.opening rows before →
     HasShownFirstAfter B.has B.has_refused c.args.state.opening rows before c.args.work.policy scripts c.show_phase.new.board fault)

@@ -25,8 +25,7 @@ close_on-requires-clause-asked g c = λ scripts is.
 
 pub returns-in_err-receipts-clause-fault : goal.returns-in_err-receipts-clause-fault
 returns-in_err-receipts-clause-fault g c =
-    let fault = c.in_err-receipts.field-0.0 in
-    let scripts = c.args.plan.round.scripts.now in
+    let fault = c.in_err-receipts.field-0.0 in let scripts = c.args.plan.round.scripts.now in
     err_as c.from_residual.result (told fault) (IsMet scripts) c.from_residual.ensures.1
     (fault_met g.K.Kind.IS_JOINED g.N.PhaseName.initial c.args.begun.1.items scripts c.args.plan.round.first fault c.requires.ready.permits_are c.in_err-receipts.ensures.fault)
 

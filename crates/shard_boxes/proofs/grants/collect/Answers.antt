@@ -26,8 +26,7 @@ collect-requires g c =
     let low : s < length boxes = is_next _ _ _ _ _ step.1 was.0 c.requires.boxes in
     let below : s < length grants = subst (λ n. s < n) (sym (as_many grants boxes was.2)) low in
     let below' : s < length others = subst (λ n. s < n) (sym (as_many others boxes c.requires.others.0)) low in
-    let at = c.index_mut.ensures.value in
-    let mine = was.3.1 s grant (le_refl s) below in
+    let at = c.index_mut.ensures.value in let mine = was.3.1 s grant (le_refl s) below in
     let one : length grant.knows.own ≡ 1 = ap (λ (l : GrantState). length l.knows.own) at ∙ ap length mine.1 in
     let from : grant.knows.first ≡ c.args.key.worker = ap (λ (l : GrantState). l.knows.first) at ∙ mine.0.from in
     let head = at_head others s other (into_iter_items c.next.new.self) other (sym step.0 ∙ was.1) in

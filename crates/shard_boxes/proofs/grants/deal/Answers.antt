@@ -47,16 +47,14 @@ loop-s-preserved g c =
 
 pub returns-clause-key : goal.returns-clause-key
 returns-clause-key g c =
-    let was = c.loop-s.invariant in
-    let room = c.loop-s.room.items in
+    let was = c.loop-s.invariant in let room = c.loop-s.room.items in
     let long : length room ≡ c.loop-s.s = sym c.loop-s.room.ok.0 ∙ was.0 in
     new_key g.N.PhaseName.initial g.N.PhaseName.workers c.args.worker room c.args.boxes.now (was.2 ∙ take_all c.loop-s.s c.args.boxes.now c.loop-s-test.false) (λ k d low. was.3 k d (subst (λ n. k < n) long low))
 
 pub invariant_of-result : goal.invariant_of-result
 invariant_of-result g c =
     let initial = g.N.PhaseName.initial in let workers = g.N.PhaseName.workers in
-    let was = c.loop-s.invariant in
-    let room = c.loop-s.room.items in
+    let was = c.loop-s.invariant in let room = c.loop-s.room.items in
     let long : length room ≡ c.loop-s.s = sym c.loop-s.room.ok.0 ∙ was.0 in (
       c.requires.worker,
       was.0 ∙ le_antisymm c.loop-s.auto.s-end c.loop-s-test.false ∙ c.requires.boxes,

@@ -48,8 +48,7 @@ loop-worker-preserved g c = record {
       (have_length s.rules (length given.1) 0 (lists c.args.scripts.now) c.loop-worker.state.cursors.items c.loop-worker.state.so_far.history f.served)
       (c.loop-worker.invariant.ends large) (e.0 ∙ ap length c.deref-in-loop-worker.ensures.value, e.1);
   state = λ n opened few all was.
-      let s = g.A.Application in
-      let f = c.loop-worker.invariant.state n opened few all was in
+      let s = g.A.Application in let f = c.loop-worker.invariant.state n opened few all was in
       let at = listed c.args.scripts.now c.loop-worker.worker c.index-scripts-worker.result c.loop-worker-test.true c.index-scripts-worker.is in
       state_turned s.rules s.fits n opened (lists c.args.scripts.now) c.loop-worker.state.so_far.table.items c.take_turn.new.so_far.table.items c.loop-worker.state.so_far.history c.take_turn.new.so_far.history
       c.loop-worker.state.cursors.items c.loop-worker.worker c.deref-in-loop-worker.result.now c.take_turn.new.cursor at.0

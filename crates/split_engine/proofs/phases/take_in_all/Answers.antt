@@ -62,8 +62,7 @@ loop-answer-preserved g c = let s = g.A.Application in record {
 
 pub returns : goal.returns
 returns g c given within same zip =
-    let s = g.A.Application in
-    let was = c.loop-answer.invariant.closed given within same zip in
+    let s = g.A.Application in let was = c.loop-answer.invariant.closed given within same zip in
     let left = c.loop-answer.answer-iterator.rest in
     let none = zip_none _ was.1 left.items (none_left left.items _ left.ok.0 c.in-None.ensures.steps.0) was.3 in
     subst (λ all. HasClosed s.rules s.is_small s.fits all c.args.so_far.table.items c.args.so_far.history c.loop-answer.state.so_far.table.items c.loop-answer.state.so_far.history c.loop-answer.state.cursors.items)

@@ -7,9 +7,7 @@ use Rattle.top_records.proofs.TopRec.insert_at_its_place.Goals as goal
 
 pub returns-in-Some-clause-value : goal.returns-in-Some-clause-value
 returns-in-Some-clause-value g c =
-    let order = g.E.Ord.cmp in
-    let total = g.met.E.Ord.total in
-    let k = g.row.K in
+    let order = g.E.Ord.cmp in let total = g.met.E.Ord.total in let k = g.row.K in
     let put = rw c.as_slice.ensures.value at c.in-Some.ensures.1 in
     c.put_at.ensures ∙ ap (take k) (sym put) ∙ sym (top-placed total k c.args.entry c.self.inside.entries.items c.self.invariant.0)
     ∙ ap (λ l. top order k (c.args.entry ∷ l)) c.self.view_is
@@ -27,11 +25,8 @@ invariant_of-self g c = (
 
 pub returns-in_default-clause-value : goal.returns-in_default-clause-value
 returns-in_default-clause-value g c =
-    let order = g.E.Ord.cmp in
-    let total = g.met.E.Ord.total in
-    let k = g.row.K in
-    let tie = rw c.as_slice.ensures.value at c.in_default.ensures in
-    let few = c.self.invariant.0 in
+    let order = g.E.Ord.cmp in let total = g.met.E.Ord.total in let k = g.row.K in
+    let tie = rw c.as_slice.ensures.value at c.in_default.ensures in let few = c.self.invariant.0 in
     sym (ap (λ l. top order k (c.args.entry ∷ l)) (sym c.self.view_is)
     ∙ top-placed total k c.args.entry c.self.inside.entries.items few ∙ ap (take k) tie ∙ take_of_top total k c.self.inside.entries.items few ∙ c.self.view_is)
 
@@ -44,8 +39,7 @@ place-requires g c =
 
 pub note_least-requires : goal.note_least-requires
 note_least-requires g c =
-    let k = g.row.K in
-    let held = c.self.inside.entries.items in
+    let k = g.row.K in let held = c.self.inside.entries.items in
     let within = subst (λ l. c.in-Some.index ≤ length l) c.as_slice.ensures.value c.in-Some.ensures.0 in
     let fits = c.well_formed in (
       omega arith,

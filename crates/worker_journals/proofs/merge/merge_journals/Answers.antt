@@ -21,8 +21,7 @@ all_listed all left listed none so_far = sym (append-nil listed) ∙ ap (λ es. 
 
 pub loop-worker-init : goal.loop-worker-init
 loop-worker-init c =
-    let journals = c.args.journals.items in
-    let places = c.in_ok-places.places.items in
+    let journals = c.args.journals.items in let places = c.in_ok-places.places.items in
     let numbers = c.in_ok-numbers.numbers.items in
     let none = c.in_ok-places.ensures.items_if_clones_equal (λ y is. is) in
     let value = c.deref-2.ensures.value in record {
@@ -41,8 +40,7 @@ entry-requires c =
 
 pub loop-worker-smaller : goal.loop-worker-smaller
 loop-worker-smaller c =
-    let w = c.loop-worker in
-    let journals = c.args.journals.items in
+    let w = c.loop-worker in let journals = c.args.journals.items in
     let least = subst (λ ns. IsLeastOf ns c.in-Some.worker) c.deref-in-loop-worker.ensures.value c.in-Some.ensures.least in
     let first = entry_listed journals w.places.items w.numbers.items w.invariant.merging c.in-Some.worker c.index-journal.result.now
     c.index-place.result.now least c.index-journal.ensures c.index-place.ensures c.entry.result c.entry.ensures.entry in
@@ -51,8 +49,7 @@ loop-worker-smaller c =
 
 pub loop-worker-preserved : goal.loop-worker-preserved
 loop-worker-preserved c =
-    let w = c.loop-worker in
-    let journals = c.args.journals.items in
+    let w = c.loop-worker in let journals = c.args.journals.items in
     let least = subst (λ ns. IsLeastOf ns c.in-Some.worker) c.deref-in-loop-worker.ensures.value c.in-Some.ensures.least in
     let first = entry_listed journals w.places.items w.numbers.items w.invariant.merging c.in-Some.worker c.index-journal.result.now
     c.index-place.result.now least c.index-journal.ensures c.index-place.ensures c.entry.result c.entry.ensures.entry in
@@ -65,8 +62,7 @@ loop-worker-preserved c =
 
 pub returns : goal.returns
 returns c =
-    let w = c.loop-worker in
-    let journals = c.args.journals.items in
+    let w = c.loop-worker in let journals = c.args.journals.items in
     let kept = w.invariant.merging in
     let none = subst (λ ns. (k : ℕ) → k < length ns → get_or ns k None ≡ None) c.deref-in-loop-worker.ensures.value c.in_default.ensures.none in
     let all = all_listed (merged journals) (merged (left_of journals w.places.items)) w.entries.items (none_left journals w.places.items w.numbers.items kept none) w.invariant.told in

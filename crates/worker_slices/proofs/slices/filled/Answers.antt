@@ -11,10 +11,8 @@ use Rattle.worker_slices.proofs.slices.filled.Goals as goal
 
 pub loop-object-preserved : goal.loop-object-preserved
 loop-object-preserved c =
-    let hot = c.args.hot.now in
-    let k = c.loop-object.object-index in
-    let entry = c.loop-object-item.result in
-    let slices = slices_of (take k hot) [] in
+    let hot = c.args.hot.now in let k = c.loop-object.object-index in
+    let entry = c.loop-object-item.result in let slices = slices_of (take k hot) [] in
     let at : slice_get hot k ≡ Some entry = slice_get_read hot (length hot) k entry refl c.loop-object-test.true c.loop-object-item.is in
     let object_at : slice_get (hot_objects hot) k ≡ Some entry.0 = slice_get-map (λ stock. stock.0) hot k ∙ ap (option_map (λ stock. stock.0)) at in
     let absent : lookup (object_eq.it entry.0) c.loop-object.slices.entries ≡ None =

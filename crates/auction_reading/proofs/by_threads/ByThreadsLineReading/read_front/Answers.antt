@@ -5,8 +5,7 @@ use Rattle.auction_reading.proofs.by_threads.ByThreadsLineReading.read_front.Goa
 
 pub returns : goal.returns
 returns g c =
-    let text = c.args.text.now in
-    let parcels = c.args.self.now.parcels in
+    let text = c.args.text.now in let parcels = c.args.self.now.parcels in
     let now = c.read_parcels.new.parcels in
     let many : length now ≡ length parcels.items = omega (arith, c.read_parcels.auto.parcels, ap length c.deref_mut.ensures.value) in
     let back : c.deref.result.now ≡ now = c.deref.ensures.value ∙ with_items_is parcels now (many ∙ sym parcels.ok.0) in

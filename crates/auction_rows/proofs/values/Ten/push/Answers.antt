@@ -4,9 +4,7 @@ use Rattle.auction_rows.proofs.values.Ten.push.Goals as goal
 
 pub invariant_of-self : goal.invariant_of-self
 invariant_of-self g c =
-    let here = c.self.inside in
-    let held = c.self.invariant in
-    let place = c.len-place.result in
+    let here = c.self.inside in let held = c.self.invariant in let place = c.len-place.result in
     let len : length (filled here.places) ≡ place = ap length c.self.view_is ∙ sym c.len-place.ensures.length in
     let room : place < 10 = subst (λ n. n < 10) (sym c.len-place.ensures.length) c.requires.room in
     let front = filled-set here.places place c.args.value held.0 len room in (
@@ -17,8 +15,7 @@ invariant_of-self g c =
 
 pub returns : goal.returns
 returns g c =
-    let here = c.self.inside in
-    let place = c.len-place.result in
+    let here = c.self.inside in let place = c.len-place.result in
     let len : length (filled here.places) ≡ place = ap length c.self.view_is ∙ sym c.len-place.ensures.length in
     let room : place < 10 = subst (λ n. n < 10) (sym c.len-place.ensures.length) c.requires.room in
     record { added = filled-set here.places place c.args.value c.self.invariant.0 len room ∙ ap (λ xs. xs ++ c.args.value ∷ []) c.self.view_is }

@@ -11,8 +11,7 @@ parts_made : (history : List Entry) (hot : List (List Object)) (categories users
     → four ≡ text ++ report_text history hot categories users
 unfolding report_text
 parts_made history hot categories users phases text one two three four count first second third fourth =
-    let counts = counts_text (length hot) history in
-    let sets = numbered_lines hot_line 0 hot in
+    let counts = counts_text (length hot) history in let sets = numbered_lines hot_line 0 hot in
     let seen = numbered_lines category_line 0 categories in
     let last = numbered_lines user_line 0 users in
     let put_one = first ∙ ap (λ n. text ++ counts_text n history) count in
@@ -22,8 +21,7 @@ parts_made history hot categories users phases text one two three four count fir
 
 pub returns : goal.returns
 returns c =
-    let keys = map (λ set. set.keys) c.args.hot.now in
-    let seen = c.args.lines.now in
+    let keys = map (λ set. set.keys) c.args.hot.now in let seen = c.args.lines.now in
     on_ok_weaker c.push_user_lines.result (λ users_told.
     parts_made c.args.history.now.entries keys seen.categories.items seen.users.items (length c.args.hot.now) c.args.text.now.items _ _ _ _
     (sym (length-map c.args.hot.now (λ set. set.keys))) c.in_ok-push_counts.ensures c.in_ok-push_hot_lines.ensures

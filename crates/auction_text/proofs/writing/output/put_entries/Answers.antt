@@ -18,8 +18,7 @@ loop-entry-preserved g c =
 
 pub returns-in_err-put_entry : goal.returns-in_err-put_entry
 returns-in_err-put_entry g c =
-    let gone = gone_by c.args.before.now in
-    let part = c.in_err-put_entry.ensures.part in
+    let gone = gone_by c.args.before.now in let part = c.in_err-put_entry.ensures.part in
     put_failed g.W.Write.contents _ _ _ _ _ c.from_residual.result c.in_err-put_entry.field-0.0 c.from_residual.ensures.1 part.0
     (told_part _ _ _ _ _ c.put_entry.new.block _ (history_line (moved gone c.in-Some.entry)) (history_text (all_moved gone c.next.new.self)) _ c.loop-entry.invariant
     (ap (λ (es : List Entry). history_text (all_moved gone es)) c.in-Some.ensures.steps) part.1)

@@ -8,6 +8,5 @@ returns-in_err-put_entries g c =
 
 pub returns : goal.returns
 returns g c =
-    let wrote = c.write_last.ensures in
-    let bytes = c.bytes.ensures in
+    let wrote = c.write_last.ensures in let bytes = c.bytes.ensures in
     writes_last g.W.Write.contents _ _ _ _ _ _ c.new-block.ensures c.write_last.result c.in_ok-put_entries.ensures.whole (rw bytes at wrote.whole) (rw bytes at wrote.part)

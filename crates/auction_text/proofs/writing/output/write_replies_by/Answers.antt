@@ -8,6 +8,5 @@ returns-in_err-put_all_replies g c =
 
 pub returns : goal.returns
 returns g c =
-    let wrote = c.write_last.ensures in
-    let bytes = c.bytes.ensures in
+    let wrote = c.write_last.ensures in let bytes = c.bytes.ensures in
     writes_last g.W.Write.contents _ _ _ _ _ _ c.clear.ensures c.write_last.result c.in_ok-put_all_replies.ensures.whole (rw bytes at wrote.whole) (rw bytes at wrote.part)

@@ -5,8 +5,7 @@ use Rattle.auction_text.proofs.writing.reply_order.all_late_entries.Goals as goa
 
 pub loop-worker-preserved : goal.loop-worker-preserved
 loop-worker-preserved c =
-    let of = late_of c.args.history.now.entries in
-    let inv = c.loop-worker.invariant in
+    let of = late_of c.args.history.now.entries in let inv = c.loop-worker.invariant in
     let pushed = c.in_ok-push.ensures.items in record {
       late = subst (AreEach of) (sym pushed) (each_more of c.loop-worker.lists.items c.in_ok-late.late c.loop-worker.worker inv.late inv.len c.in_ok-late.ensures);
       len = omega (arith, inv.len, ap length pushed, length-append c.loop-worker.lists.items (c.in_ok-late.late ∷ []));

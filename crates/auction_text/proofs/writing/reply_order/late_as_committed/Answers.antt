@@ -11,8 +11,7 @@ use Rattle.auction_text.proofs.writing.reply_order.late_as_committed.Goals as go
 
 pub loop-next-init : goal.loop-next-init
 loop-next-init c =
-    let worker = c.args.worker in
-    let left = c.of_worker-left.result in
+    let worker = c.args.worker in let left = c.of_worker-left.result in
     let all = late comes_before None (part entry_worker worker c.args.history.now.entries) in
     let turn : HasLast worker 0 (λ last. c.new-entries.result.items ++ late comes_before last left ≡ all) =
     record { last = None; next_is = refl; own = tt; holds = ap (λ (es : List Entry). es ++ late comes_before None left) c.new-entries.ensures.items ∙ ap (late comes_before None) c.of_worker-left.ensures } in
@@ -23,11 +22,8 @@ loop-next-init c =
 
 pub loop-next-preserved : goal.loop-next-preserved
 loop-next-preserved c =
-    let worker = c.args.worker in
-    let inv = c.loop-next.invariant in
-    let e = c.in-Some.entry in
-    let left = c.next.new.self in
-    let own = subst (AreOf worker) c.in-Some.ensures.steps inv.own in
+    let worker = c.args.worker in let inv = c.loop-next.invariant in let e = c.in-Some.entry in
+    let left = c.next.new.self in let own = subst (AreOf worker) c.in-Some.ensures.steps inv.own in
     let late_is = late_by_index worker c.loop-next.next inv.turn.last e inv.turn.next_is inv.turn.own own.0 ∙ sym c.is_late.ensures in
     let all = late comes_before None (part entry_worker worker c.args.history.now.entries) in
     let turn : HasLast worker c.if-is_late.next (λ last. c.if-is_late.entries.items ++ late comes_before last left ≡ all) = elim c.if-is_late.branch [

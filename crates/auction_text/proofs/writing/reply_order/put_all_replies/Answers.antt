@@ -35,8 +35,7 @@ own_lines before es w n count less is =
 
 pub loop-worker-preserved : goal.loop-worker-preserved
 loop-worker-preserved g c =
-    let es = c.args.history.now.entries in
-    let w = c.loop-worker.worker in
+    let es = c.args.history.now.entries in let w = c.loop-worker.worker in
     let n = length c.args.delayed.now in
     let next = own_lines c.args.before.now es w n c.requests_of.result (omega arith) c.requests_of.ensures in
     told_more _ _ _ _ _ _ _ (lines (line_after c.requests_of.result) (in_order (part entry_worker w es)))
@@ -44,8 +43,7 @@ loop-worker-preserved g c =
 
 pub returns-in_err-put_replies_of : goal.returns-in_err-put_replies_of
 returns-in_err-put_replies_of g c =
-    let es = c.args.history.now.entries in
-    let w = c.loop-worker.worker in
+    let es = c.args.history.now.entries in let w = c.loop-worker.worker in
     let n = length c.args.delayed.now in
     let next = own_lines c.args.before.now es w n c.requests_of.result (omega arith) c.requests_of.ensures in
     let wrote = c.in_err-put_replies_of.ensures.part in

@@ -20,9 +20,7 @@ loop-next-init g c = record { within = omega arith; left = refl; told = told_non
 
 pub loop-next-preserved : goal.loop-next-preserved
 loop-next-preserved g c =
-    let inv = c.loop-next.invariant in
-    let e = c.args.entry.now in
-    let next = c.in-Some.next.now in
+    let inv = c.loop-next.invariant in let e = c.args.entry.now in let next = c.in-Some.next.now in
     let within = c.in-Some.ensures.lookup.3.0 in
     let at = drop_next c.args.entries.now c.loop-next.place next within c.in-Some.ensures.lookup.1 in
     let less = sym c.comes_before.ensures ∙ c.if-not-comes_before.false in
@@ -36,9 +34,7 @@ loop-next-preserved g c =
 
 pub returns-in_err-put_reply : goal.returns-in_err-put_reply
 returns-in_err-put_reply g c =
-    let inv = c.loop-next.invariant in
-    let e = c.args.entry.now in
-    let next = c.in-Some.next.now in
+    let inv = c.loop-next.invariant in let e = c.args.entry.now in let next = c.in-Some.next.now in
     let at = drop_next c.args.entries.now c.loop-next.place next c.in-Some.ensures.lookup.3.0 c.in-Some.ensures.lookup.1 in
     let less = sym c.comes_before.ensures ∙ c.if-not-comes_before.false in
     let others = drop (c.loop-next.place + 1) c.args.entries.now in
@@ -51,8 +47,7 @@ returns-in_err-put_reply g c =
 
 pub returns-then-not-comes_before : goal.returns-then-not-comes_before
 returns-then-not-comes_before g c =
-    let e = c.args.entry.now in
-    let next = c.in-Some.next.now in
+    let e = c.args.entry.now in let next = c.in-Some.next.now in
     let at = drop_next c.args.entries.now c.loop-next.place next c.in-Some.ensures.lookup.3.0 c.in-Some.ensures.lookup.1 in
     let more = sym c.comes_before.ensures ∙ c.if-not-comes_before.true in
     let behind = drop (c.loop-next.place + 1) c.args.entries.now in

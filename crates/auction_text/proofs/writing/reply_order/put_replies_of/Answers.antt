@@ -43,9 +43,7 @@ loop-entry-init g c =
 
 pub loop-entry-preserved-then-not-is_late : goal.loop-entry-preserved-then-not-is_late
 loop-entry-preserved-then-not-is_late g c =
-    let inv = c.loop-entry.invariant in
-    let e = c.in-Some.entry in
-    let others = c.next.new.self in
+    let inv = c.loop-entry.invariant in let e = c.in-Some.entry in let others = c.next.new.self in
     let delayed = drop c.loop-entry.told c.args.delayed.now in
     let own = subst (AreOf c.args.worker) c.in-Some.ensures.steps inv.own in
     let stands = late_by_index c.args.worker c.loop-entry.next inv.turn.last e inv.turn.next_is inv.turn.own own.0 ∙ sym c.is_late.ensures ∙ c.if-not-is_late.true in
@@ -68,8 +66,7 @@ loop-entry-preserved-then-not-is_late g c =
 
 pub loop-entry-preserved : goal.loop-entry-preserved
 loop-entry-preserved g c =
-    let inv = c.loop-entry.invariant in
-    let e = c.in-Some.entry in
+    let inv = c.loop-entry.invariant in let e = c.in-Some.entry in
     let own = subst (AreOf c.args.worker) c.in-Some.ensures.steps inv.own in
     let is_late = late_by_index c.args.worker c.loop-entry.next inv.turn.last e inv.turn.next_is inv.turn.own own.0 ∙ sym c.is_late.ensures ∙ c.if-not-is_late.false in
     let turn : in_turn comes_before inv.turn.last c.loop-entry.entry-iterator ≡ in_turn comes_before inv.turn.last c.next.new.self =
@@ -83,9 +80,7 @@ loop-entry-preserved g c =
 
 pub returns-in_err-told : goal.returns-in_err-told
 returns-in_err-told g c =
-    let inv = c.loop-entry.invariant in
-    let e = c.in-Some.entry in
-    let others = c.next.new.self in
+    let inv = c.loop-entry.invariant in let e = c.in-Some.entry in let others = c.next.new.self in
     let delayed = drop c.loop-entry.told c.args.delayed.now in
     let own = subst (AreOf c.args.worker) c.in-Some.ensures.steps inv.own in
     let stands = late_by_index c.args.worker c.loop-entry.next inv.turn.last e inv.turn.next_is inv.turn.own own.0 ∙ sym c.is_late.ensures ∙ c.if-not-is_late.true in
@@ -97,9 +92,7 @@ returns-in_err-told g c =
 
 pub returns-in_err-put_reply : goal.returns-in_err-put_reply
 returns-in_err-put_reply g c =
-    let inv = c.loop-entry.invariant in
-    let e = c.in-Some.entry in
-    let others = c.next.new.self in
+    let inv = c.loop-entry.invariant in let e = c.in-Some.entry in let others = c.next.new.self in
     let delayed = drop c.loop-entry.told c.args.delayed.now in
     let own = subst (AreOf c.args.worker) c.in-Some.ensures.steps inv.own in
     let stands = late_by_index c.args.worker c.loop-entry.next inv.turn.last e inv.turn.next_is inv.turn.own own.0 ∙ sym c.is_late.ensures ∙ c.if-not-is_late.true in
@@ -112,8 +105,7 @@ returns-in_err-put_reply g c =
 
 pub returns : goal.returns
 returns g c =
-    let inv = c.loop-entry.invariant in
-    let delayed = drop c.loop-entry.told c.args.delayed.now in
+    let inv = c.loop-entry.invariant in let delayed = drop c.loop-entry.told c.args.delayed.now in
     let none : in_turn comes_before inv.turn.last c.loop-entry.entry-iterator ≡ [] =
     ap (in_turn comes_before inv.turn.last) c.in-None.ensures.steps.0 ∙ in_turn-none comes_before inv.turn.last in
     let all : sorted comes_before (in_turn comes_before inv.turn.last c.loop-entry.entry-iterator ++ delayed) ≡ delayed =

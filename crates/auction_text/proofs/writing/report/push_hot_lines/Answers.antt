@@ -6,8 +6,7 @@ use Rattle.auction_text.proofs.writing.report.push_hot_lines.Goals as goal
 
 pub loop-phase-preserved : goal.loop-phase-preserved
 loop-phase-preserved c =
-    let phase = c.loop-phase.phase in
-    let set = c.index-hot-phase.result in
+    let phase = c.loop-phase.phase in let set = c.index-hot-phase.result in
     c.in_ok-push_hot_line.ensures ∙ ap (λ (keys : List Object). c.loop-phase.text.items ++ hot_line phase keys) c.as_slice.ensures.keys
     ∙ ap (λ (text : List ℕ). text ++ hot_line phase set.keys) c.loop-phase.invariant
     ∙ numbered_more-map hot_line (λ s. s.keys) c.args.text.now.items c.args.hot.now phase set c.loop-phase-test.true c.index-hot-phase.is

@@ -5,8 +5,7 @@ use Rattle.auction_text.proofs.writing.report.push_user_lines.Goals as goal
 
 pub loop-user-preserved : goal.loop-user-preserved
 loop-user-preserved c =
-    let user = c.loop-user.user in
-    let seen = c.index-users-user.result in
+    let user = c.loop-user.user in let seen = c.index-users-user.result in
     c.in_ok-push_user_line.ensures ∙ ap (λ (text : List ℕ). text ++ user_line user seen) c.loop-user.invariant
     ∙ numbered_more user_line c.args.text.now.items c.args.users.now user seen c.loop-user-test.true c.index-users-user.is
 

@@ -6,8 +6,7 @@ use Rattle.auction_window.proofs.auction_copy.AuctionCopyAbsorbAddPhase.absorb_f
 
 pub add_rows-requires : goal.add_rows-requires
 add_rows-requires g c =
-    let W = g.J.WindowName in
-    let old = c.self.inside.phases in
+    let W = g.J.WindowName in let old = c.self.inside.phases in
     let long : length c.added.inside.phases ≡ suc (length old) = omega (arith, c.len-count.ensures, c.len.ensures) in
     let held = subst (λ auction. HasPhases W.opening W.rows auction old) (sym c.take.ensures.value ∙ c.in-Some.is) c.self.invariant in
     let begins = comparable_shorter old c.added.inside.phases c.agrees.ensures (omega arith) in
@@ -15,8 +14,7 @@ add_rows-requires g c =
 
 pub invariant_of-self-2 : goal.invariant_of-self-2
 invariant_of-self-2 g c =
-    let W = g.J.WindowName in
-    let old = c.self.inside.phases in
+    let W = g.J.WindowName in let old = c.self.inside.phases in
     let long : length c.added.inside.phases ≡ suc (length old) = omega (arith, c.len-count.ensures, c.len.ensures) in
     let held = subst (λ auction. HasPhases W.opening W.rows auction old) (sym c.take.ensures.value ∙ c.in-Some.is) c.self.invariant in
     let begins = comparable_shorter old c.added.inside.phases c.agrees.ensures (omega arith) in

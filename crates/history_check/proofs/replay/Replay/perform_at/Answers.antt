@@ -50,8 +50,7 @@ returns-then-has-clause-right c = rw c.refuse-then-has.ensures.refused tt
 
 pub returns-then-has-clause-wrong : goal.returns-then-has-clause-wrong
 returns-then-has-clause-wrong c =
-    let worker = c.args.commit_id.worker in
-    let index = c.args.commit_id.index in
+    let worker = c.args.commit_id.worker in let index = c.args.commit_id.index in
     let below : worker < 16 = worker_below c.args.scripts.now worker index c.in-Some.request c.requires.workers (sym c.in-Some.ensures) in
     let seen : is_marked c.args.self.now.marks.rows.items worker index ≡ true = sym c.has.ensures ∙ c.if-has.true in
     rw (c.refuse-then-has.ensures.refused, c.refuse-then-has.ensures.kept)
@@ -62,8 +61,7 @@ returns-then-is_late-clause-right c = rw c.refuse-then-is_late.ensures.refused t
 
 pub returns-then-is_late-clause-wrong : goal.returns-then-is_late-clause-wrong
 returns-then-is_late-clause-wrong c = rw (c.refuse-then-is_late.ensures.refused, c.refuse-then-is_late.ensures.kept) (λ line is opening start order history taken.
-    let commit_id = c.args.commit_id in
-    let request = c.in-Some.request in
+    let commit_id = c.args.commit_id in let request = c.in-Some.request in
     let below : commit_id.worker < 16 = worker_below c.args.scripts.now commit_id.worker commit_id.index request c.requires.workers (sym c.in-Some.ensures) in
     let late : is_late c.args.self.now.order request commit_id.index (get_or c.args.self.now.turns.next commit_id.worker 0) ≡ true = sym c.is_late.ensures ∙ c.if-is_late.true in (
       commit_id,
@@ -88,23 +86,19 @@ if_wrong Q P false holds told = told holds
 
 pub returns-clause-wrong : goal.returns-clause-wrong
 returns-clause-wrong c =
-    let auction = c.args.self.now.auction in
-    let commit_id = c.args.commit_id in
+    let auction = c.args.self.now.auction in let commit_id = c.args.commit_id in
     let request = c.in-Some.request in
     if_wrong _ (λ right. (book : Book) → HoldsBook auction book → HasCompared right (reply (serial_opening auction) book commit_id.worker request) c.args.text.now c.is_due.new.self)
     c.in_ok-is_right.is_right c.in_ok-is_right.ensures.compared (λ compared line is opening start order history taken.
-    let book = book_after opening start history in
-    let told = compared book taken.holds in
+    let book = book_after opening start history in let told = compared book taken.holds in
     let due = ap (λ o. reply o book commit_id.worker request) taken.opening_is in
     subst (λ (why : Option Wrong). IsSomeAnd why (IsWrong opening start c.args.scripts.now order history line)) (sym told.0)
     (commit_id, c.args.text.now, is, (request, sym c.in-Some.ensures, (due, told.1))))
 
 pub returns-clause-right : goal.returns-clause-right
 returns-clause-right c =
-    let auction = c.args.self.now.auction in
-    let commit_id = c.args.commit_id in
-    let request = c.in-Some.request in
-    let scripts = c.args.scripts.now in
+    let auction = c.args.self.now.auction in let commit_id = c.args.commit_id in
+    let request = c.in-Some.request in let scripts = c.args.scripts.now in
     let there : request_at scripts commit_id.worker commit_id.index ≡ Some request = sym c.in-Some.ensures in
     let below : commit_id.worker < 16 = worker_below scripts commit_id.worker commit_id.index request c.requires.workers there in
     let unseen : is_marked c.args.self.now.marks.rows.items commit_id.worker commit_id.index ≡ false = sym c.has.ensures ∙ c.if-has.false in

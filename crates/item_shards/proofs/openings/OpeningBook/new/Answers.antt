@@ -9,8 +9,7 @@ use Rattle.item_shards.proofs.openings.OpeningBook.new.Goals as goal
 
 pub add_opened-requires : goal.add_opened-requires
 add_opened-requires c = λ below.
-    let all = c.deref-opened-items.result.now in
-    let before = c.loop-index.invariant in
+    let all = c.deref-opened-items.result.now in let before = c.loop-index.invariant in
     let fits = fits_in c.is_too_long.result c.deref.result.now all c.if-is_too_long.false c.is_too_long.ensures (c.deref.ensures.value ∙ sym c.deref-opened-items.ensures.value) in
     record {
       book = c.loop-index.book.items;
@@ -56,8 +55,7 @@ returns-then-is_empty c =
 
 pub returns : goal.returns
 returns c =
-    let all = c.deref-opened-items.result.now in
-    let before = c.loop-index.invariant in
+    let all = c.deref-opened-items.result.now in let before = c.loop-index.invariant in
     let start = c.args.opening in
     let whole : take c.loop-index.index all ≡ all = take_all c.loop-index.index all c.loop-index-test.false in
     record {
@@ -71,10 +69,8 @@ returns c =
 
 pub returns-in-None : goal.returns-in-None
 returns-in-None c =
-    let all = c.deref-opened-items.result.now in
-    let i = c.loop-index.index in
-    let opened = c.opened-item.result in
-    let before = c.loop-index.invariant in
+    let all = c.deref-opened-items.result.now in let i = c.loop-index.index in
+    let opened = c.opened-item.result in let before = c.loop-index.invariant in
     let start = c.args.opening in
     let fits = fits_in c.is_too_long.result c.deref.result.now all c.if-is_too_long.false c.is_too_long.ensures (c.deref.ensures.value ∙ sym c.deref-opened-items.ensures.value) in
     let no_row : ¬ IsRow (serial_opening c.loop-index.auction) c.loop-index.book.items opened = (rw c.in-None.is at c.in_ok-row.ensures.bad) c.loop-index.book.items before.holds in
@@ -92,14 +88,10 @@ returns-in-None c =
 
 pub loop-index-preserved : goal.loop-index-preserved
 loop-index-preserved c =
-    let all = c.deref-opened-items.result.now in
-    let i = c.loop-index.index in
-    let opened = c.opened-item.result in
-    let before = c.loop-index.invariant in
-    let start = c.args.opening in
-    let first = serial_opening c.loop-index.auction in
-    let b = c.loop-index.book.items in
-    let part = opening_rows start (take i all) in
+    let all = c.deref-opened-items.result.now in let i = c.loop-index.index in
+    let opened = c.opened-item.result in let before = c.loop-index.invariant in
+    let start = c.args.opening in let first = serial_opening c.loop-index.auction in
+    let b = c.loop-index.book.items in let part = opening_rows start (take i all) in
     let fits = fits_in c.is_too_long.result c.deref.result.now all c.if-is_too_long.false c.is_too_long.ensures (c.deref.ensures.value ∙ sym c.deref-opened-items.ensures.value) in
     let added : IsRow first b opened × (with_opened first b opened ≡ b ++ c.in-Some.row ∷ []) = (rw c.in-Some.is at c.in_ok-row.ensures.row) b before.holds in
     let row = row_moved first start b part opened before.opening_is before.rows_are added.0 in
@@ -117,8 +109,7 @@ loop-index-preserved c =
 
 pub invariant_of-result : goal.invariant_of-result
 invariant_of-result c =
-    let all = c.deref-opened-items.result.now in
-    let before = c.loop-index.invariant in
+    let all = c.deref-opened-items.result.now in let before = c.loop-index.invariant in
     let start = c.args.opening in
     let fits = fits_in c.is_too_long.result c.deref.result.now all c.if-is_too_long.false c.is_too_long.ensures (c.deref.ensures.value ∙ sym c.deref-opened-items.ensures.value) in
     let whole : take c.loop-index.index all ≡ all = take_all c.loop-index.index all c.loop-index-test.false in

@@ -8,9 +8,7 @@ use Rattle.item_shards.proofs.serial.SerialAuction.add_rows.Goals as goal
 
 pub store-requires : goal.store-requires
 store-requires c =
-    let rows = c.args.rows.now in
-    let book = c.requires.book in
-    let i = c.loop-row.row-index in
+    let rows = c.args.rows.now in let book = c.requires.book in let i = c.loop-row.row-index in
     let within = c.loop-row-test.true in
     let r = c.row-item.result in record {
       book = book ++ take i rows;

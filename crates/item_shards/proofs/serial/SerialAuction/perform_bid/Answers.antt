@@ -34,8 +34,7 @@ returns-in-Some-clause-book c = λ b holds not_full.
 
 pub returns-in-Some-try_bid-clause-reply : goal.returns-in-Some-try_bid-clause-reply
 returns-in-Some-try_bid-clause-reply c = λ b holds.
-    let auction = c.args.self.now in
-    let item = c.args.item in
+    let auction = c.args.self.now in let item = c.args.item in
     let none : number_refusal (serial_opening auction) (bid_request item c.args.bid) ≡ None = by_opening c.args.self.now c.deref.result.now (bid_request c.args.item c.args.bid) c.number_refusal.result c.deref.ensures c.number_refusal.ensures ∙ c.in_default.is in
     let is : refusal (serial_opening auction) b (bid_request item c.args.bid) ≡ Some c.in-Some-try_bid.reason =
     sym (refused_as auction b holds item (auction.has_all (Item item)) c.args.bid none) ∙ sym c.in-Some-try_bid.ensures.by in
@@ -43,8 +42,7 @@ returns-in-Some-try_bid-clause-reply c = λ b holds.
 
 pub returns-in-Some-try_bid-clause-book : goal.returns-in-Some-try_bid-clause-book
 returns-in-Some-try_bid-clause-book c = λ b holds not_full.
-    let auction = c.args.self.now in
-    let item = c.args.item in
+    let auction = c.args.self.now in let item = c.args.item in
     let none : number_refusal (serial_opening auction) (bid_request item c.args.bid) ≡ None = by_opening c.args.self.now c.deref.result.now (bid_request c.args.item c.args.bid) c.number_refusal.result c.deref.ensures c.number_refusal.ensures ∙ c.in_default.is in
     let is : refusal (serial_opening auction) b (bid_request item c.args.bid) ≡ Some c.in-Some-try_bid.reason =
     sym (refused_as auction b holds item (auction.has_all (Item item)) c.args.bid none) ∙ sym c.in-Some-try_bid.ensures.by in
@@ -56,8 +54,7 @@ returns-in-Some-try_bid-clause-book c = λ b holds not_full.
 
 pub returns-clause-reply : goal.returns-clause-reply
 returns-clause-reply c = λ b holds.
-    let auction = c.args.self.now in
-    let item = c.args.item in
+    let auction = c.args.self.now in let item = c.args.item in
     let none : number_refusal (serial_opening auction) (bid_request item c.args.bid) ≡ None = by_opening c.args.self.now c.deref.result.now (bid_request c.args.item c.args.bid) c.number_refusal.result c.deref.ensures c.number_refusal.ensures ∙ c.in_default.is in
     let taken : refusal (serial_opening auction) b (bid_request item c.args.bid) ≡ None =
     sym (refused_as auction b holds item (auction.has_all (Item item)) c.args.bid none) ∙ sym c.in_default-try_bid.ensures.by in
@@ -65,10 +62,8 @@ returns-clause-reply c = λ b holds.
 
 pub returns-clause-book : goal.returns-clause-book
 returns-clause-book c = λ b holds not_full.
-    let auction = c.args.self.now in
-    let shard = auction.shard in
-    let start = serial_opening auction in
-    let item = c.args.item in
+    let auction = c.args.self.now in let shard = auction.shard in
+    let start = serial_opening auction in let item = c.args.item in
     let r = bid_row item c.args.bid in
     let none : number_refusal start (bid_request item c.args.bid) ≡ None = by_opening c.args.self.now c.deref.result.now (bid_request c.args.item c.args.bid) c.number_refusal.result c.deref.ensures c.number_refusal.ensures ∙ c.in_default.is in
     let taken : refusal start b (bid_request item c.args.bid) ≡ None =

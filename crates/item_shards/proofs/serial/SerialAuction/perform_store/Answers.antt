@@ -18,18 +18,14 @@ returns-in-StoreBid-clause-book c = λ b holds not_full.
 
 pub returns-then-is_view-clause-book : goal.returns-then-is_view-clause-book
 returns-then-is_view-clause-book c = λ b holds not_full.
-    let start = serial_opening c.args.self.now in
-    let request = c.args.request.now in
+    let start = serial_opening c.args.self.now in let request = c.args.request.now in
     let none = view_adds_none c.args.worker request (reply start b c.args.worker request) (sym c.is_view.ensures ∙ c.if-is_view.true) in
     subst (λ (after : Book). HoldsBook c.args.self.now after) (sym (ap (λ (o : Option Row). b ++ option_to_list o) none ∙ append-nil b)) holds
 
 pub store-requires : goal.store-requires
 store-requires c =
-    let start = serial_opening c.args.self.now in
-    let w = c.args.worker in
-    let request = c.args.request.now in
-    let b = c.requires.room.book in
-    let row = c.in-Some.row in
+    let start = serial_opening c.args.self.now in let w = c.args.worker in
+    let request = c.args.request.now in let b = c.requires.room.book in let row = c.in-Some.row in
     let is : row_of w request (reply start b w request) ≡ Some row =
     ap (row_of w request) (sym (c.reply_to_store-reply.ensures b c.requires.room.holds)) ∙ sym c.row_of_store.ensures ∙ c.in-Some.is in
     record {
@@ -42,8 +38,7 @@ store-requires c =
 
 pub returns-in_ok-store-clause-book : goal.returns-in_ok-store-clause-book
 returns-in_ok-store-clause-book c = λ b holds not_full.
-    let start = serial_opening c.args.self.now in
-    let w = c.args.worker in
+    let start = serial_opening c.args.self.now in let w = c.args.worker in
     let request = c.args.request.now in
     let added : row_of w request (reply start b w request) ≡ Some c.in-Some.row =
     ap (row_of w request) (sym (c.reply_to_store-reply.ensures b holds)) ∙ sym c.row_of_store.ensures ∙ c.in-Some.is in
@@ -51,8 +46,7 @@ returns-in_ok-store-clause-book c = λ b holds not_full.
 
 pub returns-in_default-row_of_store-clause-book : goal.returns-in_default-row_of_store-clause-book
 returns-in_default-row_of_store-clause-book c = λ b holds not_full.
-    let start = serial_opening c.args.self.now in
-    let w = c.args.worker in
+    let start = serial_opening c.args.self.now in let w = c.args.worker in
     let request = c.args.request.now in
     let none : row_of w request (reply start b w request) ≡ None =
     ap (row_of w request) (sym (c.reply_to_store-reply.ensures b holds)) ∙ sym c.row_of_store.ensures ∙ c.in_default-row_of_store.is in

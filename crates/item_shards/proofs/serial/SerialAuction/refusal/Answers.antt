@@ -6,10 +6,8 @@ use Rattle.item_shards.proofs.serial.SerialAuction.refusal.Goals as goal
 
 pub returns : goal.returns
 returns c = λ b holds.
-    let request = c.args.request.now in
-    let start = serial_opening c.args.self.now in
-    let id = c.in_ok-item.item in
-    let none : number_refusal start request ≡ None = search rules in
+    let request = c.args.request.now in let start = serial_opening c.args.self.now in
+    let id = c.in_ok-item.item in let none : number_refusal start request ≡ None = search rules in
     let is : item_of request ≡ Some id = search rules in
     c.refusal_with.ensures
     ∙ refused_by_stock b request id c.stock.result is (c.stock.ensures.book b [] holds.records refl)

@@ -13,10 +13,8 @@ none = record { items = 0; bids = 0; comments = 0; buys = 0 }
 
 pub write-requires-clause-can : goal.write-requires-clause-can
 write-requires-clause-can c = λ rooms room.
-    let shard = c.args.self.now.shard in
-    let start = serial_opening c.args.self.now in
-    let b = c.requires.book in
-    let r = c.args.row.now in
+    let shard = c.args.self.now.shard in let start = serial_opening c.args.self.now in
+    let b = c.requires.book in let r = c.args.row.now in
     let limits = subst IsWithinLimits (sym (after_own start b r c.requires.goes_on)) (limits_next b r c.requires.holds.limits c.requires.not_full) in
     writes_can_be_done start shard.parts.value.number shard.parts.value.shards rooms (contents shard) c.args.self.now.has_all b r c.requires.holds.records c.requires.goes_on limits room
 
@@ -29,16 +27,14 @@ returns-in_err-write-clause-refused c = either_way c.from_residual.result (λ b 
 
 pub count-requires : goal.count-requires
 count-requires c =
-    let b = c.requires.book in
-    let w = worker_of c.args.row.now in
+    let b = c.requires.book in let w = worker_of c.args.row.now in
     let old = c.args.self.now.stored in
     let is : get_or old w _ ≡ stored_by b w = get_or_from_slice_get old w (stored_by b w) _ (c.requires.holds.counts w c.requires.worker) in
     subst AreFew (sym (ap (λ v. get_or old v _) c.worker-worker.ensures ∙ is)) (stored_few b w c.requires.not_full)
 
 pub returns-clause-stored : goal.returns-clause-stored
 returns-clause-stored c = λ b holds not_full.
-    let shard = c.args.self.now.shard in
-    let start = serial_opening c.args.self.now in
+    let shard = c.args.self.now.shard in let start = serial_opening c.args.self.now in
     let r = c.args.row.now in
     let old = c.args.self.now.stored in record {
       records = stands_moved shard c.write.new.self (after_acts (contents shard) (writes_of r)) (b ++ r ∷ []) [] c.write.ensures.same c.in_ok-write.ensures.written

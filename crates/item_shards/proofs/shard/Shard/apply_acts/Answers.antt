@@ -26,8 +26,7 @@ returns c =
     let old = contents c.args.self.now in
     let second = get_or c.args.acts.now 1 c.index-acts-1.result in
     let acts = two_of c.args.acts.now c.index-acts-0.result c.index-acts-1.result c.type_inv.acts in
-    let one = c.act.ensures in
-    let two = c.act-2.ensures in
+    let one = c.act.ensures in let two = c.act-2.ensures in
     let set = c.set_clock.ensures in record {
       contents = set.contents ∙ two.contents
           ∙ ap (λ (now : Contents). after_act now (event_at now second)) one.contents

@@ -5,8 +5,7 @@ use Rattle.item_shards.proofs.shard.Shard.prepare_row.Goals as goal
 
 pub returns-in-Item-clause-room : goal.returns-in-Item-clause-room
 returns-in-Item-clause-room c =
-    let old = c.args.self.now in
-    let new = c.prepare_item.new.self in
+    let old = c.args.self.now in let new = c.prepare_item.new.self in
     on_ok_weaker c.prepare_item.result
     (λ (granted : rooms new ≡ with_room c.in-Item.row.id (rooms old)). room_for_item (shard_number old) (shard_count old) (rooms new) (rooms old) c.args.row.now c.in-Item.row c.in-Item.is granted)
     c.prepare_item.ensures.granted

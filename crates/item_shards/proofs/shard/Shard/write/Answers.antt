@@ -12,18 +12,14 @@ returns-in_err-prepare_row-clause-refused c = either_way c.from_residual.result 
 
 pub act-requires : goal.act-requires
 act-requires c =
-    let new = c.prepare_row.new.self in
-    let r = c.args.row.now in
-    let did = c.prepare_row.ensures in
+    let new = c.prepare_row.new.self in let r = c.args.row.now in let did = c.prepare_row.ensures in
     let can = can_once_prepared c.args.self.now new r did.same did.contents c.requires.can c.in_ok-prepare_row.ensures.room in
     subst (CanActIn new (rooms new) (contents new)) (sym (c.writes_of-first.ensures.first (contents new)))
     (first_can (opening new) (shard_number new) (shard_count new) (rooms new) (contents new) r can)
 
 pub act-requires-2 : goal.act-requires-2
 act-requires-2 c =
-    let new = c.prepare_row.new.self in
-    let last = c.act.new.self in
-    let r = c.args.row.now in
+    let new = c.prepare_row.new.self in let last = c.act.new.self in let r = c.args.row.now in
     let did = c.prepare_row.ensures in
     let can = can_once_prepared c.args.self.now new r did.same did.contents c.requires.can c.in_ok-prepare_row.ensures.room in
     let one = event_at (contents new) c.writes_of-first.result.0 in
@@ -33,8 +29,7 @@ act-requires-2 c =
 
 pub returns-clause-written : goal.returns-clause-written
 returns-clause-written c =
-    let new = contents c.prepare_row.new.self in
-    let last = contents c.act.new.self in
+    let new = contents c.prepare_row.new.self in let last = contents c.act.new.self in
     let r = c.args.row.now in
     c.act-2.ensures.contents ∙ ap (after_act last) (c.writes_of-first.ensures.second last)
     ∙ ap (λ (now : Contents). after_act now (second_act (writes_of r))) (c.act.ensures.contents ∙ ap (after_act new) (c.writes_of-first.ensures.first new))

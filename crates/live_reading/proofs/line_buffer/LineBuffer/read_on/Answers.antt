@@ -5,12 +5,9 @@ use Rattle.live_reading.proofs.line_buffer.LineBuffer.read_on.Goals as goal
 
 pub returns-clause-reads : goal.returns-clause-reads
 returns-clause-reads g c = λ bytes known.
-    let remaining = g.R.Read.remaining in
-    let old = c.args.self.now in
-    let moved = c.move_up.new.self in
-    let now = c.in_ok-now.now in
-    let buffer = c.read_more.new.buffer in
-    let new = remaining c.read_more.new.reader in
+    let remaining = g.R.Read.remaining in let old = c.args.self.now in
+    let moved = c.move_up.new.self in let now = c.in_ok-now.now in
+    let buffer = c.read_more.new.buffer in let new = remaining c.read_more.new.reader in
     let vec = c.deref_mut.result.now in
     let front : take moved.filled vec ≡ held old = ap (take moved.filled) c.deref_mut.ensures.value ∙ sym (at_front moved.buffer.items moved.at moved.filled c.move_up.ensures.at) ∙ c.move_up.ensures.held in
     let whole = with_items moved.buffer buffer in

@@ -12,8 +12,7 @@ invariant_of-taken-clause-few_rows g c =
 
 pub returns-clause-part : goal.returns-clause-part
 returns-clause-part g c = λ all has.
-    let rem = g.R.Read.remaining in
-    let takes = c.in_ok-stop.ensures.takes in
+    let rem = g.R.Read.remaining in let takes = c.in_ok-stop.ensures.takes in
     let (to, known, stops) = takes.takes all _ (c.in_ok-lines.ensures.left has.bytes has.known) (fresh_lines all _ _ c.in_ok-input.ensures.empty refl has.all_is) in
     subst (λ part. IsLivePart rem c.args.self.workers c.args.most all part) (sym c.part_before.ensures)
     (part_for rem all c.take_lines.new.taken c.take_lines.new.lines to known c.in_ok-stop.stop c.args.self.workers c.args.most takes.same.workers takes.same.most stops c.in_ok-stop.ensures.some)

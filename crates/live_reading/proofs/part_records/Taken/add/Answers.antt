@@ -15,8 +15,7 @@ at_most_one false = omega arith
 
 pub invariant_of-self-2 : goal.invariant_of-self-2
 invariant_of-self-2 c =
-    let old = c.args.self.now in
-    let one = c.args.said.now in
+    let old = c.args.self.now in let one = c.args.said.now in
     let more = c.from.ensures ∙ counted one.is_row in record {
       some = old.some;
       few = omega (arith, c.requires.room.0, more, at_most_one one.is_row);

@@ -4,8 +4,7 @@ use Rattle.log_opening.proofs.files.FromStartRead.read.Goals as goal
 
 pub returns-clause-bytes : goal.returns-clause-bytes
 returns-clause-bytes g c =
-    let held = g.F.AppendFile.held c.args.self.now.file.now in
-    let at = c.args.self.now.at in
+    let held = g.F.AppendFile.held c.args.self.now.file.now in let at = c.args.self.now.at in
     let given = c.in_ok-given.given in
     let next : c.in-Some.at ≡ at + given = search rules in (
       read_from held at given c.in-Some.at (take given c.read_at.new.buffer) next (length-take-le given c.read_at.new.buffer c.in_ok-given.ensures.bound) c.in_ok-given.ensures.read,

@@ -25,8 +25,7 @@ overflow_add-result-in-Err-add_rows c =
 
 pub returns-in-Err-add_rows-clause-refused : goal.returns-in-Err-add_rows-clause-refused
 returns-in-Err-add_rows-clause-refused c = λ book has behind.
-    let auction = c.args.self.now.auction in
-    let workers = length auction.counters in
+    let auction = c.args.self.now.auction in let workers = length auction.counters in
     let asked : Asked = record { rows = c.in-Ok.input.rows.items; scripts = c.in-Ok.input.scripts.items } in
     let place = c.in-Err-add_rows.field-0.place in
     let fault = c.in-Err-add_rows.field-0.fault in record {
@@ -44,10 +43,8 @@ overflow_add-result-in-Ok-Some c =
 
 pub returns-in-Ok-Some-clause-refused : goal.returns-in-Ok-Some-clause-refused
 returns-in-Ok-Some-clause-refused c = λ book has behind.
-    let auction = c.args.self.now.auction in
-    let lines = c.args.lines.now in
-    let adds = c.in-Ok-add_rows.ensures.rows book has.start in
-    let at = c.in-Ok-Some.at in
+    let auction = c.args.self.now.auction in let lines = c.args.lines.now in
+    let adds = c.in-Ok-add_rows.ensures.rows book has.start in let at = c.in-Ok-Some.at in
     let first : IsFirstDifference lines (rows_text c.as_slice-2.result.now []) at =
     subst (λ (found : Option ℕ). IfSome found (λ place. IsFirstDifference lines (rows_text c.as_slice-2.result.now []) place)) c.in-Ok-Some.field-0-is c.in-Ok-Some.ensures.first in
     record {
@@ -74,8 +71,7 @@ overflow_add-self-2 c =
 
 pub returns-clause-reads : goal.returns-clause-reads
 returns-clause-reads c = λ book has.
-    let lines = c.args.lines.now in
-    let added = c.in-Ok-add_rows.added in
+    let lines = c.args.lines.now in let added = c.in-Ok-add_rows.added in
     let rows = c.args.self.now.rows + c.len.result in
     let kept = c.args.self.now.kept + length lines in
     let text : lines ≡ rows_text added.items [] = search rules in

@@ -11,10 +11,8 @@ use Rattle.part_log.proofs.TellingLemmas.{error_is}
 
 pub returns-in_default-clause-refused : goal.returns-in_default-clause-refused
 returns-in_default-clause-refused g c =
-    let first = c.args.self.now.auction in
-    let at = c.loop.self.auction in
-    let held = take c.loop.filled c.loop.buffer in
-    let was = c.loop.invariant.read in
+    let first = c.args.self.now.auction in let at = c.loop.self.auction in
+    let held = take c.loop.filled c.loop.buffer in let was = c.loop.invariant.read in
     refused_after (g.R.Read.remaining c.args.reader.now) (g.R.Read.remaining c.loop.reader) (g.W.Write.contents c.args.told.now) (g.W.Write.contents c.loop.told) c.loop.self held (fault.Record read.Read) first
     c.loop.invariant.same was (λ left known. not_read at.limit (length at.counters) at.opening was.book (held ++ left))
 
@@ -35,20 +33,16 @@ pub returns-then-now-filled-clause-read : goal.returns-then-now-filled-clause-re
 returns-then-now-filled-clause-read g c =
     let text = g.R.Read.remaining c.args.reader.now in
     let left = g.R.Read.remaining c.read_more.new.reader in
-    let first = g.W.Write.contents c.args.told.now in
-    let told = g.W.Write.contents c.loop.told in
+    let first = g.W.Write.contents c.args.told.now in let told = g.W.Write.contents c.loop.told in
     let more = held_more text (g.R.Read.remaining c.loop.reader) left first told c.loop.self (take c.loop.filled c.loop.buffer) (take c.in-Ok.now c.read_more.new.buffer) c.loop.invariant.read c.in-Ok.ensures.reads in
     subst (λ (n : ℕ). IsReadTo text left first told c.loop.self (take n c.read_more.new.buffer)) c.if-now-filled.true more
 
 pub returns-in_err-filled-clause-refused : goal.returns-in_err-filled-clause-refused
 returns-in_err-filled-clause-refused g c =
-    let first = c.args.self.now.auction in
-    let text = g.R.Read.remaining c.args.reader.now in
+    let first = c.args.self.now.auction in let text = g.R.Read.remaining c.args.reader.now in
     let left = g.R.Read.remaining c.read_more.new.reader in
-    let start = g.W.Write.contents c.args.told.now in
-    let told = g.W.Write.contents c.loop.told in
-    let held = take c.in-Ok.now c.read_more.new.buffer in
-    let why = c.in_err-filled.field-0.0 in
+    let start = g.W.Write.contents c.args.told.now in let told = g.W.Write.contents c.loop.told in
+    let held = take c.in-Ok.now c.read_more.new.buffer in let why = c.in_err-filled.field-0.0 in
     let was = held_more text (g.R.Read.remaining c.loop.reader) left start told c.loop.self (take c.loop.filled c.loop.buffer) held c.loop.invariant.read c.in-Ok.ensures.reads in
     error_is c.from_residual.result why (λ (f : OpenFault). IfSome text (IsRefusedBy f first)) c.from_residual.ensures
     (refused_after text left start told c.loop.self held why first c.loop.invariant.same was (λ rest known. c.in_err-filled.ensures.refused was.book was.has rest))
@@ -57,8 +51,7 @@ pub returns-in_err-filled-clause-told : goal.returns-in_err-filled-clause-told
 returns-in_err-filled-clause-told g c =
     let text = g.R.Read.remaining c.args.reader.now in
     let left = g.R.Read.remaining c.read_more.new.reader in
-    let start = g.W.Write.contents c.args.told.now in
-    let told = g.W.Write.contents c.loop.told in
+    let start = g.W.Write.contents c.args.told.now in let told = g.W.Write.contents c.loop.told in
     let next = g.W.Write.contents c.take_lines.new.told in
     let held = take c.in-Ok.now c.read_more.new.buffer in
     let was = held_more text (g.R.Read.remaining c.loop.reader) left start told c.loop.self (take c.loop.filled c.loop.buffer) held c.loop.invariant.read c.in-Ok.ensures.reads in
@@ -67,21 +60,16 @@ returns-in_err-filled-clause-told g c =
 
 pub overflow_add-result : goal.overflow_add-result
 overflow_add-result g c =
-    let was = c.loop.invariant.read in
-    let tells = c.in_ok-filled.ensures.reads was.book was.has in
+    let was = c.loop.invariant.read in let tells = c.in_ok-filled.ensures.reads was.book was.has in
     omega (arith, rows_within c.take_lines.new.self (was.book ++ tells.more) tells.has, c.in_ok-filled.ensures.leaves.kept, c.loop.invariant.few, c.loop-test.true, c.in-Ok.ensures.within, c.read_more.ensures.len, c.loop.invariant.len)
 
 pub returns-then-filled-gt-LONGEST_ROW-clause-refused : goal.returns-then-filled-gt-LONGEST_ROW-clause-refused
 returns-then-filled-gt-LONGEST_ROW-clause-refused g c =
-    let first = c.args.self.now.auction in
-    let text = g.R.Read.remaining c.args.reader.now in
+    let first = c.args.self.now.auction in let text = g.R.Read.remaining c.args.reader.now in
     let left = g.R.Read.remaining c.read_more.new.reader in
-    let start = g.W.Write.contents c.args.told.now in
-    let told = g.W.Write.contents c.loop.told in
-    let next = g.W.Write.contents c.take_lines.new.told in
-    let new = c.take_lines.new.self in
-    let longer = take c.in-Ok.now c.read_more.new.buffer in
-    let filled = c.in_ok-filled.filled in
+    let start = g.W.Write.contents c.args.told.now in let told = g.W.Write.contents c.loop.told in
+    let next = g.W.Write.contents c.take_lines.new.told in let new = c.take_lines.new.self in
+    let longer = take c.in-Ok.now c.read_more.new.buffer in let filled = c.in_ok-filled.filled in
     let behind = take filled c.take_lines.new.buffer in
     let was = read_more text (g.R.Read.remaining c.loop.reader) left start told next c.loop.self new (take c.loop.filled c.loop.buffer) longer behind c.loop.invariant.read c.in-Ok.ensures.reads c.in_ok-filled.ensures.reads in
     let fits : filled ≤ length c.take_lines.new.buffer = omega (arith, c.in_ok-filled.ensures.leaves.within, c.in-Ok.ensures.within, c.read_more.ensures.len, c.take_lines.ensures.len) in
@@ -94,8 +82,7 @@ pub returns-then-filled-gt-LONGEST_ROW-clause-told : goal.returns-then-filled-gt
 returns-then-filled-gt-LONGEST_ROW-clause-told g c =
     let text = g.R.Read.remaining c.args.reader.now in
     let left = g.R.Read.remaining c.read_more.new.reader in
-    let start = g.W.Write.contents c.args.told.now in
-    let told = g.W.Write.contents c.loop.told in
+    let start = g.W.Write.contents c.args.told.now in let told = g.W.Write.contents c.loop.told in
     let next = g.W.Write.contents c.take_lines.new.told in
     let longer = take c.in-Ok.now c.read_more.new.buffer in
     let behind = take c.in_ok-filled.filled c.take_lines.new.buffer in
@@ -106,8 +93,7 @@ pub loop-preserved : goal.loop-preserved
 loop-preserved g c =
     let text = g.R.Read.remaining c.args.reader.now in
     let left = g.R.Read.remaining c.read_more.new.reader in
-    let start = g.W.Write.contents c.args.told.now in
-    let told = g.W.Write.contents c.loop.told in
+    let start = g.W.Write.contents c.args.told.now in let told = g.W.Write.contents c.loop.told in
     let next = g.W.Write.contents c.take_lines.new.told in
     let longer = take c.in-Ok.now c.read_more.new.buffer in
     let behind = take c.in_ok-filled.filled c.take_lines.new.buffer in record {
@@ -121,10 +107,8 @@ loop-preserved g c =
 
 pub returns-clause-refused : goal.returns-clause-refused
 returns-clause-refused g c =
-    let first = c.args.self.now.auction in
-    let at = c.loop.self.auction in
-    let held = take c.loop.filled c.loop.buffer in
-    let was = c.loop.invariant.read in
+    let first = c.args.self.now.auction in let at = c.loop.self.auction in
+    let held = take c.loop.filled c.loop.buffer in let was = c.loop.invariant.read in
     refused_after (g.R.Read.remaining c.args.reader.now) (g.R.Read.remaining c.loop.reader) (g.W.Write.contents c.args.told.now) (g.W.Write.contents c.loop.told) c.loop.self held (fault.Record read.Read) first
     c.loop.invariant.same was (λ left known. not_read at.limit (length at.counters) at.opening was.book (held ++ left))
 

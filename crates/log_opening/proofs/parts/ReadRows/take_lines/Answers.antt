@@ -8,8 +8,7 @@ use Rattle.part_log.proofs.TellingLemmas.{error_is}
 
 pub add_lines-requires-clause-lines : goal.add_lines-requires-clause-lines
 add_lines-requires-clause-lines g c =
-    let buffer = c.args.buffer.now in
-    let held = take c.args.filled buffer in
+    let buffer = c.args.buffer.now in let held = take c.args.filled buffer in
     let whole = c.lines_end-whole.result in
     let split = split_at buffer c.args.filled whole c.lines_end-whole.ensures.within c.requires.filled in
     let are = whole_lines_are held whole c.lines_end-whole.ensures.within c.lines_end-whole.ensures.ends c.lines_end-whole.ensures.rest in
@@ -17,10 +16,8 @@ add_lines-requires-clause-lines g c =
 
 pub returns-in_err-add_lines-clause-refused : goal.returns-in_err-add_lines-clause-refused
 returns-in_err-add_lines-clause-refused g c =
-    let auction = c.args.self.now.auction in
-    let buffer = c.args.buffer.now in
-    let filled = c.args.filled in
-    let whole = c.lines_end-whole.result in
+    let auction = c.args.self.now.auction in let buffer = c.args.buffer.now in
+    let filled = c.args.filled in let whole = c.lines_end-whole.result in
     let fault = c.in_err-add_lines.field-0.0 in
     let split = split_at buffer filled whole c.lines_end-whole.ensures.within c.requires.filled in
     error_is c.from_residual.result fault (λ (told : OpenFault). (book : Book) → HasRead c.args.self.now book → (behind : List ℕ)
@@ -36,8 +33,7 @@ returns-in_err-add_lines-clause-told g c =
 
 pub returns-in-Err-clause-told : goal.returns-in-Err-clause-told
 returns-in-Err-clause-told g c =
-    let buffer = c.args.buffer.now in
-    let filled = c.args.filled in
+    let buffer = c.args.buffer.now in let filled = c.args.filled in
     let whole = c.lines_end-whole.result in
     let split = split_at buffer filled whole c.lines_end-whole.ensures.within c.requires.filled in
     let reads = c.in_ok-add_lines.ensures.reads c.requires.can.book c.requires.can.has in
@@ -45,8 +41,7 @@ returns-in-Err-clause-told g c =
 
 pub returns-clause-reads : goal.returns-clause-reads
 returns-clause-reads g c = λ book has.
-    let buffer = c.args.buffer.now in
-    let filled = c.args.filled in
+    let buffer = c.args.buffer.now in let filled = c.args.filled in
     let whole = c.lines_end-whole.result in
     let split = split_at buffer filled whole c.lines_end-whole.ensures.within c.requires.filled in
     let moved : take filled buffer ≡ take whole buffer ++ take (filled - whole) c.copy_within.new.self =
@@ -56,8 +51,7 @@ returns-clause-reads g c = λ book has.
 
 pub returns-clause-leaves : goal.returns-clause-leaves
 returns-clause-leaves g c =
-    let buffer = c.args.buffer.now in
-    let filled = c.args.filled in
+    let buffer = c.args.buffer.now in let filled = c.args.filled in
     let whole = c.lines_end-whole.result in
     let split = split_at buffer filled whole c.lines_end-whole.ensures.within c.requires.filled in
     let moved : take filled buffer ≡ take whole buffer ++ take (filled - whole) c.copy_within.new.self =

@@ -26,8 +26,7 @@ invariant_of-self-2 g c =
 
 pub returns-clause-committed : goal.returns-clause-committed
 returns-clause-committed g c =
-    let old = c.self.inside.worker in
-    let new = c.perform_hot.new.self in
+    let old = c.self.inside.worker in let new = c.perform_hot.new.self in
     let some : HasCommittedSome g.N.PhaseName.initial old new c.args.request.now c.args.index =
     hot_commits g.N.PhaseName.initial old new c.args.request.now c.args.index c.self.invariant.1.idle
     (subst (λ (w : WorkerState). IsHotStore w.slices c.args.request.now) (sym c.self.view_is) c.requires.hot) c.perform_hot.result c.perform_hot.ensures.none (ap is_some c.in_ok-perform_hot.was) c.perform_hot.ensures.stored in

@@ -7,15 +7,13 @@ use Rattle.phase_permits.proofs.permit.Permit.commit.Goals as goal
 
 pub invariant_of-self : goal.invariant_of-self
 invariant_of-self g c =
-    let joined = g.K.Kind.IS_JOINED in
-    let shards = length g.N.PhaseName.initial in
+    let joined = g.K.Kind.IS_JOINED in let shards = length g.N.PhaseName.initial in
     subst (IsPermit joined shards) (sym c.put_off.ensures)
     (off_permit joined shards c.count_try.new.self c.args.index c.args.request.now (subst (IsPermit joined shards) (sym c.count_try.ensures) (tried_permit joined shards c.self.inside.worker c.self.invariant)))
 
 pub invariant_of-self-2 : goal.invariant_of-self-2
 invariant_of-self-2 g c =
-    let joined = g.K.Kind.IS_JOINED in
-    let shards = length g.N.PhaseName.initial in
+    let joined = g.K.Kind.IS_JOINED in let shards = length g.N.PhaseName.initial in
     performed_permit joined g.N.PhaseName.initial c.count_try.new.self c.transact.new.self c.args.request.now c.args.index c.transact.result c.transact.ensures
     (subst (IsPermit joined shards) (sym c.count_try.ensures) (tried_permit joined shards c.self.inside.worker c.self.invariant))
 

@@ -7,15 +7,13 @@ use Rattle.phase_permits.proofs.permit.Permit.commit_bid.Goals as goal
 
 pub invariant_of-self : goal.invariant_of-self
 invariant_of-self g c =
-    let joined = g.K.Kind.IS_JOINED in
-    let shards = length g.N.PhaseName.initial in
+    let joined = g.K.Kind.IS_JOINED in let shards = length g.N.PhaseName.initial in
     performed_permit joined g.N.PhaseName.initial c.count_try.new.self c.transact_bid.new.self (request_of c.args.bid.now) c.args.index c.transact_bid.result c.transact_bid.ensures
     (subst (IsPermit joined shards) (sym c.count_try.ensures) (tried_permit joined shards c.self.inside.worker c.self.invariant))
 
 pub invariant_of-self-2 : goal.invariant_of-self-2
 invariant_of-self-2 g c =
-    let joined = g.K.Kind.IS_JOINED in
-    let shards = length g.N.PhaseName.initial in
+    let joined = g.K.Kind.IS_JOINED in let shards = length g.N.PhaseName.initial in
     performed_permit joined g.N.PhaseName.initial c.count_try.new.self c.transact_bid.new.self (request_of c.args.bid.now) c.args.index c.transact_bid.result c.transact_bid.ensures
     (subst (IsPermit joined shards) (sym c.count_try.ensures) (tried_permit joined shards c.self.inside.worker c.self.invariant))
 

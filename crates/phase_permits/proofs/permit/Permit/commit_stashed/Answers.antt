@@ -17,14 +17,12 @@ count_try-requires g c = record {
 
 pub invariant_of-self-in_default : goal.invariant_of-self-in_default
 invariant_of-self-in_default g c =
-    let joined = g.K.Kind.IS_JOINED in
-    let shards = length g.N.PhaseName.initial in
+    let joined = g.K.Kind.IS_JOINED in let shards = length g.N.PhaseName.initial in
     subst (IsPermit joined shards) (sym (c.count_try.ensures ∙ ap with_try c.in_default.ensures.none)) (tried_permit joined shards c.self.inside.worker c.self.invariant)
 
 pub invariant_of-self : goal.invariant_of-self
 invariant_of-self g c =
-    let joined = g.K.Kind.IS_JOINED in
-    let shards = length g.N.PhaseName.initial in
+    let joined = g.K.Kind.IS_JOINED in let shards = length g.N.PhaseName.initial in
     subst (IsPermit joined shards) (sym c.in-Some.ensures.called) (called_permit joined shards c.self.inside.worker c.self.invariant)
 
 pub commit-requires-clause-of : goal.commit-requires-clause-of
@@ -44,8 +42,7 @@ restash-requires-clause-joined g c = subst (λ (b : Bool). IsEmptyIf b c.self-2.
 
 pub invariant_of-self-in-Err : goal.invariant_of-self-in-Err
 invariant_of-self-in-Err g c =
-    let joined = g.K.Kind.IS_JOINED in
-    let shards = length g.N.PhaseName.initial in
+    let joined = g.K.Kind.IS_JOINED in let shards = length g.N.PhaseName.initial in
     back_permit joined shards c.restash.new.self (subst (IsPermit joined shards) c.restash.ensures.before c.self-2.invariant)
 
 pub returns-in_default-clause-none : goal.returns-in_default-clause-none
@@ -53,10 +50,8 @@ returns-in_default-clause-none g c none = subst (λ (w : WorkerState). w.stash.r
 
 pub returns-in-Err-clause-failed : goal.returns-in-Err-clause-failed
 returns-in-Err-clause-failed g c =
-    let initial = g.N.PhaseName.initial in
-    let inside = c.self.inside.worker in
-    let request = c.in-Some.request in
-    let fault = c.in-Err.fault in
+    let initial = g.N.PhaseName.initial in let inside = c.self.inside.worker in
+    let request = c.in-Some.request in let fault = c.in-Err.fault in
     let failed = subst (λ (w : WorkerState). HasFailed initial (with_try w) c.commit.new.self request fault) c.in-Some.ensures.called c.in-Err.ensures.failed in
     subst (λ (w : WorkerState). HasFailedFirst initial (with_try w) c.restash.new.self fault) c.self.view_is
     (failed_first initial (with_try inside) c.self-2.inside.worker c.restash.new.self c.in-Some.index request fault c.in-Some.ensures.first c.in-Some.ensures.some
@@ -65,8 +60,7 @@ returns-in-Err-clause-failed g c =
 
 pub returns-in-Ok-clause-performed : goal.returns-in-Ok-clause-performed
 returns-in-Ok-clause-performed g c some =
-    let initial = g.N.PhaseName.initial in
-    let called = c.unstash.new.self in
+    let initial = g.N.PhaseName.initial in let called = c.unstash.new.self in
     let is = c.in-Ok.ensures in
     let done : HasCommittedSome initial (with_try called) c.commit.new.self c.in-Some.request c.in-Some.index =
     subst (HasDealt initial (with_try called) c.commit.new.self c.in-Some.request c.in-Some.index) (is.joined c.requires.joined) is.dealt in

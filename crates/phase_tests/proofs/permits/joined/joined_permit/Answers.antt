@@ -4,8 +4,7 @@ use Rattle.phase_tests.proofs.permits.joined.joined_permit.Goals as goal
 
 pub new-requires : goal.new-requires
 new-requires g c =
-    let journal = c.in_ok-journal.ensures in
-    let zero = c.default-counters.ensures in
+    let journal = c.in_ok-journal.ensures in let zero = c.default-counters.ensures in
     let none = zero.1.1.1.1 in record {
       key = c.requires.unused;
       worker = ap (λ (j : JournalView). j.worker) journal ∙ c.worker.ensures.value;

@@ -7,8 +7,7 @@ use Rattle.phase_transactions.proofs.worker.Worker.add_entry.Goals as goal
 
 pub invariant_of-self : goal.invariant_of-self
 invariant_of-self g c =
-    let inside = c.self.inside in
-    let call = c.args.call in
+    let inside = c.self.inside in let call = c.args.call in
     let some : 0 < inside.left = subst (λ (s : WorkerState). 0 < s.left) (sym c.self.view_is) c.requires.left in
     let after : inside.clock < c.args.number = subst (λ (s : WorkerState). s.clock < c.args.number) (sym c.self.view_is) c.requires.after in
     record {
@@ -21,8 +20,7 @@ invariant_of-self g c =
 
 pub returns-clause-entry : goal.returns-clause-entry
 returns-clause-entry g c =
-    let inside = c.self.inside in
-    let call = c.args.call in
+    let inside = c.self.inside in let call = c.args.call in
     (λ i. record (state_in inside) { counters = c.count.ensures i; journal = c.push_answer.ensures.pushed i; left = inside.left - 1; clock = c.args.number })
     ∙ ap (λ (w : WorkerState). with_entry w c.args.number call.index call.request.now c.args.reply.now) c.self.view_is
 

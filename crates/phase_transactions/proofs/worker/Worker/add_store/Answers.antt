@@ -8,8 +8,7 @@ use Rattle.phase_transactions.proofs.worker.Worker.add_store.Goals as goal
 
 pub invariant_of-self : goal.invariant_of-self
 invariant_of-self g c =
-    let inside = c.self.inside in
-    let old = c.args.self.now in
+    let inside = c.self.inside in let old = c.args.self.now in
     let commits = ap (λ (s : WorkerState). s.counters.commits) (c.self.view_is ∙ c.add_entry.ensures.entry) ∙ (counts_one old.counters (reply_of c.args.store.now.reply)).commits in
     let few = c.store.ensures.few old.counters.commits (subst (λ (s : WorkerState). HaveAtMost old.counters.commits s.slices) (sym c.self.view_is) c.add_entry.ensures.few) in
     record {

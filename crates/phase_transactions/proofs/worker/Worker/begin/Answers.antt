@@ -16,8 +16,7 @@ returns-in-None-clause-full g c = λ request may.
 
 pub returns-in-Some-clause-begun : goal.returns-in-Some-clause-begun
 returns-in-Some-clause-begun g c = λ request may.
-    let initial = g.N.PhaseName.initial in
-    let homes = c.args.homes.now in
+    let initial = g.N.PhaseName.initial in let homes = c.args.homes.now in
     let taken = c.take_all-taken.new.key in
     let its = subst (λ (s : WorkerState). HasTakenAll initial g.N.PhaseName.workers s.key taken (footprint_of homes) (held_in c.take_all-taken.result)) c.self.view_is c.take_all-taken.ensures in
     record {

@@ -22,9 +22,7 @@ none_of (Some n) b is none = absurd (cc (is ∙ ap not none))
 
 pub returns-in-Some : goal.returns-in-Some
 returns-in-Some g c =
-    let initial = g.N.PhaseName.initial in
-    let old = c.args.self.now in
-    let bid = c.args.bid.now in
+    let initial = g.N.PhaseName.initial in let old = c.args.self.now in let bid = c.args.bid.now in
     let request : Request = bid_request bid.item bid.entry in
     let refused : number_refusal old.opening request ≡ Some c.in-Some.reason = sym (ap (λ (w : WorkerState). number_refusal w.opening request) c.self.view_is) ∙ sym c.number_refusal.ensures ∙ c.in-Some.is in
     stored_performed initial old c.refuse.new.self request bid.index c.requires.can.idle c.refuse.result c.refuse.ensures
@@ -32,11 +30,8 @@ returns-in-Some g c =
 
 pub returns-then-is_none : goal.returns-then-is_none
 returns-then-is_none g c =
-    let initial = g.N.PhaseName.initial in
-    let old = c.args.self.now in
-    let bid = c.args.bid.now in
-    let request : Request = bid_request bid.item bid.entry in
-    let homes = c.homes-homes.result in
+    let initial = g.N.PhaseName.initial in let old = c.args.self.now in let bid = c.args.bid.now in
+    let request : Request = bid_request bid.item bid.entry in let homes = c.homes-homes.result in
     let allowed : number_refusal old.opening request ≡ None = sym (ap (λ (w : WorkerState). number_refusal w.opening request) c.self.view_is) ∙ sym c.number_refusal.ensures ∙ c.in_default.is in
     let item : shard_at homes.item ≡ None = sym c.shard.ensures ∙ none_of c.shard.result c.is_none.result c.is_none.ensures c.if-is_none.true in
     stored_performed initial old c.store_hot.new.self request bid.index c.requires.can.idle c.store_hot.result c.store_hot.ensures
@@ -45,32 +40,23 @@ returns-then-is_none g c =
 
 pub returns-in_err-begun : goal.returns-in_err-begun
 returns-in_err-begun g c =
-    let initial = g.N.PhaseName.initial in
-    let old = c.args.self.now in
-    let bid = c.args.bid.now in
-    let request : Request = bid_request bid.item bid.entry in
-    let homes = c.homes-homes.result in
+    let initial = g.N.PhaseName.initial in let old = c.args.self.now in let bid = c.args.bid.now in
+    let request : Request = bid_request bid.item bid.entry in let homes = c.homes-homes.result in
     fault_performed initial old c.begin.new.self request bid.index c.from_residual.result c.in_err-begun.field-0.0 c.from_residual.ensures.1
     (c.in_err-begun.ensures.full request (may_begin (length initial) old _ request homes _ c.self.view_is c.number_refusal.ensures c.in_default.is c.requires.can.goes c.homes-homes.ensures.homes c.homes-homes.ensures.footprint))
 
 pub one-held-requires : goal.one-held-requires
 one-held-requires g c =
-    let initial = g.N.PhaseName.initial in
-    let old = c.args.self.now in
-    let bid = c.args.bid.now in
-    let request : Request = bid_request bid.item bid.entry in
-    let homes = c.homes-homes.result in
+    let initial = g.N.PhaseName.initial in let old = c.args.self.now in let bid = c.args.bid.now in
+    let request : Request = bid_request bid.item bid.entry in let homes = c.homes-homes.result in
     let step = step_of initial g.N.PhaseName.workers c.args.boxes.now old.key homes in
     let its = c.in_ok-begun.ensures.begun request (may_begin (length initial) old _ request homes _ c.self.view_is c.number_refusal.ensures c.in_default.is c.requires.can.goes c.homes-homes.ensures.homes c.homes-homes.ensures.footprint) in
     bid_took_one step c.begin.new.self bid.item bid.entry c.in_ok-begun.begun its (subst IsSome c.shard.ensures (c.is_none.ensures ∙ ap not c.if-is_none.false))
 
 pub bid-trace-requires : goal.bid-trace-requires
 bid-trace-requires g c =
-    let initial = g.N.PhaseName.initial in
-    let old = c.args.self.now in
-    let bid = c.args.bid.now in
-    let request : Request = bid_request bid.item bid.entry in
-    let homes = c.homes-homes.result in
+    let initial = g.N.PhaseName.initial in let old = c.args.self.now in let bid = c.args.bid.now in
+    let request : Request = bid_request bid.item bid.entry in let homes = c.homes-homes.result in
     let step = step_of initial g.N.PhaseName.workers c.args.boxes.now old.key homes in
     let its = c.in_ok-begun.ensures.begun request (may_begin (length initial) old _ request homes _ c.self.view_is c.number_refusal.ensures c.in_default.is c.requires.can.goes c.homes-homes.ensures.homes c.homes-homes.ensures.footprint) in
     let held = bid_held step c.begin.new.self bid.item bid.entry c.in_ok-begun.begun its c.one-held.result c.one-held.ensures in
@@ -83,50 +69,36 @@ bid-trace-requires g c =
 
 pub put_acted-requires-clause-of : goal.put_acted-requires-clause-of
 put_acted-requires-clause-of g c =
-    let initial = g.N.PhaseName.initial in
-    let old = c.args.self.now in
-    let bid = c.args.bid.now in
-    let request : Request = bid_request bid.item bid.entry in
-    let homes = c.homes-homes.result in
+    let initial = g.N.PhaseName.initial in let old = c.args.self.now in let bid = c.args.bid.now in
+    let request : Request = bid_request bid.item bid.entry in let homes = c.homes-homes.result in
     let its = c.in_ok-begun.ensures.begun request (may_begin (length initial) old _ request homes _ c.self.view_is c.number_refusal.ensures c.in_default.is c.requires.can.goes c.homes-homes.ensures.homes c.homes-homes.ensures.footprint) in
     subst (λ (s : WorkerState). s.key.boxes ≡ c.args.boxes.now) (sym c.self-2.view_is) its.held.boxes_are
 
 pub put_acted-requires-clause-holder : goal.put_acted-requires-clause-holder
 put_acted-requires-clause-holder g c =
-    let initial = g.N.PhaseName.initial in
-    let old = c.args.self.now in
-    let bid = c.args.bid.now in
-    let request : Request = bid_request bid.item bid.entry in
-    let homes = c.homes-homes.result in
+    let initial = g.N.PhaseName.initial in let old = c.args.self.now in let bid = c.args.bid.now in
+    let request : Request = bid_request bid.item bid.entry in let homes = c.homes-homes.result in
     let step = step_of initial g.N.PhaseName.workers c.args.boxes.now old.key homes in
     let its = c.in_ok-begun.ensures.begun request (may_begin (length initial) old _ request homes _ c.self.view_is c.number_refusal.ensures c.in_default.is c.requires.can.goes c.homes-homes.ensures.homes c.homes-homes.ensures.footprint) in
     let held = bid_held step c.begin.new.self bid.item bid.entry c.in_ok-begun.begun its c.one-held.result c.one-held.ensures in
-    let made = c.bid-trace.ensures in
-    let new = c.bid-trace.new.self in
+    let made = c.bid-trace.ensures in let new = c.bid-trace.new.self in
     subst (λ (s : WorkerState). holds_at s.key new.number ≡ true) (sym c.self-2.view_is) (acted_holder held new c.bid-trace.result.0 made.number made.follows made.after)
 
 pub put_acted-requires-clause-may : goal.put_acted-requires-clause-may
 put_acted-requires-clause-may g c =
-    let initial = g.N.PhaseName.initial in
-    let old = c.args.self.now in
-    let bid = c.args.bid.now in
-    let request : Request = bid_request bid.item bid.entry in
-    let homes = c.homes-homes.result in
+    let initial = g.N.PhaseName.initial in let old = c.args.self.now in let bid = c.args.bid.now in
+    let request : Request = bid_request bid.item bid.entry in let homes = c.homes-homes.result in
     let step = step_of initial g.N.PhaseName.workers c.args.boxes.now old.key homes in
     let its = c.in_ok-begun.ensures.begun request (may_begin (length initial) old _ request homes _ c.self.view_is c.number_refusal.ensures c.in_default.is c.requires.can.goes c.homes-homes.ensures.homes c.homes-homes.ensures.footprint) in
     let held = bid_held step c.begin.new.self bid.item bid.entry c.in_ok-begun.begun its c.one-held.result c.one-held.ensures in
-    let made = c.bid-trace.ensures in
-    let new = c.bid-trace.new.self in
+    let made = c.bid-trace.ensures in let new = c.bid-trace.new.self in
     let trace = c.bid-trace.result.0 in
     subst (λ (s : WorkerState). MayPut (taken_at initial s.key new.number) (state_of new.shard) (Some trace)) (sym c.self-2.view_is) (acted_may held new trace made.number made.follows made.after)
 
 pub add_entry-requires-clause-after : goal.add_entry-requires-clause-after
 add_entry-requires-clause-after g c =
-    let initial = g.N.PhaseName.initial in
-    let old = c.args.self.now in
-    let bid = c.args.bid.now in
-    let request : Request = bid_request bid.item bid.entry in
-    let homes = c.homes-homes.result in
+    let initial = g.N.PhaseName.initial in let old = c.args.self.now in let bid = c.args.bid.now in
+    let request : Request = bid_request bid.item bid.entry in let homes = c.homes-homes.result in
     let its = c.in_ok-begun.ensures.begun request (may_begin (length initial) old _ request homes _ c.self.view_is c.number_refusal.ensures c.in_default.is c.requires.can.goes c.homes-homes.ensures.homes c.homes-homes.ensures.footprint) in
     let begun = c.in_ok-begun.begun in
     let numbered : begun.number ≡ suc (max c.begin.new.self.clock (greatest_held (held_in begun.taken))) = its.numbered in
@@ -135,20 +107,13 @@ add_entry-requires-clause-after g c =
 
 pub returns : goal.returns
 returns g c =
-    let initial = g.N.PhaseName.initial in
-    let old = c.args.self.now in
-    let bid = c.args.bid.now in
-    let request : Request = bid_request bid.item bid.entry in
-    let homes = c.homes-homes.result in
+    let initial = g.N.PhaseName.initial in let old = c.args.self.now in let bid = c.args.bid.now in
+    let request : Request = bid_request bid.item bid.entry in let homes = c.homes-homes.result in
     let step = step_of initial g.N.PhaseName.workers c.args.boxes.now old.key homes in
     let its = c.in_ok-begun.ensures.begun request (may_begin (length initial) old _ request homes _ c.self.view_is c.number_refusal.ensures c.in_default.is c.requires.can.goes c.homes-homes.ensures.homes c.homes-homes.ensures.footprint) in
-    let w = c.begin.new.self in
-    let begun = c.in_ok-begun.begun in
-    let held = c.one-held.result in
-    let made = c.bid-trace.ensures in
-    let refused = c.bid-trace.result.1 in
-    let reply = reply_of c.reply_to_bid.result in
-    let new = c.add_entry.new.self in
+    let w = c.begin.new.self in let begun = c.in_ok-begun.begun in let held = c.one-held.result in
+    let made = c.bid-trace.ensures in let refused = c.bid-trace.result.1 in
+    let reply = reply_of c.reply_to_bid.result in let new = c.add_entry.new.self in
     let key_is : new.key ≡ c.put_acted.new.key = ap (λ (s : WorkerState). s.key) c.add_entry.ensures.entry in
     let line = line_of begun.number bid.index (bid_acts bid.item bid.entry refused) held.shard in
     let put =

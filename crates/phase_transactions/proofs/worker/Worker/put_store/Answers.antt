@@ -12,12 +12,9 @@ use Rattle.worker_slices.specs.{Counting.{IsOwn}, Homes.{IsWrittenAt}}
 
 pub put_all-requires-clause-can : goal.put_all-requires-clause-can
 put_all-requires-clause-can g c =
-    let initial = g.N.PhaseName.initial in
-    let w = c.args.self.now in
-    let store = c.args.store.now in
-    let took = c.args.begun.taken in
-    let begun = c.requires.begun.1 in
-    let reply = reply_of store.reply in
+    let initial = g.N.PhaseName.initial in let w = c.args.self.now in
+    let store = c.args.store.now in let took = c.args.begun.taken in
+    let begun = c.requires.begun.1 in let reply = reply_of store.reply in
     let step = step_of initial g.N.PhaseName.workers c.args.boxes.now c.requires.begun.0 store.homes.now in
     subst (λ (d : Written). CanBeDoneOnAll d.number (held_in took) (dealt took (written_acts d))) (sym c.written-written.ensures)
     (begun_can step w store.call.request.now c.args.begun begun c.requires.answered.seen c.requires.store c.requires.answered.saw reply c.of-deeds.result c.requires.room c.requires.answered.answered c.requires.opened
@@ -30,22 +27,17 @@ add_store-requires-clause-home g c =
 
 pub add_store-requires-clause-own : goal.add_store-requires-clause-own
 add_store-requires-clause-own g c =
-    let store = c.args.store.now in
-    let reply = reply_of store.reply in
+    let store = c.args.store.now in let reply = reply_of store.reply in
     subst (λ (w : WorkerState). IsOwn w.journal.worker reply) (sym c.self.view_is) (own_reply c.args.self.now c.requires.answered.seen store.call.request.now reply c.requires.answered.answered c.requires.store)
 
 pub returns : goal.returns
 returns g c key begun =
-    let initial = g.N.PhaseName.initial in
-    let w = c.args.self.now in
-    let store = c.args.store.now in
-    let request = store.call.request.now in
+    let initial = g.N.PhaseName.initial in let w = c.args.self.now in
+    let store = c.args.store.now in let request = store.call.request.now in
     let homes = store.homes.now in
     let step = step_of initial g.N.PhaseName.workers c.args.boxes.now key homes in
-    let took = c.args.begun.taken in
-    let number = c.args.begun.number in
-    let reply = reply_of store.reply in
-    let new = c.add_store.new.self in
+    let took = c.args.begun.taken in let number = c.args.begun.number in
+    let reply = reply_of store.reply in let new = c.add_store.new.self in
     let key_is : new.key ≡ c.put_all.new.key = ap (λ (s : WorkerState). s.key) c.add_store.ensures in
     let written = written_of c.of-deeds.result number store.call.index in
     let lines = line_among number store.call.index (held_in took) (dealt took (written_acts written)) in

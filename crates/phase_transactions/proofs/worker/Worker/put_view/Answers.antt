@@ -10,13 +10,9 @@ use Rattle.phase_transactions.proofs.worker.Worker.put_view.Goals as goal
 
 pub returns : goal.returns
 returns g c homes key begun =
-    let initial = g.N.PhaseName.initial in
-    let w = c.args.self.now in
-    let view = c.args.view.now in
-    let request = view.call.request.now in
-    let took = c.args.begun.taken in
-    let number = c.args.begun.number in
-    let index = view.call.index in
+    let initial = g.N.PhaseName.initial in let w = c.args.self.now in let view = c.args.view.now in
+    let request = view.call.request.now in let took = c.args.begun.taken in
+    let number = c.args.begun.number in let index = view.call.index in
     let new = c.add_entry.new.self in
     let lines = line_among number index (held_in took) (dealt took (Look view.look ∷ Look look.Nothing ∷ [])) in
     let key_is : new.key ≡ c.put_all.new.key = ap (λ (s : WorkerState). s.key) c.add_entry.ensures.entry in

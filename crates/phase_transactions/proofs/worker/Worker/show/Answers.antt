@@ -9,8 +9,7 @@ use Rattle.phase_transactions.proofs.worker.Worker.show.Goals as goal
 
 pub returns-in-Some : goal.returns-in-Some
 returns-in-Some g c =
-    let initial = g.N.PhaseName.initial in
-    let old = c.args.self.now in
+    let initial = g.N.PhaseName.initial in let old = c.args.self.now in
     let request = c.args.request.now in
     let refused : number_refusal old.opening request ≡ Some c.in-Some.reason = sym (ap (λ (w : WorkerState). number_refusal w.opening request) c.self.view_is) ∙ sym c.number_refusal.ensures ∙ c.in-Some.is in
     stored_performed initial old c.refuse.new.self request c.args.index c.requires.can.idle c.refuse.result c.refuse.ensures
@@ -18,19 +17,15 @@ returns-in-Some g c =
 
 pub returns-in_err-begun : goal.returns-in_err-begun
 returns-in_err-begun g c =
-    let initial = g.N.PhaseName.initial in
-    let old = c.args.self.now in
-    let request = c.args.request.now in
-    let homes = c.homes-homes.result in
+    let initial = g.N.PhaseName.initial in let old = c.args.self.now in
+    let request = c.args.request.now in let homes = c.homes-homes.result in
     fault_performed initial old c.begin.new.self request c.args.index c.from_residual.result c.in_err-begun.field-0.0 c.from_residual.ensures.1
     (c.in_err-begun.ensures.full request (may_begin (length initial) old _ request homes _ c.self.view_is c.number_refusal.ensures c.in_default.is c.requires.can.goes c.homes-homes.ensures.homes c.homes-homes.ensures.footprint))
 
 pub item_on-seen-requires : goal.item_on-seen-requires
 item_on-seen-requires g c =
-    let initial = g.N.PhaseName.initial in
-    let old = c.args.self.now in
-    let request = c.args.request.now in
-    let homes = c.homes-homes.result in
+    let initial = g.N.PhaseName.initial in let old = c.args.self.now in
+    let request = c.args.request.now in let homes = c.homes-homes.result in
     let step = step_of initial g.N.PhaseName.workers c.args.boxes.now old.key homes in
     let its = c.in_ok-begun.ensures.begun request (may_begin (length initial) old _ request homes _ c.self.view_is c.number_refusal.ensures c.in_default.is c.requires.can.goes c.homes-homes.ensures.homes c.homes-homes.ensures.footprint) in
     let openings = subst (HaveOpening initial) (sym (ap (λ (s : WorkerState). s.opening) c.begin.ensures.worker)) c.requires.can.opened in
@@ -38,29 +33,23 @@ item_on-seen-requires g c =
 
 pub put_view-requires-clause-begun : goal.put_view-requires-clause-begun
 put_view-requires-clause-begun g c =
-    let initial = g.N.PhaseName.initial in
-    let old = c.args.self.now in
-    let request = c.args.request.now in
-    let homes = c.homes-homes.result in
+    let initial = g.N.PhaseName.initial in let old = c.args.self.now in
+    let request = c.args.request.now in let homes = c.homes-homes.result in
     let its = c.in_ok-begun.ensures.begun request (may_begin (length initial) old _ request homes _ c.self.view_is c.number_refusal.ensures c.in_default.is c.requires.can.goes c.homes-homes.ensures.homes c.homes-homes.ensures.footprint) in
     (homes, old.key, its)
 
 pub returns-in-ViewItem : goal.returns-in-ViewItem
 returns-in-ViewItem g c =
-    let initial = g.N.PhaseName.initial in
-    let old = c.args.self.now in
-    let request = c.args.request.now in
-    let homes = c.homes-homes.result in
+    let initial = g.N.PhaseName.initial in let old = c.args.self.now in
+    let request = c.args.request.now in let homes = c.homes-homes.result in
     let its = c.in_ok-begun.ensures.begun request (may_begin (length initial) old _ request homes _ c.self.view_is c.number_refusal.ensures c.in_default.is c.requires.can.goes c.homes-homes.ensures.homes c.homes-homes.ensures.footprint) in
     subst (λ (s : WorkerState). HasCommittedSome initial s c.put_view.new.self request c.args.index) (λ i. record (c.begin.ensures.worker i) { key = old.key })
     (c.put_view.ensures homes old.key its)
 
 pub show_whole-requires-clause-one : goal.show_whole-requires-clause-one
 show_whole-requires-clause-one g c =
-    let initial = g.N.PhaseName.initial in
-    let old = c.args.self.now in
-    let request = c.args.request.now in
-    let homes = c.homes-homes.result in
+    let initial = g.N.PhaseName.initial in let old = c.args.self.now in
+    let request = c.args.request.now in let homes = c.homes-homes.result in
     let step = step_of initial g.N.PhaseName.workers c.args.boxes.now old.key homes in
     let its = c.in_ok-begun.ensures.begun request (may_begin (length initial) old _ request homes _ c.self.view_is c.number_refusal.ensures c.in_default.is c.requires.can.goes c.homes-homes.ensures.homes c.homes-homes.ensures.footprint) in
     let openings = subst (HaveOpening initial) (sym (ap (λ (s : WorkerState). s.opening) c.begin.ensures.worker)) c.requires.can.opened in
@@ -68,19 +57,15 @@ show_whole-requires-clause-one g c =
 
 pub show_whole-requires-clause-begun : goal.show_whole-requires-clause-begun
 show_whole-requires-clause-begun g c =
-    let initial = g.N.PhaseName.initial in
-    let old = c.args.self.now in
-    let request = c.args.request.now in
-    let homes = c.homes-homes.result in
+    let initial = g.N.PhaseName.initial in let old = c.args.self.now in
+    let request = c.args.request.now in let homes = c.homes-homes.result in
     let its = c.in_ok-begun.ensures.begun request (may_begin (length initial) old _ request homes _ c.self.view_is c.number_refusal.ensures c.in_default.is c.requires.can.goes c.homes-homes.ensures.homes c.homes-homes.ensures.footprint) in
     (homes, old.key, its)
 
 pub returns : goal.returns
 returns g c =
-    let initial = g.N.PhaseName.initial in
-    let old = c.args.self.now in
-    let request = c.args.request.now in
-    let homes = c.homes-homes.result in
+    let initial = g.N.PhaseName.initial in let old = c.args.self.now in
+    let request = c.args.request.now in let homes = c.homes-homes.result in
     let its = c.in_ok-begun.ensures.begun request (may_begin (length initial) old _ request homes _ c.self.view_is c.number_refusal.ensures c.in_default.is c.requires.can.goes c.homes-homes.ensures.homes c.homes-homes.ensures.footprint) in
     subst (λ (s : WorkerState). HasCommittedSome initial s c.show_whole.new.self request c.args.index) (λ i. record (c.begin.ensures.worker i) { key = old.key })
     (c.show_whole.ensures homes old.key its)

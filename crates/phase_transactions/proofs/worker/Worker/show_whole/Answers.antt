@@ -9,8 +9,7 @@ put_view-requires-clause-begun g c = c.requires.begun
 
 pub put_view-requires-clause-shown : goal.put_view-requires-clause-shown
 put_view-requires-clause-shown g c =
-    let took = c.args.begun.taken in
-    let request = c.args.call.request.now in
+    let took = c.args.begun.taken in let request = c.args.call.request.now in
     subst (λ (look : Look). IsShownBy took request look c.of.result) (sym c.look_of.ensures)
     (subst (λ (reply : Reply). IsShownBy took request (look_for request) reply) (sym c.of.ensures) c.view_on-reply.ensures)
 

@@ -17,9 +17,7 @@ of_err (Err e) is p = p
 
 pub returns-in-Some : goal.returns-in-Some
 returns-in-Some g c =
-    let initial = g.N.PhaseName.initial in
-    let old = c.args.self.now in
-    let can = c.requires.can in
+    let initial = g.N.PhaseName.initial in let old = c.args.self.now in let can = c.requires.can in
     let request = c.args.request.now in
     let refused : number_refusal old.opening request ≡ Some c.in-Some.reason = sym (ap (λ (w : WorkerState). number_refusal w.opening request) c.self.view_is) ∙ sym c.number_refusal.ensures ∙ c.in-Some.is in
     stored_performed initial old c.refuse.new.self request c.args.index can.idle c.refuse.result c.refuse.ensures
@@ -27,9 +25,7 @@ returns-in-Some g c =
 
 pub returns-in-None-None : goal.returns-in-None-None
 returns-in-None-None g c =
-    let initial = g.N.PhaseName.initial in
-    let old = c.args.self.now in
-    let can = c.requires.can in
+    let initial = g.N.PhaseName.initial in let old = c.args.self.now in let can = c.requires.can in
     let request = c.args.request.now in
     let allowed : number_refusal old.opening request ≡ None = sym (ap (λ (w : WorkerState). number_refusal w.opening request) c.self.view_is) ∙ sym c.number_refusal.ensures ∙ c.in_default.is in
     stored_performed initial old c.store_hot.new.self request c.args.index can.idle c.store_hot.result c.store_hot.ensures
@@ -39,39 +35,31 @@ returns-in-None-None g c =
 
 pub returns-in_err-begun : goal.returns-in_err-begun
 returns-in_err-begun g c =
-    let initial = g.N.PhaseName.initial in
-    let old = c.args.self.now in
-    let request = c.args.request.now in
-    let homes = c.homes-homes.result in
+    let initial = g.N.PhaseName.initial in let old = c.args.self.now in
+    let request = c.args.request.now in let homes = c.homes-homes.result in
     fault_performed initial old c.begin.new.self request c.args.index c.from_residual.result c.in_err-begun.field-0.0 c.from_residual.ensures.1
     (c.in_err-begun.ensures.full request (may_begin (length initial) old _ request homes _ c.self.view_is c.number_refusal.ensures c.in_default.is c.requires.can.goes c.homes-homes.ensures.homes c.homes-homes.ensures.footprint))
 
 pub prepare-requires : goal.prepare-requires
 prepare-requires g c =
-    let initial = g.N.PhaseName.initial in
-    let old = c.args.self.now in
-    let request = c.args.request.now in
-    let homes = c.homes-homes.result in
+    let initial = g.N.PhaseName.initial in let old = c.args.self.now in
+    let request = c.args.request.now in let homes = c.homes-homes.result in
     let step = step_of initial g.N.PhaseName.workers c.args.boxes.now old.key homes in
     let its = c.in_ok-begun.ensures.begun request (may_begin (length initial) old _ request homes _ c.self.view_is c.number_refusal.ensures c.in_default.is c.requires.can.goes c.homes-homes.ensures.homes c.homes-homes.ensures.footprint) in
     record { begun = item_first step c.begin.new.self request c.in_ok-begun.begun its (subst IsLawfulWorker c.self-2.view_is c.self-2.invariant.lawful) }
 
 pub put_back-requires : goal.put_back-requires
 put_back-requires g c =
-    let initial = g.N.PhaseName.initial in
-    let old = c.args.self.now in
-    let request = c.args.request.now in
-    let homes = c.homes-homes.result in
+    let initial = g.N.PhaseName.initial in let old = c.args.self.now in
+    let request = c.args.request.now in let homes = c.homes-homes.result in
     let its = c.in_ok-begun.ensures.begun request (may_begin (length initial) old _ request homes _ c.self.view_is c.number_refusal.ensures c.in_default.is c.requires.can.goes c.homes-homes.ensures.homes c.homes-homes.ensures.footprint) in
     let begun = begun_before c.in_ok-begun.begun c.prepare.new.begun c.prepare.ensures.same c.prepare.ensures.number its in
     subst (λ (s : WorkerState). AreHeldAll initial g.N.PhaseName.workers c.args.boxes.now s.key (held_in c.prepare.new.begun.taken)) (sym c.self-2.view_is) begun.held
 
 pub returns-then-is_err : goal.returns-then-is_err
 returns-then-is_err g c =
-    let initial = g.N.PhaseName.initial in
-    let old = c.args.self.now in
-    let request = c.args.request.now in
-    let homes = c.homes-homes.result in
+    let initial = g.N.PhaseName.initial in let old = c.args.self.now in
+    let request = c.args.request.now in let homes = c.homes-homes.result in
     let step = step_of initial g.N.PhaseName.workers c.args.boxes.now old.key homes in
     let its = c.in_ok-begun.ensures.begun request (may_begin (length initial) old _ request homes _ c.self.view_is c.number_refusal.ensures c.in_default.is c.requires.can.goes c.homes-homes.ensures.homes c.homes-homes.ensures.footprint) in
     let begun = begun_before c.in_ok-begun.begun c.prepare.new.begun c.prepare.ensures.same c.prepare.ensures.number its in
@@ -84,19 +72,15 @@ returns-then-is_err g c =
 
 pub put_store-requires-clause-begun : goal.put_store-requires-clause-begun
 put_store-requires-clause-begun g c =
-    let initial = g.N.PhaseName.initial in
-    let old = c.args.self.now in
-    let request = c.args.request.now in
-    let homes = c.homes-homes.result in
+    let initial = g.N.PhaseName.initial in let old = c.args.self.now in
+    let request = c.args.request.now in let homes = c.homes-homes.result in
     let its = c.in_ok-begun.ensures.begun request (may_begin (length initial) old _ request homes _ c.self.view_is c.number_refusal.ensures c.in_default.is c.requires.can.goes c.homes-homes.ensures.homes c.homes-homes.ensures.footprint) in
     (old.key, begun_before c.in_ok-begun.begun c.prepare.new.begun c.prepare.ensures.same c.prepare.ensures.number its)
 
 pub refusal-refused-requires : goal.refusal-refused-requires
 refusal-refused-requires g c =
-    let initial = g.N.PhaseName.initial in
-    let old = c.args.self.now in
-    let request = c.args.request.now in
-    let homes = c.homes-homes.result in
+    let initial = g.N.PhaseName.initial in let old = c.args.self.now in
+    let request = c.args.request.now in let homes = c.homes-homes.result in
     let step = step_of initial g.N.PhaseName.workers c.args.boxes.now old.key homes in
     let its = c.in_ok-begun.ensures.begun request (may_begin (length initial) old _ request homes _ c.self.view_is c.number_refusal.ensures c.in_default.is c.requires.can.goes c.homes-homes.ensures.homes c.homes-homes.ensures.footprint) in
     let begun = begun_before c.in_ok-begun.begun c.prepare.new.begun c.prepare.ensures.same c.prepare.ensures.number its in
@@ -107,10 +91,8 @@ refusal-refused-requires g c =
 
 pub put_store-requires-clause-answered : goal.put_store-requires-clause-answered
 put_store-requires-clause-answered g c =
-    let initial = g.N.PhaseName.initial in
-    let old = c.args.self.now in
-    let request = c.args.request.now in
-    let homes = c.homes-homes.result in
+    let initial = g.N.PhaseName.initial in let old = c.args.self.now in
+    let request = c.args.request.now in let homes = c.homes-homes.result in
     let its = c.in_ok-begun.ensures.begun request (may_begin (length initial) old _ request homes _ c.self.view_is c.number_refusal.ensures c.in_default.is c.requires.can.goes c.homes-homes.ensures.homes c.homes-homes.ensures.footprint) in
     let refused = c.refusal-refused.ensures in record {
       seen = refused.seen;
@@ -120,10 +102,8 @@ put_store-requires-clause-answered g c =
 
 pub returns : goal.returns
 returns g c =
-    let initial = g.N.PhaseName.initial in
-    let old = c.args.self.now in
-    let request = c.args.request.now in
-    let homes = c.homes-homes.result in
+    let initial = g.N.PhaseName.initial in let old = c.args.self.now in
+    let request = c.args.request.now in let homes = c.homes-homes.result in
     let its = c.in_ok-begun.ensures.begun request (may_begin (length initial) old _ request homes _ c.self.view_is c.number_refusal.ensures c.in_default.is c.requires.can.goes c.homes-homes.ensures.homes c.homes-homes.ensures.footprint) in
     let begun = begun_before c.in_ok-begun.begun c.prepare.new.begun c.prepare.ensures.same c.prepare.ensures.number its in
     let reply = reply_of c.reply-reply.result in

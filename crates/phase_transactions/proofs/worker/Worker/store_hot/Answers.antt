@@ -7,8 +7,7 @@ use Rattle.auction_rows.specs.StoreReplies.{reply_of}
 
 pub returns : goal.returns
 returns g c =
-    let w = c.args.self.now in
-    let reply = reply_of c.reply-reply.result in
+    let w = c.args.self.now in let reply = reply_of c.reply-reply.result in
     hot_stored w c.add_store.new.self c.in_ok-number.number c.args.call.index c.args.call.request.now reply
     (λ shards. hot_answered w shards c.requires.homes.0 c.args.call.index c.args.call.request.now c.args.homes.now reply c.fixed.result c.requires.store c.requires.goes c.requires.homes.1 c.requires.hot c.fixed.ensures
     (reply_by w c.fixed.result c.args.call.request.now c.refusal_with-refused.result reply c.requires.allowed c.refusal_with-refused.ensures c.reply-reply.ensures))

@@ -4,8 +4,7 @@ use Rattle.published_parts.proofs.parts.Prefix.add.Goals as goal
 
 pub compare_exchange-found-requires : goal.compare_exchange-found-requires
 compare_exchange-found-requires g c =
-    let h = c.count.invariant in
-    let offer = c.plain-offer.ensures in
+    let h = c.count.invariant in let offer = c.plain-offer.ensures in
     let pen = c.no_pen-pen.ensures in (
       ap (λ w. w.tracked) h,
       c.self.invariant.1 ∙ sym (ap (λ w. w.book) h),

@@ -28,8 +28,7 @@ invariant_of-self c =
 
 pub returns : goal.returns
 returns c =
-    let k = c.self.inside in
-    let kept = c.keep_request-short in
+    let k = c.self.inside in let kept = c.keep_request-short in
     let requests =
     pushed_requests k.facts.items (facts_in c.args.request.now) kept.new.all.items k.requests.items c.push_reserved.new.self.items kept.result c.args.request.now c.self.invariant.0
     kept.ensures.kept c.push_reserved.ensures.items kept.ensures.says in

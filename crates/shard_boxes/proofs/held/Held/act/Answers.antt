@@ -6,8 +6,7 @@ use Rattle.shard_boxes.proofs.held.Held.act.Goals as goal
 
 pub returns-clause-after : goal.returns-clause-after
 returns-clause-after g c =
-    let new = c.apply_acts.new.self in
-    let made = c.apply_acts.ensures in
+    let new = c.apply_acts.new.self in let made = c.apply_acts.ensures in
     let line = line_of c.of.result.value c.of-2.result.value c.of-4.result.value c.of-3.result.value in
     subst (λ (h : HeldState). state_of new ≡ after_line (state_of h.shard) line) c.self.view_is
     (line_done c.self.inside.shard c.args.number c.args.index c.args.acts.now line

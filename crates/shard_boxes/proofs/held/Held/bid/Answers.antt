@@ -29,10 +29,8 @@ returns-clause-follows g c =
 
 pub returns-clause-after : goal.returns-clause-after
 returns-clause-after g c =
-    let old = c.self.inside.shard in
-    let new = c.set_clock.new.self in
-    let tried = c.try_bid-refused in
-    let clocked = c.set_clock.ensures in
+    let old = c.self.inside.shard in let new = c.set_clock.new.self in
+    let tried = c.try_bid-refused in let clocked = c.set_clock.ensures in
     let acts = c.of-3.ensures ∙ c.bid_acts-acts.ensures in
     let line = line_of c.of.result.value c.of-2.result.value c.of-3.result.value c.of-found.result.value in
     subst (λ (h : HeldState). state_of new ≡ after_line (state_of h.shard) line) c.self.view_is

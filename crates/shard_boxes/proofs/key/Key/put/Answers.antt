@@ -9,8 +9,7 @@ use Rattle.shard_boxes.proofs.key.Key.put.Goals as goal
 
 pub put-requires : goal.put-requires
 put-requires g c =
-    let inside = c.self.inside in
-    let grants = inside.grants.items in
+    let inside = c.self.inside in let grants = inside.grants.items in
     let grant = c.index_mut-grant.result.now in
     let below : c.args.s < length grants = subst (λ n. c.args.s < n) (sym (sym inside.grants.ok.0 ∙ c.self.invariant.1)) c.requires.known in
     let at = c.index_mut-grant.ensures.value in
@@ -24,11 +23,9 @@ put-requires g c =
 
 pub returns : goal.returns
 returns g c =
-    let inside = c.self.inside in
-    let grant = c.index_mut-grant.result.now in
+    let inside = c.self.inside in let grant = c.index_mut-grant.result.now in
     let below : c.args.s < length inside.grants.items = omega (arith, inside.grants.ok.0, c.self.invariant.1, c.requires.known) in
-    let fit = c.self.invariant.2 c.args.s grant below in
-    let is = c.self.view_is in
+    let fit = c.self.invariant.2 c.args.s grant below in let is = c.self.view_is in
     let at = c.index_mut-grant.ensures.value in
     let first = ap (λ (l : GrantState). l.knows.first) at ∙ fit.from in
     let alone = ap (λ (l : GrantState). length l.knows.own) at ∙ fit.as_many in
@@ -38,11 +35,9 @@ returns g c =
 
 pub invariant_of-self : goal.invariant_of-self
 invariant_of-self g c =
-    let inside = c.self.inside in
-    let grant = c.index_mut-grant.result.now in
+    let inside = c.self.inside in let grant = c.index_mut-grant.result.now in
     let below : c.args.s < length inside.grants.items = omega (arith, inside.grants.ok.0, c.self.invariant.1, c.requires.known) in
-    let fit = c.self.invariant.2 c.args.s grant below in
-    let at = c.index_mut-grant.ensures.value in
+    let fit = c.self.invariant.2 c.args.s grant below in let at = c.index_mut-grant.ensures.value in
     let new = c.put.ensures in (
       c.self.invariant.0,
       c.self.invariant.1,

@@ -8,8 +8,7 @@ use Rattle.shard_boxes.proofs.key.Key.take.Goals as goal
 
 pub returns-clause-key : goal.returns-clause-key
 returns-clause-key g c =
-    let inside = c.self.inside in
-    let grant = c.index_mut-grant.result.now in
+    let inside = c.self.inside in let grant = c.index_mut-grant.result.now in
     let lines = c.take.new.grant.knows.seen in
     let below : c.args.s < length inside.grants.items = omega (arith, inside.grants.ok.0, c.self.invariant.1, c.requires.known) in
     let knows = c.take.ensures.taken.view in
@@ -26,10 +25,8 @@ returns-clause-holds g c =
 pub returns-clause-history : goal.returns-clause-history
 returns-clause-history g c =
     let initial = g.N.PhaseName.initial in let workers = g.N.PhaseName.workers in
-    let inside = c.self.inside in
-    let grant = c.index_mut-grant.result.now in
-    let at = c.index_mut-grant.ensures.value in
-    let taken = c.take.ensures.taken in
+    let inside = c.self.inside in let grant = c.index_mut-grant.result.now in
+    let at = c.index_mut-grant.ensures.value in let taken = c.take.ensures.taken in
     let below : c.args.s < length inside.grants.items = omega (arith, inside.grants.ok.0, c.self.invariant.1, c.requires.known) in
     let fit = c.self.invariant.2 c.args.s grant below in
     subst (λ lines. IsShardHistory initial workers c.args.s lines (state_of c.take.result)) (sym (seen_after inside.worker c.args.s inside.grants.items c.take.new.grant below))
@@ -38,8 +35,7 @@ returns-clause-history g c =
 
 pub returns-clause-later : goal.returns-clause-later
 returns-clause-later g c =
-    let inside = c.self.inside in
-    let grant = c.index_mut-grant.result.now in
+    let inside = c.self.inside in let grant = c.index_mut-grant.result.now in
     let taken = c.take.ensures.taken in
     let below : c.args.s < length inside.grants.items = omega (arith, inside.grants.ok.0, c.self.invariant.1, c.requires.known) in
     let seen = seen_after inside.worker c.args.s inside.grants.items c.take.new.grant below in
@@ -48,10 +44,8 @@ returns-clause-later g c =
 
 pub returns-clause-own : goal.returns-clause-own
 returns-clause-own g c =
-    let inside = c.self.inside in
-    let grant = c.index_mut-grant.result.now in
-    let taken = c.take.ensures.taken in
-    let at = c.index_mut-grant.ensures.value in
+    let inside = c.self.inside in let grant = c.index_mut-grant.result.now in
+    let taken = c.take.ensures.taken in let at = c.index_mut-grant.ensures.value in
     let below : c.args.s < length inside.grants.items = omega (arith, inside.grants.ok.0, c.self.invariant.1, c.requires.known) in
     let fit = c.self.invariant.2 c.args.s grant below in
     let seen = seen_after inside.worker c.args.s inside.grants.items c.take.new.grant below in

@@ -13,8 +13,7 @@ index-requires c =
 
 pub returns : goal.returns
 returns c =
-    let h = c.self.inside in
-    let same = as_many_asked h.asked h.heads.items c.self.invariant in
+    let h = c.self.inside in let same = as_many_asked h.asked h.heads.items c.self.invariant in
     let within = within_heads (requests_of h.asked h.heads.items) h.heads.items c.args.place same (subst (λ (l : HeadList). c.args.place < length l.heads) (sym c.self.view_is) c.requires) in
     subst (λ (l : HeadList). slice_get (map head_in l.heads) c.args.place ≡ Some c.index.result.now) c.self.view_is
     (ap (λ hs. slice_get hs c.args.place) (heads_alone (requests_of h.asked h.heads.items) h.heads.items same)

@@ -20,8 +20,7 @@ request-requires c =
 
 pub returns : goal.returns
 returns c =
-    let h = c.self.inside in
-    let same = as_many_asked h.asked h.heads.items c.self.invariant in
+    let h = c.self.inside in let same = as_many_asked h.asked h.heads.items c.self.invariant in
     let within = within_heads (requests_of h.asked h.heads.items) h.heads.items c.args.place same (subst (λ (l : HeadList). c.args.place < length l.heads) (sym c.self.view_is) c.requires) in
     let here = slice_get_read h.heads.items (length h.heads.items) c.args.place _ refl within c.index.ensures in
     subst (λ (l : HeadList). slice_get (map request_in l.heads) c.args.place ≡ Some c.request.result) c.self.view_is

@@ -19,8 +19,7 @@ loop-self-init c =
 
 pub loop-self-preserved : goal.loop-self-preserved
 loop-self-preserved c =
-    let e = c.loop-self.self-inside in
-    let own = c.from_own-own.result.now in
+    let e = c.loop-self.self-inside in let own = c.from_own-own.result.now in
     let rest = journals_of c.in-Some.rest.now in
     let none = sym c.entry_of.ensures.entry ∙ none_of _ c.is_none.result c.is_none.ensures c.loop-self-test.true in
     let parts =

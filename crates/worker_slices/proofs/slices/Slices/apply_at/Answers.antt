@@ -19,8 +19,7 @@ apply_to-requires g c = few_there MOST_COMMITS c.self.inside.hot.entries c.in-Sl
 
 pub invariant_of-self-2 : goal.invariant_of-self-2
 invariant_of-self-2 g c =
-    let hots = c.self.inside.hot.entries in
-    let old = c.in-Some.hot.now in
+    let hots = c.self.inside.hot.entries in let old = c.in-Some.hot.now in
     let new = record old { slice = c.apply_to.new.slice } in (
       still_stocked hots (set_value_at hots c.in-Slice.place new) c.in-Slice.place old new refl c.in-Some.ensures.value refl c.self.invariant.0,
       subst (AreGuessed c.self.inside.guesses.places) (sym (same_names hots c.in-Slice.place new)) c.self.invariant.1,
@@ -28,8 +27,7 @@ invariant_of-self-2 g c =
 
 pub returns : goal.returns
 returns g c object shards is =
-    let hots = c.self.inside.hot.entries in
-    let old = c.in-Some.hot.now in
+    let hots = c.self.inside.hot.entries in let old = c.in-Some.hot.now in
     let new = record old { slice = c.apply_to.new.slice } in
     write_seen object (g.O.Operation.applied c.args.operation) hots c.args.self.now (set_value_at hots c.in-Slice.place new) c.in-Slice.place old new
     c.self.view_is c.get_index_mut.ensures.unique (rw c.in-Slice.is at is).0 c.in-Some.ensures.value (λ i. record old { slice = c.apply_to.ensures i }) refl

@@ -9,8 +9,7 @@ use Rattle.phase_laws.proofs.ListLemmas.{all-left}
 
 pub invariant_of-self-2 : goal.invariant_of-self-2
 invariant_of-self-2 c =
-    let rest = c.pop.new.self.entries in
-    let last = option_to_list c.pop.result in
+    let rest = c.pop.new.self.entries in let last = option_to_list c.pop.result in
     let guesses = c.self.inside.guesses.places in (
       all-left IsStocked (stocks_of rest) (stocks_of last)
           (subst (AllByRecursion IsStocked) (ap stocks_of c.pop.ensures.entries ∙ stocks-append rest last) c.self.invariant.0),

@@ -18,8 +18,7 @@ invariant_of-self c =
 
 pub returns-clause-added : goal.returns-clause-added
 returns-clause-added c =
-    let stored = c.self.inside.stored in
-    let performed = c.self.inside.performed in
+    let stored = c.self.inside.stored in let performed = c.self.inside.performed in
     ap (drop performed) c.push_reserved.ensures.items
     ∙ drop-append-le performed stored.items ((c.args.index, c.args.request) ∷ []) (omega (arith, c.self.invariant.0, stored.ok.0))
     ∙ ap (λ (stash : StashState). stash.requests ++ (c.args.index, c.args.request) ∷ []) c.self.view_is
