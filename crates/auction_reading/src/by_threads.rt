@@ -1,6 +1,5 @@
 //! The rows and scripts of a whole input, read by threads.
-ghost use Rattle.std.specs.Prelude.{◌≡◌, ◌<◌, vec_len, IfErr, IfOk, IfSome};
-ghost use Rattle.std.specs.Thread.{IsSync};
+ghost use Rattle.std.specs.{Prelude.{◌≡◌, ◌<◌, vec_len, IfErr, IfOk, IfSome}, Thread.{IsSync}};
 ghost use Rattle.record_reading.specs.{Asking.{asked_of}, Reading.{HasNoInputFault, IsInputFault}};
 ghost use Rattle.auction_reading.specs.Scripts.{input_of};
 

@@ -7,8 +7,8 @@ ghost use Rattle.auction_rows.specs.declared.{rows.Entry.{Entry}, values.Opening
 ghost use Rattle.phase_floor.specs.States.{IsBookOf, JoinedState};
 ghost use Rattle.run_phases.specs.Boards.{IsUpToDate};
 ghost use Rattle.auction_run.specs.GoingOn.{AnswersNextRun, GivesBack, HasShownFirstNext, HasShownNext, IsReadyFor};
-ghost use Rattle.auction_run.specs.inner.Shown.{AnswersShownNext};
 ghost use Rattle.auction_run.specs.Parts.{ArePartsFrom, HaveLeft, book_after_parts, history_of};
+ghost use Rattle.auction_run.specs.inner.Shown.{AnswersShownNext};
 
 use crate::checks::{Stopped, check_on};
 use crate::scripts::{Scripts, share};

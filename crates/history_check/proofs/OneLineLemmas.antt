@@ -4,10 +4,10 @@ use Rattle.std.proofs.lemmas.{Bool.{eqb-true, and_from}, List.Elements.{All-head
 use Rattle.std.proofs.lemmas.List.Folds.{list_all-append}
 use Rattle.std.specs.Fmt.{signed_decimal, digits, digits_onto, digit_glyph}
 use Rattle.std.specs.{List.{flat_map, list_all, All}, Prelude.{decimal, codes, nat_lt}}
-use Rattle.auction_rows.specs.{Name.{IsPrinting}, declared.replies.Refusal.TheVariants.{NoSuchUser}}
+use Rattle.auction_rows.specs.{Name.{IsPrinting}, Refusals.{refusal_text}}
+use Rattle.auction_rows.specs.declared.replies.Refusal.TheVariants.{NoSuchUser}
 use Rattle.auction_rows.specs.declared.replies.Reply.TheVariants.{ItemStored, BidStored, CommentStored, Bought, ItemSeen, BidsSeen, CategorySeen, UserSeen, Refused}
 use Rattle.auction_rows.specs.declared.replies.{Refusal.Refusal, Reply.Reply, BidShown.BidShown, ItemShown.ItemShown}
-use Rattle.auction_rows.specs.Refusals.{refusal_text}
 use Rattle.auction_text.specs.Replies.{facts_text, state_text, bid_text, item_text, score_text, reply_text}
 use Rattle.byte_texts.specs.Labels.{id_text, optional_text, labelled, labelled_optional, labelled_id}
 use Rattle.history_check.specs.Texts.{ShowsName}

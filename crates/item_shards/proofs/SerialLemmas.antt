@@ -10,8 +10,7 @@ use Rattle.auction_rows.proofs.RefusalLemmas.{refusal-split}
 use Rattle.auction_rows.specs.Book.{Book, as_item, as_bid, as_comment, as_buy, facts_of, item_entry}
 use Rattle.auction_rows.specs.History.{commit, commit_of, after_entry, GoOn, IsBook}
 use Rattle.auction_rows.specs.Refusals.{number_refusal, item_refusal, refusal, facts_for, left_for}
-use Rattle.auction_rows.specs.Replies.{reply, row_of}
-use Rattle.auction_rows.specs.Requests.{is_view, item_of, shard_of}
+use Rattle.auction_rows.specs.{Replies.{reply, row_of}, Requests.{is_view, item_of, shard_of}}
 use Rattle.auction_rows.specs.declared.requests.Object.TheVariants.{Item, User, Category}
 use Rattle.auction_rows.specs.declared.requests.Request.TheVariants.{ViewItem, ViewBids, ViewCategory, ViewUser}
 use Rattle.auction_rows.specs.declared.{values.Opening.Opening, requests.ItemId.ItemId, requests.Facts.Facts, requests.Object.Object, requests.Request.Request, replies.Reply.Reply, rows.ItemRow.ItemRow, rows.BidRow.BidRow, rows.CommentRow.CommentRow, rows.BuyRow.BuyRow, rows.Row.Row}
@@ -24,8 +23,7 @@ use Rattle.item_shards.proofs.StandingLemmas.{cold_here, row_stands}
 use Rattle.item_shards.specs.{Acting.{CanActOn, HasRoomFor}, Contents.{Contents, after_acts}}
 use Rattle.item_shards.specs.Counting.{stored_by, worker_of, counted, AreFew}
 use Rattle.item_shards.specs.{Events.{AddItem, ListItem}, Limits.{IsWithinLimits}}
-use Rattle.item_shards.specs.{Serial.{HoldsBook}, Standing.{ContentsStandsFor}}
-use Rattle.item_shards.specs.Values.{stock_in}
+use Rattle.item_shards.specs.{Serial.{HoldsBook}, Standing.{ContentsStandsFor}, Values.{stock_in}}
 use Rattle.item_shards.specs.Writing.{writes_of, writes_if, is_done_on, done_on}
 use Rattle.item_shards.specs.declared.serial.SerialAuction.{SerialAuction}
 use Rattle.item_shards.specs.declared.serial.StoreCounts.{StoreCounts}

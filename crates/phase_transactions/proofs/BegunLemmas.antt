@@ -19,8 +19,8 @@ use Rattle.phase_transactions.specs.Performing.{HasCommitted, HasFailed, HasPerf
 use Rattle.phase_transactions.specs.Putting.{HasPutAll}
 use Rattle.phase_transactions.specs.Txns.{IsReplyTo, IsAnswered, is_put_off, refusal_by, ReadSet}
 use Rattle.phase_transactions.specs.Workers.{WorkerState, IsLawfulWorker, setting_of, next_item, txn_of, after_commit}
-use Rattle.phase_transactions.specs.declared.deeds.Deeds.{Deeds}
-use Rattle.phase_transactions.specs.declared.done.PermitFault.{TheVariants.{Memory}, PermitFault}
+use Rattle.phase_transactions.specs.declared.{deeds.Deeds.{Deeds}, done.PermitFault.{PermitFault}}
+use Rattle.phase_transactions.specs.declared.done.PermitFault.TheVariants.{Memory}
 use Rattle.phase_transactions.specs.declared.taken.Begun.{Begun}
 use Rattle.phase_transactions.specs.inner.Begun.{Step, FirstHas, HasBegun, HasFirst, HasRoomFor, IsAnsweredOn, IsSeen, MayBegin}
 use Rattle.phase_transactions.specs.inner.Deeds.{IsReplyBy, IsNextIf, AreDeedsOf, AreGoodOn, acts_for, event_with, found_on, written_of, footprint_on}
@@ -28,7 +28,7 @@ use Rattle.phase_transactions.specs.inner.{HeldShards.{written_acts, IsAsTaken},
 use Rattle.phase_transactions.specs.inner.Takens.{footprint_of, held_in, numbers_of, is_one_of, dealt, line_among, CanBeDoneOnAll, AreBack}
 use Rattle.worker_slices.specs.Homes.{IsHomeOf, shard_at}
 use Rattle.worker_slices.specs.Slicing.{hot_objects, stocks_of, stock_of}
-use Rattle.worker_slices.specs.declared.{homes.Home.{Home}, homes.Homes.{Homes}, slices.Hot.{Hot}}
+use Rattle.worker_slices.specs.declared.{homes.{Home.{Home}, Homes.{Homes}}, slices.Hot.{Hot}}
 use Rattle.worker_slices.specs.declared.homes.Home.TheVariants as home
 
 -- a request may begin that the opening does not refuse

@@ -25,8 +25,7 @@ use Rattle.phase_transactions.specs.inner.Deeds.{IsReplyBy, IsReplyUnless, AreDe
 use Rattle.phase_transactions.specs.inner.HeldShards.{IsAsTaken, IsHeldFor, IsPutWith}
 use Rattle.phase_transactions.specs.inner.Takens.{each_once, footprint_of, held_in}
 use Rattle.phase_transactions.specs.declared.taken.Taken.TheVariants as taken
-use Rattle.worker_slices.proofs.SlicedLemmas.{cold_kept}
-use Rattle.worker_slices.specs.Homes.{IsHomeOf, shard_at}
+use Rattle.worker_slices.{proofs.SlicedLemmas.{cold_kept}, specs.Homes.{IsHomeOf, shard_at}}
 use Rattle.worker_slices.specs.Slicing.{hot_objects, slice_with_bid, slices_after_acts}
 use Rattle.worker_slices.specs.declared.{homes.Home.{Home}, slices.Hot.{Hot}}
 use Rattle.worker_slices.specs.declared.homes.Home.TheVariants as home

@@ -28,8 +28,7 @@ impl<N: PhaseName> Worker<N> {
     ghost use Rattle.phase_transactions.specs.Performing.{CanTransact, HasCommitted, HasCommittedSome, HasFailed, HasPerformed, HasStoredSome, HaveOpening, StoresItem};
     ghost use Rattle.phase_transactions.specs.{Txns.{is_put_off}, Workers.{next_bid}};
     ghost use Rattle.phase_transactions.specs.inner.Begun.{step_of, HasBegun, HasFirst, HasRoomFor, IsAnsweredBy, IsOnOne, MayBegin, states_in};
-    ghost use Rattle.phase_transactions.specs.inner.Homes.{HasHomes};
-    ghost use Rattle.phase_transactions.specs.inner.Storing.{HasStoredOrIsFull};
+    ghost use Rattle.phase_transactions.specs.inner.{Homes.{HasHomes}, Storing.{HasStoredOrIsFull}};
     ghost use Rattle.phase_transactions.specs.inner.Takens.{footprint_of, IsReady};
     ghost use Rattle.phase_transactions.specs.inner.Viewing.{IsShownBy};
     ghost use Rattle.request_scripts.specs.Scripts.{request_of};

@@ -2,9 +2,8 @@
 use Rattle.std.specs.List.{filter}
 use Rattle.std.specs.Prelude.{◌≡◌, ◌<◌, ◌≤◌, ℕ, Bool, true, List, [], ◌∷◌, length, Option, Some, None, find, option_and_then, pos, string_bytes}
 use Rattle.std.specs.Str.{bytes_eq}
-use Rattle.clap.specs.{Facts.{unwrap_or_range}, Faults.{fault_of}}
-use Rattle.clap.specs.{Matches.{first_value, one_text}, Simple.{App, built, matches_of}}
-use Rattle.clap.specs.Walk.{Rule, Row, first_of, one_of}
+use Rattle.clap.specs.{Facts.{unwrap_or_range}, Faults.{fault_of}, Matches.{first_value, one_text}}
+use Rattle.clap.specs.{Simple.{App, built, matches_of}, Walk.{Rule, Row, first_of, one_of}}
 use Rattle.clap.specs.declared.builder.action.ArgAction.TheVariants.{Set}
 use Rattle.clap.specs.declared.builder.value_parser.ValueParser.TheVariants.{Signed}
 use Rattle.clap.specs.declared.parser.matches.{Found.{Found}, ValueSource.{ValueSource}}

@@ -2,8 +2,7 @@
 ghost use Rattle.std.specs.IoError.{error_kind};
 ghost use Rattle.std.specs.Prelude.{◌≡◌, IfOk, IfErr, true, map, string_bytes};
 ghost use Rattle.std.specs.declared.io.ErrorKind.{ErrorKind as IoErrorKind};
-ghost use Rattle.clap.specs.Faults.{is_simple_and_free};
-ghost use Rattle.clap.specs.Words.{kind_of, app_of, found_of};
+ghost use Rattle.clap.specs.{Faults.{is_simple_and_free}, Words.{kind_of, app_of, found_of}};
 ghost use Rattle.clap.specs.declared.error.kind.ErrorKind.{ErrorKind};
 ghost use Rattle.program_options.specs.Words.{AreTaken, FindsSaid};
 ghost use Rattle.program_options.specs.declared.words.UsageFault.{UsageFault};

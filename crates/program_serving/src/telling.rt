@@ -2,7 +2,8 @@
 ghost use Rattle.std.specs.Prelude.{◌≡◌, IfErr, IfSome, OnOk};
 ghost use Rattle.auction_text.specs.{Moved.{gone_by}, RowLines.{rows_text}};
 ghost use Rattle.byte_texts.specs.Writing.{WritesText};
-ghost use Rattle.program_serving.specs.{ServeFaults.{AreToldAt}, Serving.{AreTold, OfPart, part_text}};
+ghost use Rattle.program_serving.specs.ServeFaults.{AreToldAt};
+ghost use Rattle.program_serving.specs.Serving.{AreTold, OfPart, part_text};
 
 use auction_rows::Row;
 use auction_text::{Before, TextBlock, write_history_on, write_replies_by, write_rows};

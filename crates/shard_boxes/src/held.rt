@@ -1,14 +1,12 @@
 //! A shard out of its box, and what it allows.
-ghost use Rattle.std.specs.Borrow.{Lends, sem};
-ghost use Rattle.std.specs.Prelude.{◌≡◌, ◌+◌, ◌<◌, ◌≤◌, ◌^◌, length};
+ghost use Rattle.std.specs.{Borrow.{Lends, sem}, Prelude.{◌≡◌, ◌+◌, ◌<◌, ◌≤◌, ◌^◌, length}};
 ghost use Rattle.auction_rows.specs.declared.requests.Object.TheVariants.{Item};
 ghost use Rattle.item_shards.specs.{Acting.{CanDo}, Answering.{bid_request, refusal_with}};
 ghost use Rattle.item_shards.specs.CommitNumbers.{last_number};
 ghost use Rattle.item_shards.specs.{ShardContents.{clock, contents, LiesIn}, Values.{stock}};
 ghost use Rattle.item_shards.specs.contracts.shard.Shard.{the_row as shard_row};
 ghost use Rattle.shard_boxes.specs.Lines.{after_line, bid_acts, line_of, MayFollow};
-ghost use Rattle.shard_boxes.specs.States.{state_of};
-ghost use Rattle.shard_boxes.specs.contracts.held.Held.{the_row};
+ghost use Rattle.shard_boxes.specs.{States.{state_of}, contracts.held.Held.{the_row}};
 
 use crate::boxes::PhaseName;
 use crate::line::Trace;

@@ -6,10 +6,9 @@ use Rattle.phase_floor.specs.{Adding.{IsSameAuction, IsStartOf}, States.{JoinedS
 use Rattle.auction_text.specs.{ReadFault.{ReadFault}, RowLines.{rows_text}}
 use Rattle.auction_text.specs.ReadFault.TheVariants as read
 use Rattle.byte_texts.specs.Writing.{IsPartWritten}
-use Rattle.log_opening.specs.Opening.{AreNotRows, IsRefusedIn}
-use Rattle.log_opening.specs.{Parts.{HasNoEnd}, ReadBack.{IsInRange}}
-use Rattle.log_opening.specs.declared.opening.{LoggedAuction.{LoggedAuction}, OpenFault.{OpenFault}}
-use Rattle.log_opening.specs.declared.parts.ReadRows.{ReadRows}
+use Rattle.log_opening.specs.{Opening.{AreNotRows, IsRefusedIn}, Parts.{HasNoEnd}}
+use Rattle.log_opening.specs.{ReadBack.{IsInRange}, declared.opening.LoggedAuction.{LoggedAuction}}
+use Rattle.log_opening.specs.declared.{opening.OpenFault.{OpenFault}, parts.ReadRows.{ReadRows}}
 
 -- So far a text is read: its rows are those of a book, and their text has so many bytes.
 pub record HasRead (reading : ReadRows) (book : Book) : Type 0 where

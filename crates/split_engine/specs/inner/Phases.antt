@@ -4,8 +4,7 @@ use Rattle.std.specs.Prelude.{◌≡◌, ℕ, suc, Bool, true, false, not, ◌&&
 use Rattle.phase_laws.specs.Order.{IsOrderedBy}
 use Rattle.split_engine.specs.Rules.{Rules, most_before}
 use Rattle.split_engine.specs.Serial.{ReplaysFrom, table_after, IsWithin}
-use Rattle.split_engine.specs.Serving.{calls_before, call_of, calls_of, entries_of, count, total, IsInTurn}
-use Rattle.split_engine.specs.Serving.{IsOutcome, IsScript}
+use Rattle.split_engine.specs.Serving.{calls_before, call_of, calls_of, entries_of, count, total, IsInTurn, IsOutcome, IsScript}
 use Rattle.split_engine.specs.{Splitting.{IsSplitEntry, slices_of}, declared.entry.Entry.{Entry}}
 use Rattle.split_engine.specs.declared.{few.TheConstants.{MOST_KEYS}, state.Cursor.{Cursor}}
 

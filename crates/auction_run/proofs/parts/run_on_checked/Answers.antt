@@ -9,7 +9,8 @@ use Rattle.auction_run.specs.GoingOn.{HasShownFirstNext, HasShownNext}
 use Rattle.auction_run.specs.declared.checks.Stopped.TheVariants.{Failed}
 use Rattle.auction_run.proofs.parts.run_on_checked.Goals as goal
 use Rattle.run_phases.{proofs.BoardLemmas.{up_to_date}, specs.Beginning.{BeginsWith}}
-use Rattle.run_phases.specs.{Boards.{HasShownAfter, IsUpToDate}, Outcomes.{HasShownFirstAfter, IsOutcome}}
+use Rattle.run_phases.specs.Boards.{HasShownAfter, IsUpToDate}
+use Rattle.run_phases.specs.Outcomes.{HasShownFirstAfter, IsOutcome}
 
 pub run_from-requires-clause-begins : goal.run_from-requires-clause-begins
 run_from-requires-clause-begins g c κs within = λ cannot.

@@ -4,7 +4,8 @@ use Rattle.auction_rows.specs.{Book.{worker_of}, declared.limits.TheConstants.{M
 use Rattle.job_threads.proofs.ThreadLemmas.{err_as}
 use Rattle.item_shards.specs.OpeningBooks.{opening_of, rows_of_book}
 use Rattle.run_phases.{proofs.BoardLemmas.{none_shown, up_to_date}, specs.Beginning.{BeginsWith}}
-use Rattle.run_phases.specs.{Boards.{IsUpToDate}, Outcomes.{IsOutcome}, declared.course.Outcome.{Outcome}}
+use Rattle.run_phases.specs.{Boards.{IsUpToDate}, Outcomes.{IsOutcome}}
+use Rattle.run_phases.specs.declared.course.Outcome.{Outcome}
 use Rattle.run_phases.specs.declared.faults.RunFault.TheVariants.{Memory}
 use Rattle.auction_run.proofs.AnswerLemmas.{answered, answered_memory, no_outcome}
 use Rattle.auction_run.proofs.GoingOnLemmas.{begins_resumed, left_book, of_both}

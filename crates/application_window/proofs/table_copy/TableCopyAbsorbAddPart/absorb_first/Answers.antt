@@ -3,8 +3,8 @@ use Rattle.std.specs.List.{AllByRecursion}
 use Rattle.split_engine.specs.{Serial.{table_after}, declared.few.TheConstants.{MOST_KEYS}}
 use Rattle.application_window.proofs.Growing.{is_within, has_next, room_for}
 use Rattle.application_window.specs.Published.{AreWithin}
-use Rattle.published_parts.proofs.Prefixes.{comparable_shorter}
 use Rattle.application_window.proofs.table_copy.TableCopyAbsorbAddPart.absorb_first.Goals as goal
+use Rattle.published_parts.proofs.Prefixes.{comparable_shorter}
 
 pub perform_part-requires-clause-within : goal.perform_part-requires-clause-within
 perform_part-requires-clause-within g c =

@@ -1,8 +1,8 @@
 use Rattle.std.proofs.Common.{◌≡◌, ◌∙◌, suc, length, arith, sym, subst}
 use Rattle.item_shards.specs.Serial.{CanAdd}
 use Rattle.auction_window.{proofs.Growing.{can_add, has_next}, specs.inner.Copies.{HasPhases}}
-use Rattle.published_parts.proofs.Prefixes.{comparable_shorter}
 use Rattle.auction_window.proofs.auction_copy.AuctionCopyAbsorbAddPhase.absorb_first.Goals as goal
+use Rattle.published_parts.proofs.Prefixes.{comparable_shorter}
 
 pub add_rows-requires : goal.add_rows-requires
 add_rows-requires g c =

@@ -8,8 +8,8 @@ use Rattle.history_check.proofs.ScriptLemmas.{worker_below, index_below}
 use Rattle.history_check.proofs.TurnLemmas.{may_stand, may_not_stand, turns_more}
 use Rattle.history_check.specs.{Checking.{IsWrong}, CommitIds.{entry_with_id}, Marks.{is_marked}}
 use Rattle.history_check.specs.{Orders.{MayPrecede}, Scripts.{is_of, request_at}, Taking.{HasTaken}}
-use Rattle.history_check.specs.declared.lines.Wrong.{Wrong}
-use Rattle.history_check.specs.inner.{Lateness.{is_late}, Replaying.{HasCompared}}
+use Rattle.history_check.specs.{declared.lines.Wrong.{Wrong}, inner.Lateness.{is_late}}
+use Rattle.history_check.specs.inner.Replaying.{HasCompared}
 use Rattle.history_check.proofs.replay.Replay.perform_at.Goals as goal
 
 pub has-requires-clause-worker : goal.has-requires-clause-worker

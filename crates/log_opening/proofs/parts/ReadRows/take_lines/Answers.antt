@@ -2,7 +2,8 @@ use Rattle.std.proofs.Common.{arith, ◌≡◌, ◌-◌, ◌∙◌, ◌++◌, �
 use Rattle.auction_rows.specs.Book.{Book}
 use Rattle.log_opening.proofs.ReadingLemmas.{lines_of, moved_up, none_ends, refused_front, split_at, tells_front, tells_none, tells_some}
 use Rattle.log_opening.proofs.WholeLines.{whole_lines_are}
-use Rattle.log_opening.specs.{declared.opening.OpenFault.{OpenFault}, inner.Reading.{HasRead, IsRefusedBehind, TellsSome}}
+use Rattle.log_opening.specs.declared.opening.OpenFault.{OpenFault}
+use Rattle.log_opening.specs.inner.Reading.{HasRead, IsRefusedBehind, TellsSome}
 use Rattle.log_opening.proofs.parts.ReadRows.take_lines.Goals as goal
 use Rattle.part_log.proofs.TellingLemmas.{error_is}
 

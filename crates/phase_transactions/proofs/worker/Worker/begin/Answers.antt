@@ -1,11 +1,12 @@
 use Rattle.std.proofs.Common.{◌≤◌, length, max, sym, subst}
 use Rattle.item_shards.specs.CommitNumbers.{last_number}
-use Rattle.phase_transactions.proofs.{BegunLemmas.{may_still}, ChainLemmas.{store_fails}, TakeLemmas.{taken_held}}
-use Rattle.phase_transactions.specs.{Workers.{WorkerState}, inner.Begun.{MayBegin}}
+use Rattle.phase_transactions.proofs.{BegunLemmas.{may_still}, ChainLemmas.{store_fails}}
+use Rattle.phase_transactions.{proofs.TakeLemmas.{taken_held}, specs.Workers.{WorkerState}}
 use Rattle.phase_transactions.specs.declared.done.PermitFault.TheVariants.{NumberFull}
+use Rattle.phase_transactions.specs.inner.Begun.{MayBegin}
 use Rattle.phase_transactions.specs.inner.Takens.{footprint_of, greatest_held, held_in, HasTakenAll}
-use Rattle.worker_slices.specs.Homes.{shard_at}
 use Rattle.phase_transactions.proofs.worker.Worker.begin.Goals as goal
+use Rattle.worker_slices.specs.Homes.{shard_at}
 
 pub returns-in-None-clause-full : goal.returns-in-None-clause-full
 returns-in-None-clause-full g c = λ request may.

@@ -1,5 +1,4 @@
-use Rattle.std.proofs.Common.{◌≡◌, length, sym, ap, ◌∙◌, arith}
-use Rattle.std.proofs.lemmas.List.{length-map}
+use Rattle.std.proofs.{Common.{◌≡◌, length, sym, ap, ◌∙◌, arith}, lemmas.List.{length-map}}
 use Rattle.worker_journals.specs.{Journals.{JournalView}, inner.Entries.{entry_from}}
 use Rattle.worker_journals.proofs.journal.Journal.len.Goals as goal
 
