@@ -12,10 +12,10 @@ parts_of : (b : Bool) (r : Result Record ReadFault) (rest : Record → Result (L
     → (if b then Err fault.Long else and_then r (λ first. and_then {B = List Record} (rest first) (λ others. Ok (first ∷ others)))) ≡ Ok all
     → (first : Record) × (others : List Record) × (r ≡ Ok first) × (rest first ≡ Ok others) × (all ≡ first ∷ others)
 parts_of false (Ok first) rest all e = let (others, are, same) = others_of (rest first) e in (first, others, refl, are, same) where
-    others_of : (r : Result (List Record) ReadFault) → and_then {B = List Record} r (λ others. Ok (first ∷ others)) ≡ Ok all
-        → (others : List Record) × (r ≡ Ok others) × (all ≡ first ∷ others)
-    others_of (Ok others) e = (others, refl, cc e)
-    others_of (Err f) e = absurd (cc e)
+  others_of : (r : Result (List Record) ReadFault) → and_then {B = List Record} r (λ others. Ok (first ∷ others)) ≡ Ok all
+      → (others : List Record) × (r ≡ Ok others) × (all ≡ first ∷ others)
+  others_of (Ok others) e = (others, refl, cc e)
+  others_of (Err f) e = absurd (cc e)
 parts_of b r rest all e = absurd (cc e)
 
 -- after a request all are requests

@@ -38,12 +38,12 @@ by_index : (a b : Entry) → a.worker ≡ b.worker → comes_before a b ≡ nat_
 by_index a b own =
     let tie : nat_cmp a.worker b.worker ≡ Equal = sym (nat_cmp_is a.worker b.worker Equal own) in
     ap (λ o. is_lt (ordering_then o (nat_cmp a.index b.index))) tie ∙ index_less a.index b.index where
-    index_less : (i j : ℕ) → is_lt (nat_cmp i j) ≡ nat_lt i j
-    index_less i j = elim (cases_order i j) [
-      | inl same ↦ let no : nat_lt i j ≡ false = grind (arith, nat_tests) in ap is_lt (sym (nat_cmp_is i j Equal same)) ∙ sym no
-      | inr (inl less) ↦ let yes : nat_lt i j ≡ true = grind (arith, nat_tests) in ap is_lt (sym (nat_cmp_is i j Less less)) ∙ sym yes
-      | inr (inr more) ↦ let no : nat_lt i j ≡ false = grind (arith, nat_tests) in ap is_lt (sym (nat_cmp_is i j Greater more)) ∙ sym no
-    ]
+      index_less : (i j : ℕ) → is_lt (nat_cmp i j) ≡ nat_lt i j
+      index_less i j = elim (cases_order i j) [
+        | inl same ↦ let no : nat_lt i j ≡ false = grind (arith, nat_tests) in ap is_lt (sym (nat_cmp_is i j Equal same)) ∙ sym no
+        | inr (inl less) ↦ let yes : nat_lt i j ≡ true = grind (arith, nat_tests) in ap is_lt (sym (nat_cmp_is i j Less less)) ∙ sym yes
+        | inr (inr more) ↦ let no : nat_lt i j ≡ false = grind (arith, nat_tests) in ap is_lt (sym (nat_cmp_is i j Greater more)) ∙ sym no
+      ]
 
 not_less : (i j : ℕ) → not (nat_lt i j) ≡ nat_lt j (i + 1)
 not_less i j = elim (cases_Bool (nat_lt i j)) [

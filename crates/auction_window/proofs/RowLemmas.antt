@@ -13,9 +13,9 @@ gone_by rows added e rest left all row first is put so_far =
     ap (λ rs. rs ++ rows_of rest) put ∙ append_assoc rows (option_to_list row) (rows_of rest)
     ∙ ap (λ rs. rows ++ rs) (at row ∙ ap (λ o. cons_option o (rows_of rest)) is)
     ∙ ap (λ es. rows ++ rows_of es) (sym first) ∙ so_far where
-    at : (o : Option Row) → option_to_list o ++ rows_of rest ≡ cons_option o (rows_of rest)
-    at None = refl
-    at (Some r) = refl
+      at : (o : Option Row) → option_to_list o ++ rows_of rest ≡ cons_option o (rows_of rest)
+      at None = refl
+      at (Some r) = refl
 
 -- the rows of one entry more
 pub one_more : (es : List Entry) (i : ℕ) (e : Entry) (rows added : List Row) (row : Option Row) → i < length es → e ≡ get_or es i e → row ≡ row_of_entry e →

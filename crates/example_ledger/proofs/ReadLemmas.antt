@@ -71,13 +71,13 @@ some_at r P h x some = subst (λ o. IsSomeAnd o P) some h
 pub kind_at : (q : LedgerRequest) (text word : List ℕ) (account amount : ℕ) (result : Option LedgerRequest) (h : HasWords q text) → word ≡ h.word → account ≡ h.account → amount ≡ h.amount →
     (word ≡ codes "add" → result ≡ Some (Add account amount)) → (word ≡ codes "take" → result ≡ Some (Take account amount)) → result ≡ Some q
 kind_at q text word account amount result h w x y add take = kind_of q h.word word h.account account h.amount amount result h.kind w x y add take where
-    kind_of : (q : LedgerRequest) (known word : List ℕ) (to account small amount : ℕ) (result : Option LedgerRequest) → ((known ≡ codes "add") × (q ≡ Add to small)) ⊎ ((known ≡ codes "take") × (q ≡ Take to small)) →
-        word ≡ known → account ≡ to → amount ≡ small → (word ≡ codes "add" → result ≡ Some (Add account amount)) → (word ≡ codes "take" → result ≡ Some (Take account amount)) → result ≡ Some q
-    kind_of q known word to account small amount result (inl h) w x y add take =
-        let same : q ≡ Add to small = h.1 in
-        let got : result ≡ Some (Add account amount) = add (w ∙ h.0) in
-        cc (same, got, x, y)
-    kind_of q known word to account small amount result (inr h) w x y add take =
-        let same : q ≡ Take to small = h.1 in
-        let got : result ≡ Some (Take account amount) = take (w ∙ h.0) in
-        cc (same, got, x, y)
+  kind_of : (q : LedgerRequest) (known word : List ℕ) (to account small amount : ℕ) (result : Option LedgerRequest) → ((known ≡ codes "add") × (q ≡ Add to small)) ⊎ ((known ≡ codes "take") × (q ≡ Take to small)) →
+      word ≡ known → account ≡ to → amount ≡ small → (word ≡ codes "add" → result ≡ Some (Add account amount)) → (word ≡ codes "take" → result ≡ Some (Take account amount)) → result ≡ Some q
+  kind_of q known word to account small amount result (inl h) w x y add take =
+      let same : q ≡ Add to small = h.1 in
+      let got : result ≡ Some (Add account amount) = add (w ∙ h.0) in
+      cc (same, got, x, y)
+  kind_of q known word to account small amount result (inr h) w x y add take =
+      let same : q ≡ Take to small = h.1 in
+      let got : result ≡ Some (Take account amount) = take (w ∙ h.0) in
+      cc (same, got, x, y)

@@ -51,18 +51,18 @@ unwritten object (x ∷ xs) there none = elim (Contains-cases x xs object there)
 written : (object : Object) (xs : List Object) → 0 < how_many (λ other. same_object other object) xs → Contains xs object
 written object [] some = absurd (omega arith)
 written object (x ∷ xs) some = go (same_object x object) refl some (written object xs) where
-    go : (b : Bool) → same_object x object ≡ b → 0 < cond b 1 0 + how_many (λ other. same_object other object) xs →
-        (0 < how_many (λ other. same_object other object) xs → Contains xs object) → Contains (x ∷ xs) object
-    go true is more again = subst (Contains (x ∷ xs)) (same_object-true x object is) (Contains-first x xs)
-    go false is more again = Contains-later x xs object (again (omega arith))
+  go : (b : Bool) → same_object x object ≡ b → 0 < cond b 1 0 + how_many (λ other. same_object other object) xs →
+      (0 < how_many (λ other. same_object other object) xs → Contains xs object) → Contains (x ∷ xs) object
+  go true is more again = subst (Contains (x ∷ xs)) (same_object-true x object is) (Contains-first x xs)
+  go false is more again = Contains-later x xs object (again (omega arith))
 
 -- what a table shows of an object that is hot enough
 shown : (threshold n : ℕ) → IsSome (option_filter (nat_le threshold) (heat_shown n)) → (0 < n) × (nat_le threshold n ≡ true)
 shown threshold zero some = absurd (false≢true some)
 shown threshold (suc n) some = (omega arith, go (nat_le threshold (suc n)) some) where
-    go : (b : Bool) → IsSome (cond b (Some (suc n)) None) → b ≡ true
-    go true h = refl
-    go false h = absurd (false≢true h)
+  go : (b : Bool) → IsSome (cond b (Some (suc n)) None) → b ≡ true
+  go true h = refl
+  go false h = absurd (false≢true h)
 
 is_shown : (threshold n : ℕ) → 0 < n → nat_le threshold n ≡ true → IsSome (option_filter (nat_le threshold) (heat_shown n))
 is_shown threshold zero some le = absurd (omega arith)
@@ -71,9 +71,9 @@ is_shown threshold (suc n) some le = subst (λ b. IsSome (cond b (Some (suc n)) 
 shown_is : (threshold n m : ℕ) → if_enough threshold (heat_shown n) ≡ Some m → m ≡ n
 shown_is threshold zero m is = absurd (cc)
 shown_is threshold (suc n) m is = go (nat_le threshold (suc n)) is where
-    go : (b : Bool) → cond b (Some (suc n)) None ≡ Some m → m ≡ suc n
-    go true shown = cc
-    go false none = absurd (cc)
+  go : (b : Bool) → cond b (Some (suc n)) None ≡ Some m → m ≡ suc n
+  go true shown = cc
+  go false none = absurd (cc)
 
 filtered : (threshold : ℕ) (found : Option ℕ) → option_filter (nat_le threshold) found ≡ if_enough threshold found
 filtered threshold None = refl
@@ -123,47 +123,47 @@ module _ (es : List Entry) (objects : List Object) (table : List (Object × ℕ)
   -- the objects are those that are written and hot enough
   members : (object : Object) → Contains (map (λ c. c.object) cs) object ↔ Contains (filter (λ o. nat_le threshold (heat es o)) (objects_written es)) object
   members object = (there, back) where
-      seen : lookup (same_object object) (filter (λ row. nat_le threshold row.1) table) ≡ option_filter (nat_le threshold) (heat_shown (heat es object))
-      seen =
-          lookup-filter-values same_laws (nat_le threshold) object table has.once ∙ filtered threshold (lookup (same_object object) table)
-          ∙ heats object ∙ sym (filtered threshold (heat_shown (heat es object)))
+    seen : lookup (same_object object) (filter (λ row. nat_le threshold row.1) table) ≡ option_filter (nat_le threshold) (heat_shown (heat es object))
+    seen =
+        lookup-filter-values same_laws (nat_le threshold) object table has.once ∙ filtered threshold (lookup (same_object object) table)
+        ∙ heats object ∙ sym (filtered threshold (heat_shown (heat es object)))
 
-      heat_is : how_many (λ other. same_object other object) (objects_written es) ≡ heat es object
-      heat_is = how_many-is (λ other. same_object other object) (objects_written es)
+    heat_is : how_many (λ other. same_object other object) (objects_written es) ≡ heat es object
+    heat_is = how_many-is (λ other. same_object other object) (objects_written es)
 
-      there : Contains (map (λ c. c.object) cs) object → Contains (filter (λ o. nat_le threshold (heat es o)) (objects_written es)) object
-      there h =
-          let found = IsSome-lookup_from_Contains same_laws object (filter (λ row. nat_le threshold row.1) table) ((permuted_members (keys_of (filter (λ row. nat_le threshold row.1) table)) (map (λ c. c.object) cs) (named table threshold cs has.once rank) object).1 h) in
-          let both = shown threshold (heat es object) (subst IsSome seen found) in
-          (filter-member (λ o. nat_le threshold (heat es o)) (objects_written es) object).1
-          (written object (objects_written es) (subst (λ n. 0 < n) (sym heat_is) both.0), both.1)
+    there : Contains (map (λ c. c.object) cs) object → Contains (filter (λ o. nat_le threshold (heat es o)) (objects_written es)) object
+    there h =
+        let found = IsSome-lookup_from_Contains same_laws object (filter (λ row. nat_le threshold row.1) table) ((permuted_members (keys_of (filter (λ row. nat_le threshold row.1) table)) (map (λ c. c.object) cs) (named table threshold cs has.once rank) object).1 h) in
+        let both = shown threshold (heat es object) (subst IsSome seen found) in
+        (filter-member (λ o. nat_le threshold (heat es o)) (objects_written es) object).1
+        (written object (objects_written es) (subst (λ n. 0 < n) (sym heat_is) both.0), both.1)
 
-      positive : (n : ℕ) → (n ≡ 0 → ⊥) → 0 < n
-      positive zero other = absurd (other refl)
-      positive (suc n) other = omega arith
+    positive : (n : ℕ) → (n ≡ 0 → ⊥) → 0 < n
+    positive zero other = absurd (other refl)
+    positive (suc n) other = omega arith
 
-      back : Contains (filter (λ o. nat_le threshold (heat es o)) (objects_written es)) object → Contains (map (λ c. c.object) cs) object
-      back h =
-          let both = (filter-member (λ o. nat_le threshold (heat es o)) (objects_written es) object).0 h in
-          let some : 0 < heat es object = positive (heat es object) (λ none. unwritten object (objects_written es) both.0 (heat_is ∙ none)) in
-          (permuted_members (keys_of (filter (λ row. nat_le threshold row.1) table)) (map (λ c. c.object) cs) (named table threshold cs has.once rank) object).0
-          (Contains-keys_from_lookup same_object-true object (filter (λ row. nat_le threshold row.1) table) (subst IsSome (sym seen) (is_shown threshold (heat es object) some both.1)))
+    back : Contains (filter (λ o. nat_le threshold (heat es o)) (objects_written es)) object → Contains (map (λ c. c.object) cs) object
+    back h =
+        let both = (filter-member (λ o. nat_le threshold (heat es o)) (objects_written es) object).0 h in
+        let some : 0 < heat es object = positive (heat es object) (λ none. unwritten object (objects_written es) both.0 (heat_is ∙ none)) in
+        (permuted_members (keys_of (filter (λ row. nat_le threshold row.1) table)) (map (λ c. c.object) cs) (named table threshold cs has.once rank) object).0
+        (Contains-keys_from_lookup same_object-true object (filter (λ row. nat_le threshold row.1) table) (subst IsSome (sym seen) (is_shown threshold (heat es object) some both.1)))
 
   -- they stand in the order of the choice
   in_turn : (a b : Candidate) → a.heat.0 ≡ heat es a.object → b.heat.0 ≡ heat es b.object → is_lt (candidate_cmp b a) ≡ false → same_object a.object b.object ≡ false →
       heat_cmp es b.object a.object ≡ Less
   in_turn a b right_a right_b sorted apart = go (heat_cmp es b.object a.object) refl where
-      same_cmp : candidate_cmp b a ≡ heat_cmp es a.object b.object
-      same_cmp = λ i. ordering_then (nat_cmp (right_a i) (right_b i)) (object_cmp b.object a.object)
+    same_cmp : candidate_cmp b a ≡ heat_cmp es a.object b.object
+    same_cmp = λ i. ordering_then (nat_cmp (right_a i) (right_b i)) (object_cmp b.object a.object)
 
-      go : (r : Ordering) → heat_cmp es b.object a.object ≡ r → r ≡ Less
-      go Less is = refl
-      go Equal is =
-          let one : b.object ≡ a.object = heat_same es b.object a.object is in
-          absurd (false≢true (sym apart ∙ (same_objects a.object b.object).1 (sym one)))
-      go Greater is =
-          let less : heat_cmp es a.object b.object ≡ Less = (heat_total es).antisymm a.object b.object ∙ ap ordering_reverse is in
-          absurd (false≢true (sym sorted ∙ ap is_lt (same_cmp ∙ less)))
+    go : (r : Ordering) → heat_cmp es b.object a.object ≡ r → r ≡ Less
+    go Less is = refl
+    go Equal is =
+        let one : b.object ≡ a.object = heat_same es b.object a.object is in
+        absurd (false≢true (sym apart ∙ (same_objects a.object b.object).1 (sym one)))
+    go Greater is =
+        let less : heat_cmp es a.object b.object ≡ Less = (heat_total es).antisymm a.object b.object ∙ ap ordering_reverse is in
+        absurd (false≢true (sym sorted ∙ ap is_lt (same_cmp ∙ less)))
 
   nobody : Candidate
   nobody = record { heat = record { 0 = 0 }; object = User 0 }
@@ -171,17 +171,17 @@ module _ (es : List Entry) (objects : List Object) (table : List (Object × ℕ)
   ordered : IsDescending (heat_cmp es) (map (λ c. c.object) cs)
   ordered = descending_from_sorted (heat_cmp es) (map (λ c. c.object) cs)
       (sorted_from_all_adjacent (back_total (heat_total es)) (map (λ c. c.object) cs) (User 0) adjacent) where
-      adjacent : (k : ℕ) → k + 1 < length (map (λ (c : Candidate). c.object) cs) →
-          heat_cmp es (get_or (map (λ (c : Candidate). c.object) cs) (k + 1) (User 0)) (get_or (map (λ (c : Candidate). c.object) cs) k (User 0)) ≡ Less
-      adjacent k less =
-          let len : length (map (λ (c : Candidate). c.object) cs) ≡ length cs = length-map cs (λ (c : Candidate). c.object) in
-          let a : Candidate = get_or cs k nobody in let b : Candidate = get_or cs (k + 1) nobody in
-          let at_a : get_or (map (λ (c : Candidate). c.object) cs) k (User 0) ≡ (get_or cs k nobody).object = get_or-map (λ (c : Candidate). c.object) cs k nobody (User 0) (omega arith) in
-          let at_b : get_or (map (λ (c : Candidate). c.object) cs) (k + 1) (User 0) ≡ (get_or cs (k + 1) nobody).object = get_or-map (λ (c : Candidate). c.object) cs (k + 1) nobody (User 0) (omega arith) in
-          let apart : same_object (get_or cs k nobody).object (get_or cs (k + 1) nobody).object ≡ false =
-          (λ i. same_object (sym at_a i) (sym at_b i)) ∙ apart_from_distinct same_object (map (λ (c : Candidate). c.object) cs) k (k + 1) (User 0) (distinct table threshold cs has.once rank) (omega arith) less in
-          (λ i. heat_cmp es (at_b i) (at_a i))
-          ∙ in_turn a b (right a (Contains-get_or cs k nobody (omega arith))) (right b (Contains-get_or cs (k + 1) nobody (omega arith))) (rank.ranked k nobody (omega arith) (omega arith)) apart
+        adjacent : (k : ℕ) → k + 1 < length (map (λ (c : Candidate). c.object) cs) →
+            heat_cmp es (get_or (map (λ (c : Candidate). c.object) cs) (k + 1) (User 0)) (get_or (map (λ (c : Candidate). c.object) cs) k (User 0)) ≡ Less
+        adjacent k less =
+            let len : length (map (λ (c : Candidate). c.object) cs) ≡ length cs = length-map cs (λ (c : Candidate). c.object) in
+            let a : Candidate = get_or cs k nobody in let b : Candidate = get_or cs (k + 1) nobody in
+            let at_a : get_or (map (λ (c : Candidate). c.object) cs) k (User 0) ≡ (get_or cs k nobody).object = get_or-map (λ (c : Candidate). c.object) cs k nobody (User 0) (omega arith) in
+            let at_b : get_or (map (λ (c : Candidate). c.object) cs) (k + 1) (User 0) ≡ (get_or cs (k + 1) nobody).object = get_or-map (λ (c : Candidate). c.object) cs (k + 1) nobody (User 0) (omega arith) in
+            let apart : same_object (get_or cs k nobody).object (get_or cs (k + 1) nobody).object ≡ false =
+            (λ i. same_object (sym at_a i) (sym at_b i)) ∙ apart_from_distinct same_object (map (λ (c : Candidate). c.object) cs) k (k + 1) (User 0) (distinct table threshold cs has.once rank) (omega arith) less in
+            (λ i. heat_cmp es (at_b i) (at_a i))
+            ∙ in_turn a b (right a (Contains-get_or cs k nobody (omega arith))) (right b (Contains-get_or cs (k + 1) nobody (omega arith))) (rank.ranked k nobody (omega arith) (omega arith)) apart
 
   pub chosen : (most : ℕ) → map (λ c. c.object) (take most cs) ≡ choose es threshold most
   chosen most =

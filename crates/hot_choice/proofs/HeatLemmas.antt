@@ -53,19 +53,19 @@ module _ (passes : Object → Bool) where
   pub no_heats : HasHeatsOf passes [] []
   unfolding IsDistinct
   no_heats = record { once = tt; heats = λ object. none (passes object) } where
-      none : (b : Bool) → None ≡ (if b then heat_shown 0 else None)
-      none true = refl
-      none false = refl
+    none : (b : Bool) → None ≡ (if b then heat_shown 0 else None)
+    none true = refl
+    none false = refl
 
   pub run_passed_over : (objects : List Object) (run : Run) (table : List (Object × ℕ)) → passes run.object ≡ false → HasHeatsOf passes objects table → HasHeatsOf passes (objects ++ run_objects run) table
   run_passed_over objects run table fails has = record { once = has.once; heats = λ object. has.heats object ∙ by object (passes object) refl } where
-      other : (object : Object) → passes object ≡ true → (b : Bool) → same_object run.object object ≡ b → how_often objects object ≡ how_often objects object + cond b (suc run.more) 0
-      other object pass false apart = omega arith
-      other object pass true same = absurd (false≢true (sym fails ∙ ap passes (same_object-true run.object object same) ∙ pass))
+    other : (object : Object) → passes object ≡ true → (b : Bool) → same_object run.object object ≡ b → how_often objects object ≡ how_often objects object + cond b (suc run.more) 0
+    other object pass false apart = omega arith
+    other object pass true same = absurd (false≢true (sym fails ∙ ap passes (same_object-true run.object object same) ∙ pass))
 
-      by : (object : Object) (b : Bool) → passes object ≡ b → (if b then heat_shown (how_often objects object) else None) ≡ (if b then heat_shown (how_often (objects ++ run_objects run) object) else None)
-      by object true pass = ap heat_shown (other object pass (same_object run.object object) refl ∙ sym (often_more objects run object))
-      by object false pass = refl
+    by : (object : Object) (b : Bool) → passes object ≡ b → (if b then heat_shown (how_often objects object) else None) ≡ (if b then heat_shown (how_often (objects ++ run_objects run) object) else None)
+    by object true pass = ap heat_shown (other object pass (same_object run.object object) refl ∙ sym (often_more objects run object))
+    by object false pass = refl
 
   module _ (objects : List Object) (run : Run) (old new : List (Object × ℕ)) (pass : passes run.object ≡ true) (has : HasHeatsOf passes objects old) where
     so_far : (object : Object) → lookup (object_eq.it object) old ≡ (if passes object then heat_shown (how_often objects object) else None)
@@ -123,17 +123,17 @@ run_in_bucket runs n d counts place sum less own within is so_far bucket below =
           ∙ ap (λ b. in_bucket before bucket + cond b (suc run.more) 0) (sym (ne_eqb (bucket_of run.object) bucket (λ at. other (sym at ∙ sym own))))
           ∙ with_run
     ] where
-    run : Run
-    run = get_or runs n d
+      run : Run
+      run = get_or runs n d
 
-    before : List Object
-    before = objects_of (take n runs)
+      before : List Object
+      before = objects_of (take n runs)
 
-    nothing_added : in_bucket before bucket ≡ in_bucket before bucket + 0
-    nothing_added = omega arith
+      nothing_added : in_bucket before bucket ≡ in_bucket before bucket + 0
+      nothing_added = omega arith
 
-    with_run : in_bucket before bucket + cond (bucket_of run.object == bucket) (suc run.more) 0 ≡ in_bucket (objects_of (take (n + 1) runs)) bucket
-    with_run = sym (ap (λ os. in_bucket os bucket) (runs_taken runs n d less) ∙ counted_with (λ object. bucket_of object == bucket) before run)
+      with_run : in_bucket before bucket + cond (bucket_of run.object == bucket) (suc run.more) 0 ≡ in_bucket (objects_of (take (n + 1) runs)) bucket
+      with_run = sym (ap (λ os. in_bucket os bucket) (runs_taken runs n d less) ∙ counted_with (λ object. bucket_of object == bucket) before run)
 
 bucket_bounds : (objects : List Object) (object : Object) → how_often objects object ≤ in_bucket objects (bucket_of object)
 bucket_bounds objects object =
@@ -161,9 +161,9 @@ hot_ones_are_counted objects threshold counts table are has = record {
   once = has.once;
   heats = λ object. ap (if_enough threshold) (has.heats object) ∙ by object (may_be_hot counts threshold object) refl;
 } where
-    by : (object : Object) (b : Bool) → may_be_hot counts threshold object ≡ b →
-        if_enough threshold (if b then heat_shown (how_often objects object) else None) ≡ if_enough threshold (heat_shown (how_often objects object))
-    by object true may = refl
-    by object false less =
-        let cold : slice_index counts (bucket_of object) < threshold = leb-false threshold (slice_index counts (bucket_of object)) less in
-        sym (too_cold threshold (how_often objects object) (omega (arith, bucket_bounds objects object, are (bucket_of object) (mod_below (number_of object) 256 (omega arith)), cold)))
+  by : (object : Object) (b : Bool) → may_be_hot counts threshold object ≡ b →
+      if_enough threshold (if b then heat_shown (how_often objects object) else None) ≡ if_enough threshold (heat_shown (how_often objects object))
+  by object true may = refl
+  by object false less =
+      let cold : slice_index counts (bucket_of object) < threshold = leb-false threshold (slice_index counts (bucket_of object)) less in
+      sym (too_cold threshold (how_often objects object) (omega (arith, bucket_bounds objects object, are (bucket_of object) (mod_below (number_of object) 256 (omega arith)), cold)))

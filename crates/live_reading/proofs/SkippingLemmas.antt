@@ -29,18 +29,18 @@ pub line_goes_on : (text : List ℕ) → has_no_feed text ≡ true → Passes Li
 line_goes_on text none =
     let nothing : drop (length text) text ≡ [] = drop_all (length text) text (omega arith) in
     subst (λ (left : List ℕ). Passes Line text left false) (sym nothing) (all_of_it text none) where
-    all_of_it : (text : List ℕ) → has_no_feed text ≡ true → Passes Line text [] false
-    all_of_it text none = (
-      omega arith,
-      (
-        record { content = []; no_feed = refl; bytes_are = inr (refl, refl) },
-        λ more rest first. record {
-          content = text ++ first.content;
-          no_feed = no_feed_both text first.content none first.no_feed;
-          bytes_are = longer text more first.content rest first.bytes_are;
-        },
-      ),
-    )
+      all_of_it : (text : List ℕ) → has_no_feed text ≡ true → Passes Line text [] false
+      all_of_it text none = (
+        omega arith,
+        (
+          record { content = []; no_feed = refl; bytes_are = inr (refl, refl) },
+          λ more rest first. record {
+            content = text ++ first.content;
+            no_feed = no_feed_both text first.content none first.no_feed;
+            bytes_are = longer text more first.content rest first.bytes_are;
+          },
+        ),
+      )
 
 -- what is passed over of a text is of what a buffer holds, which is the text
 pub passes_held : (front : Front) (text held : List ℕ) (len : ℕ) (whole is : Bool) → text ≡ held → whole ≡ is → Passes front text (drop len text) whole → Passes front held (drop len held) is

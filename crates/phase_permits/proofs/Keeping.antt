@@ -15,9 +15,9 @@ use Rattle.phase_transactions.specs.Works.{Work, Explains, IsWorkOf, IsCommitOf,
 one_line : {X Y : Type 0} (p : X → Bool) (f : X → Y) (xs : List X) (x : X) (b : Bool) → p x ≡ b
     → map f (filter p (xs ++ x ∷ [])) ≡ (if b then map f (filter p xs) ++ f x ∷ [] else map f (filter p xs))
 one_line p f xs x b is = ap (map f) (filter-append p xs (x ∷ [])) ∙ map-append f (filter p xs) (filter p (x ∷ [])) ∙ go b is where
-    go : (b : Bool) → p x ≡ b → map f (filter p xs) ++ map f (cond (p x) (x ∷ []) []) ≡ (if b then map f (filter p xs) ++ f x ∷ [] else map f (filter p xs))
-    go true is = ap (λ c. map f (filter p xs) ++ map f (cond c (x ∷ []) [])) is
-    go false is = ap (λ c. map f (filter p xs) ++ map f (cond c (x ∷ []) [])) is ∙ append-nil (map f (filter p xs))
+  go : (b : Bool) → p x ≡ b → map f (filter p xs) ++ map f (cond (p x) (x ∷ []) []) ≡ (if b then map f (filter p xs) ++ f x ∷ [] else map f (filter p xs))
+  go true is = ap (λ c. map f (filter p xs) ++ map f (cond c (x ∷ []) [])) is
+  go false is = ap (λ c. map f (filter p xs) ++ map f (cond c (x ∷ []) [])) is ∙ append-nil (map f (filter p xs))
 
 -- the slices of rows, and of one more if there is one
 row_if_any : (stocks : List (Object × Option (Facts × ℕ))) (rows : Book) (one : Option Row) → slices_of stocks (rows ++ option_to_list one) ≡ slices_after_acts (slices_of stocks rows) (writes_if one)

@@ -31,10 +31,10 @@ module _ {N : Type 0} (initial : List ShardState) (workers : ℕ) (key : KeyStat
   pub first_has : (item : ItemId) (t : ℕ) → IsHomeOf hots (length initial) (Item item) h → shard_at h ≡ Some t → numbers_of (held_in took) ≡ each_once (shard_at h) (shard_at k) → AllByRecursion (IsAsTaken initial workers key) (held_in took)
       → FirstHas took item
   first_has item t at is numbers all = go took numbers all where
-      go : (its : Taken N) → numbers_of (held_in its) ≡ each_once (shard_at h) (shard_at k) → AllByRecursion (IsAsTaken initial workers key) (held_in its) → FirstHas its item
-      go taken.Nothing numbers all = tt
-      go (taken.One one) numbers all = lies_first one item t at is all.0 (number_is one.number (shard_at h) (shard_at k) t (in_one one.number (shard_at h) (shard_at k) numbers) is)
-      go (taken.Two one other) numbers all = let lies = in_two one.number other.number (shard_at h) (shard_at k) numbers in lies_first one item t at is all.0 (cc (lies.0, is))
+    go : (its : Taken N) → numbers_of (held_in its) ≡ each_once (shard_at h) (shard_at k) → AllByRecursion (IsAsTaken initial workers key) (held_in its) → FirstHas its item
+    go taken.Nothing numbers all = tt
+    go (taken.One one) numbers all = lies_first one item t at is all.0 (number_is one.number (shard_at h) (shard_at k) t (in_one one.number (shard_at h) (shard_at k) numbers) is)
+    go (taken.Two one other) numbers all = let lies = in_two one.number other.number (shard_at h) (shard_at k) numbers in lies_first one item t at is all.0 (cc (lies.0, is))
 
 -- so what the first has is what the item's shard has
 not_second : (one other : ℕ) (a b : Option ℕ) → one ∷ other ∷ [] ≡ each_once a b → a ≡ Some other → ⊥

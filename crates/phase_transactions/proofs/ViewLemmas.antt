@@ -145,16 +145,16 @@ module _ {N : Type 0} (step : Step) (w : WorkerState) (request : Request) (b : B
   -- it took one shard, which can show what it asks for
   pub on_one : HaveOpening initial w.opening → IsOnOne request took
   on_one openings = go took begun.taken.taken (begun.taken.numbers ∙ its_home.1.only n its_shard.1) where
-      go : (its : Taken N) → AllByRecursion (IsAsTaken initial step.workers w.key) (held_in its) → numbers_of (held_in its) ≡ n ∷ [] → IsOnOne request its
-      go (taken.One one) all numbers =
-          let number : one.number ≡ n = (cc) in
-          let lies : LiesIn one.shard object =
-          ap (shard_of object) all.0.shards_is ∙ sym (home_number w.slices (length initial) n object h its_home.1.at its_shard.1) ∙ sym number ∙ sym all.0.number_is in
-          record {
-            here = λ other is. subst (LiesIn one.shard) (same_Some object other (sym (shows_one request view).1 ∙ is)) lies;
-            allowed = subst (λ start. number_refusal start request ≡ None) (sym (all.0.opening_is ∙ openings one.number all.0.known)) begun.may.allowed;
-          }
-      go its all numbers = absurd (cc)
+    go : (its : Taken N) → AllByRecursion (IsAsTaken initial step.workers w.key) (held_in its) → numbers_of (held_in its) ≡ n ∷ [] → IsOnOne request its
+    go (taken.One one) all numbers =
+        let number : one.number ≡ n = (cc) in
+        let lies : LiesIn one.shard object =
+        ap (shard_of object) all.0.shards_is ∙ sym (home_number w.slices (length initial) n object h its_home.1.at its_shard.1) ∙ sym number ∙ sym all.0.number_is in
+        record {
+          here = λ other is. subst (LiesIn one.shard) (same_Some object other (sym (shows_one request view).1 ∙ is)) lies;
+          allowed = subst (λ start. number_refusal start request ≡ None) (sym (all.0.opening_is ∙ openings one.number all.0.known)) begun.may.allowed;
+        }
+    go its all numbers = absurd (cc)
 
   -- what it did is a commit
   view_answered : (index : ℕ) (reply : Reply) (found : ReadSet) → ((counters : Counters) (worker : ℕ) → IsReplyTo counters worker request reply) → IsAnswered (setting_of w (length initial)) w.counters (txn_of w number request index reply found)

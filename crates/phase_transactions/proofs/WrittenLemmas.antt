@@ -169,9 +169,9 @@ line_is (taken.Two one other) number index x y t here = two_lines (one.number ==
 le_in : (f : ℕ → ℕ) (ns : List ℕ) (t : ℕ) → list_any (λ s. s == t) ns ≡ true → f t ≤ greatest_by f ns
 le_in f [] t here = absurd (false≢true here)
 le_in f (n ∷ ns) t here = go (eqb_tells n t) (λ more. le_in f ns t more) where
-    go : (((n == t) ≡ true) × (n ≡ t)) ⊎ (((n == t) ≡ false) × (n ≢ t)) → (list_any (λ s. s == t) ns ≡ true → f t ≤ greatest_by f ns) → f t ≤ max (f n) (greatest_by f ns)
-    go (inl h) again = let same = ap f h.1 in omega (arith, same)
-    go (inr h) again = let below = again (ap (λ b. b || list_any (λ s. s == t) ns) (sym h.0) ∙ here) in omega (arith, below)
+  go : (((n == t) ≡ true) × (n ≡ t)) ⊎ (((n == t) ≡ false) × (n ≢ t)) → (list_any (λ s. s == t) ns ≡ true → f t ≤ greatest_by f ns) → f t ≤ max (f n) (greatest_by f ns)
+  go (inl h) again = let same = ap f h.1 in omega (arith, same)
+  go (inr h) again = let below = again (ap (λ b. b || list_any (λ s. s == t) ns) (sym h.0) ∙ here) in omega (arith, below)
 
 bounded : (f : ℕ → ℕ) (ns : List ℕ) (m : ℕ) → ((t : ℕ) → list_any (λ s. s == t) ns ≡ true → f t ≤ m) → greatest_by f ns ≤ m
 bounded f [] m all = omega arith

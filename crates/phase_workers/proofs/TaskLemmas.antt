@@ -71,11 +71,11 @@ module _ {D : Type 0} (of : D → Task) (takes : Bool) (initial : List ShardStat
       IsFirstFault takes initial (map of owns) fault
   first_met [] [] fault kept is = absurd (let none : None ≡ Some fault = is in cc)
   first_met (d ∷ ds) (a ∷ more) fault kept is = at a.done kept.0.0 kept.0.1 is (λ later. first_met ds more fault kept.1 later) where
-      at : {U : Type 0} (done : Result U PermitFault) → OnOk done (HasDoneTask takes (of d) a.receipt) → IfErr done (HasMetFault takes initial (of d) a.receipt) →
-          fault_or done (first_fault more) ≡ Some fault → (first_fault more ≡ Some fault → IsFirstFault takes initial (map of ds) fault) →
-          IsFirstFault takes initial (map of (d ∷ ds)) fault
-      at (Ok u) ok err first again = inr ((a.receipt, ok), again first)
-      at (Err f) ok err first again = inl (a.receipt, subst (HasMetFault takes initial (of d) a.receipt) (ap (λ o. unwrap_or o fault) first) err)
+    at : {U : Type 0} (done : Result U PermitFault) → OnOk done (HasDoneTask takes (of d) a.receipt) → IfErr done (HasMetFault takes initial (of d) a.receipt) →
+        fault_or done (first_fault more) ≡ Some fault → (first_fault more ≡ Some fault → IsFirstFault takes initial (map of ds) fault) →
+        IsFirstFault takes initial (map of (d ∷ ds)) fault
+    at (Ok u) ok err first again = inr ((a.receipt, ok), again first)
+    at (Err f) ok err first again = inl (a.receipt, subst (HasMetFault takes initial (of d) a.receipt) (ap (λ o. unwrap_or o fault) first) err)
   first_met owns answers fault kept is = absurd kept
 
   pub fault_met : (owns : List D) (answers : List (WorkerAnswer WorkerState)) (ts : List Task) (fault : PermitFault) → AllZip Keeps owns answers →

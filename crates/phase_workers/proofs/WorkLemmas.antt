@@ -125,10 +125,10 @@ cold_off (call ∷ calls) = ap (λ b. cond b (call ∷ put_off [] calls) (put_of
 all_kept : (hot : List Object) (calls : List (ℕ × Request)) → put_off hot calls ≡ [] → not_put_off hot calls ≡ calls
 all_kept hot [] none = refl
 all_kept hot (call ∷ calls) none = at (is_put_off hot call.1) none (λ fewer. all_kept hot calls fewer) where
-    at : (b : Bool) → cond b (call ∷ put_off hot calls) (put_off hot calls) ≡ [] → (put_off hot calls ≡ [] → not_put_off hot calls ≡ calls) →
-        cond (not b) (call ∷ not_put_off hot calls) (not_put_off hot calls) ≡ call ∷ calls
-    at true none others = absurd (let more : length (call ∷ put_off hot calls) ≡ 0 = ap length none in omega (arith, more))
-    at false none others = ap (λ cs. call ∷ cs) (others none)
+  at : (b : Bool) → cond b (call ∷ put_off hot calls) (put_off hot calls) ≡ [] → (put_off hot calls ≡ [] → not_put_off hot calls ≡ calls) →
+      cond (not b) (call ∷ not_put_off hot calls) (not_put_off hot calls) ≡ call ∷ calls
+  at true none others = absurd (let more : length (call ∷ put_off hot calls) ≡ 0 = ap length none in omega (arith, more))
+  at false none others = ap (λ cs. call ∷ cs) (others none)
 
 -- ---- one request more
 

@@ -9,9 +9,9 @@ use Rattle.program_options.specs.Options.{IsNumberIn, SaysNumber, number_of}
 minus_cut : (t : List ℕ) → without_minus t ≡ cond (starts_with_minus t) (drop 1 t) t
 minus_cut [] = refl
 minus_cut (x ∷ xs) = go (x == 45) where
-    go : (b : Bool) → unwrap_or (cond b (Some xs) None) (x ∷ xs) ≡ cond b xs (x ∷ xs)
-    go true = refl
-    go false = refl
+  go : (b : Bool) → unwrap_or (cond b (Some xs) None) (x ∷ xs) ≡ cond b xs (x ∷ xs)
+  go true = refl
+  go false = refl
 
 no_plus : (ds : List ℕ) → IsNumeral 10 ds → without_leading_plus ds ≡ ds
 no_plus [] h = refl
@@ -23,16 +23,16 @@ no_plus (d ∷ ds) h =
 pub number_in_range : (least greatest : ℕ) (t : List ℕ) → IsSignedIn (pos least) (pos greatest) t → IsNumberIn least greatest (Some (without_minus t))
 number_in_range least greatest t passed =
     subst (λ (u : List ℕ). IsNumberIn least greatest (Some u)) (sym (minus_cut t)) (go (starts_with_minus t) refl) where
-    go : (b : Bool) → starts_with_minus t ≡ b → IsNumberIn least greatest (Some (cond b (drop 1 t) t))
-    go true minus =
-        let low_ok = rw minus at passed.2 in let high_ok = rw minus at passed.3 in
-        let numeral : IsNumeral 10 (drop 1 t) = rw minus at passed.0 in
-        let same = no_plus (drop 1 t) numeral in
-        (rw same numeral, (rw same (omega (arith, ints)), rw same (omega (arith, ints))))
-    go false minus =
-        let low_ok = rw minus at passed.2 in let high_ok = rw minus at passed.3 in
-        let numeral = rw minus at passed.0 in
-        (numeral, (omega (arith, ints), omega (arith, ints)))
+      go : (b : Bool) → starts_with_minus t ≡ b → IsNumberIn least greatest (Some (cond b (drop 1 t) t))
+      go true minus =
+          let low_ok = rw minus at passed.2 in let high_ok = rw minus at passed.3 in
+          let numeral : IsNumeral 10 (drop 1 t) = rw minus at passed.0 in
+          let same = no_plus (drop 1 t) numeral in
+          (rw same numeral, (rw same (omega (arith, ints)), rw same (omega (arith, ints))))
+      go false minus =
+          let low_ok = rw minus at passed.2 in let high_ok = rw minus at passed.3 in
+          let numeral = rw minus at passed.0 in
+          (numeral, (omega (arith, ints), omega (arith, ints)))
 
 -- a number of the range is the one that its text says
 pub number_said : (least greatest : ℕ) (text : Option (List ℕ)) (number : ℕ) → IsNumberIn least greatest text → SaysNumber least greatest text number → number ≡ number_of text

@@ -33,12 +33,12 @@ first_some how (v ∷ vs) some = refl
 has_found : (xs : List Entry) (id : Text) → HasIn xs id → is_some (option_map (λ e. e.1) (find (λ e. bytes_eq e.0.now id) xs)) ≡ true
 has_found [] id has = absurd (omega (arith, has.1))
 has_found (x ∷ xs) id has = go (has_found xs id) (bytes_eq x.0.now id) refl has.0 has.1 (has.2 x) where
-    go : (HasIn xs id → is_some (option_map (λ e. e.1) (find (λ e. bytes_eq e.0.now id) xs)) ≡ true)
-        → (b : Bool) → bytes_eq x.0.now id ≡ b → (i : ℕ) → i < length (x ∷ xs) → bytes_eq (slice_index_or (x ∷ xs) i x).0.now id ≡ true
-        → is_some (option_map (λ e. e.1) (cond b (Some x) (find (λ e. bytes_eq e.0.now id) xs))) ≡ true
-    go before true is i lt hit = refl
-    go before false is zero lt hit = absurd (true≢false (sym hit ∙ is))
-    go before false is (suc i) lt hit = before (i, omega arith, λ d. subst (λ (e : Entry). bytes_eq e.0.now id ≡ true) (get_or_default xs i x d (omega arith)) hit)
+  go : (HasIn xs id → is_some (option_map (λ e. e.1) (find (λ e. bytes_eq e.0.now id) xs)) ≡ true)
+      → (b : Bool) → bytes_eq x.0.now id ≡ b → (i : ℕ) → i < length (x ∷ xs) → bytes_eq (slice_index_or (x ∷ xs) i x).0.now id ≡ true
+      → is_some (option_map (λ e. e.1) (cond b (Some x) (find (λ e. bytes_eq e.0.now id) xs))) ≡ true
+  go before true is i lt hit = refl
+  go before false is zero lt hit = absurd (true≢false (sym hit ∙ is))
+  go before false is (suc i) lt hit = before (i, omega arith, λ d. subst (λ (e : Entry). bytes_eq e.0.now id ≡ true) (get_or_default xs i x d (omega arith)) hit)
 
 module _ (c : Command) (f : Found) (has : Bool) (parsed : IsParsed c f has) (no_groups : groups_of c ≡ []) (id : Text) (named : id ≡ [] → ⊥)
     (rule : Rule) (one : filter (λ r. bytes_eq r.id id) (map rule_of (args_of c)) ≡ rule ∷ []) where
@@ -95,16 +95,16 @@ module _ (c : Command) (f : Found) (has : Bool) (parsed : IsParsed c f has) (no_
   -- a text that was found passed
   pub found_is_read : (text : Text) → one_text f id ≡ Some text → IsRead parser text
   found_is_read text is = go (matched_of f id) refl is where
-      go : (o : Option MatchedArg) → matched_of f id ≡ o → one_text f id ≡ Some text → IsRead parser text
-      go None none found =
-          let bad : None ≡ Some text = rw none at found in
-          absurd cc
-      go (Some x) some found =
-          let e = entry x some in
-          let here : option_map (λ s. read_as x.reading s.now) (slice_get x.vals.items 0) ≡ Some text = rw some at found in
-          let all = subst (λ (y : MatchedArg). All (λ v. PassesArg c id v.now) y.vals.items) e.1 (values_pass e.0 e.2 e.3) in
-          let how = subst (λ (y : MatchedArg). HasReading c id y.reading) e.1 (reads e.0 e.2 e.3) in
-          first_read x.reading x.vals.items text (read x.reading how) all here
+    go : (o : Option MatchedArg) → matched_of f id ≡ o → one_text f id ≡ Some text → IsRead parser text
+    go None none found =
+        let bad : None ≡ Some text = rw none at found in
+        absurd cc
+    go (Some x) some found =
+        let e = entry x some in
+        let here : option_map (λ s. read_as x.reading s.now) (slice_get x.vals.items 0) ≡ Some text = rw some at found in
+        let all = subst (λ (y : MatchedArg). All (λ v. PassesArg c id v.now) y.vals.items) e.1 (values_pass e.0 e.2 e.3) in
+        let how = subst (λ (y : MatchedArg). HasReading c id y.reading) e.1 (reads e.0 e.2 e.3) in
+        first_read x.reading x.vals.items text (read x.reading how) all here
 
   simple_fields : (a : Arg) → rule_of a ≡ rule → rule.is_simple ≡ true → (a.default_vals_ifs.items ≡ []) × (is_some a.val_delim ≡ false)
   simple_fields a is simple =
@@ -146,22 +146,22 @@ module _ (c : Command) (f : Found) (has : Bool) (parsed : IsParsed c f has) (no_
 
     text_found : is_some (one_text f id) ≡ true
     text_found = go (matched_of f id) refl where
-        go : (o : Option MatchedArg) → matched_of f id ≡ o → is_some (one_text f id) ≡ true
-        go None none = absurd (true≢false (sym (has_found f.entries.items id has_entry) ∙ ap (λ o. is_some o) none))
-        go (Some x) some =
-            let e = entry x some in
-            let filled = subst (λ (y : MatchedArg). 0 < length y.vals.items) e.1 (is_filled e.0 e.2 e.3) in
-            rw some (first_some x.reading x.vals.items filled)
+      go : (o : Option MatchedArg) → matched_of f id ≡ o → is_some (one_text f id) ≡ true
+      go None none = absurd (true≢false (sym (has_found f.entries.items id has_entry) ∙ ap (λ o. is_some o) none))
+      go (Some x) some =
+          let e = entry x some in
+          let filled = subst (λ (y : MatchedArg). 0 < length y.vals.items) e.1 (is_filled e.0 e.2 e.3) in
+          rw some (first_some x.reading x.vals.items filled)
 
     -- and it is that of a number, where its parser asks for one
     pub number_found : (low high : ℕ) → rule.parser ≡ Some (Signed (pos low) (pos high)) → IsNumberIn low high (one_text f id)
     number_found low high by = go (one_text f id) refl text_found where
-        numeral : (text : Text) → IsRead parser text → IsNumberIn low high (Some text)
-        numeral text is =
-            let same : parser ≡ Signed (pos low) (pos high) = ap parser_of_value by in
-            let as_signed : IsRead (Signed (pos low) (pos high)) text = subst (λ p. IsRead p text) same is in
-            subst (λ (t : Text). IsNumberIn low high (Some t)) (sym as_signed.1) (number_in_range low high as_signed.0 as_signed.2.1)
+      numeral : (text : Text) → IsRead parser text → IsNumberIn low high (Some text)
+      numeral text is =
+          let same : parser ≡ Signed (pos low) (pos high) = ap parser_of_value by in
+          let as_signed : IsRead (Signed (pos low) (pos high)) text = subst (λ p. IsRead p text) same is in
+          subst (λ (t : Text). IsNumberIn low high (Some t)) (sym as_signed.1) (number_in_range low high as_signed.0 as_signed.2.1)
 
-        go : (o : Option Text) → one_text f id ≡ o → is_some (one_text f id) ≡ true → IsNumberIn low high o
-        go None none some = absurd (true≢false (sym some ∙ ap (λ o. is_some o) none))
-        go (Some text) is some = numeral text (found_is_read text is)
+      go : (o : Option Text) → one_text f id ≡ o → is_some (one_text f id) ≡ true → IsNumberIn low high o
+      go None none some = absurd (true≢false (sym some ∙ ap (λ o. is_some o) none))
+      go (Some text) is some = numeral text (found_is_read text is)

@@ -23,9 +23,9 @@ source-rows : (f : Found) (id : Text) → option_and_then (λ (a : MatchedArg). 
 source-rows f id =
     go (find (λ (e : Entry). bytes_eq e.0.now id) f.entries.items)
     ∙ ap (option_and_then (λ (r : Row). r.source)) (find-map (λ (r : Row). bytes_eq r.id id) row_of f.entries.items) where
-    go : (o : Option Entry) → option_and_then (λ (a : MatchedArg). a.source) (option_map (λ e. e.1) o) ≡ option_and_then (λ (r : Row). r.source) (option_map row_of o)
-    go None = refl
-    go (Some e) = refl
+      go : (o : Option Entry) → option_and_then (λ (a : MatchedArg). a.source) (option_map (λ e. e.1) o) ≡ option_and_then (λ (r : Row). r.source) (option_map row_of o)
+      go None = refl
+      go (Some e) = refl
 
 module _ (program : App) (free : is_simple_and_free program ≡ true) where
   simple : is_simple program ≡ true

@@ -94,11 +94,11 @@ last_request (one ∷ said) behind w few some free = elim (cases_Bool one.is_row
         worker_is = its_worker one w (subst (λ (xs : List Record). 1 ≤ length (script w (one ∷ xs))) alone some) request;
       })
 ] where
-    no_rows_behind : (one : Record) (said : List Record) (behind : List Said) → one.is_row ≡ false → HasNoLateRow (records_said (one ∷ said) ++ behind) → rows_said (records_said said) ≡ []
-    no_rows_behind one said behind request free = elim free.0 [
-      | inl none ↦ absurd (let no = sym (request_begins false one request) ∙ none in cc no)
-      | inr none ↦ (rows_of_both (records_said said) behind none).0
-    ]
+  no_rows_behind : (one : Record) (said : List Record) (behind : List Said) → one.is_row ≡ false → HasNoLateRow (records_said (one ∷ said) ++ behind) → rows_said (records_said said) ≡ []
+  no_rows_behind one said behind request free = elim free.0 [
+    | inl none ↦ absurd (let no = sym (request_begins false one request) ∙ none in cc no)
+    | inr none ↦ (rows_of_both (records_said said) behind none).0
+  ]
 
 -- ---- what is past a limit
 
@@ -122,9 +122,9 @@ script_few w (one ∷ said) =
         at_most_one (one.worker == w) one.request (script w said),
       )
     ] where
-    at_most_one : (b : Bool) (request : Request) (others : List Request) → length (cons_option (if b then Some request else None) others) ≤ 1 + length others
-    at_most_one true request others = omega arith
-    at_most_one false request others = omega arith
+      at_most_one : (b : Bool) (request : Request) (others : List Request) → length (cons_option (if b then Some request else None) others) ≤ 1 + length others
+      at_most_one true request others = omega arith
+      at_most_one false request others = omega arith
 
 -- rows that are asked for add at most themselves
 one_row_more : (book : Book) (o : Option Row) (w : ℕ) → rows_by (book ++ option_to_list o) w ≤ rows_by book w + 1

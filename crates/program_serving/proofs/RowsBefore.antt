@@ -37,12 +37,12 @@ lines_have_no_late_row workers place begun [] = tt
 lines_have_no_late_row workers place begun (line ∷ rest) =
     then_late (line_says workers place begun line) (lines_say workers place begun rest) (λ one. lines_say workers (place + 1) (begun_after begun one) rest)
     (lines_have_no_late_row workers place begun rest) first (λ one. lines_have_no_late_row workers (place + 1) (begun_after begun one) rest) where
-    first : (one : Said) → (begun_after false one ≡ false) ⊎ (rows_said (lines_say workers (place + 1) (begun_after begun one) rest) ≡ [])
-    first (says.Fault met) = inl refl
-    first (says.Record one) = elim (cases_Bool one.is_row) [
-      | inl row ↦ inl (ap not row)
-      | inr request ↦ inr (subst (λ (b : Bool). rows_said (lines_say workers (place + 1) b rest) ≡ []) (sym (request_begins begun one request)) (no_rows_said workers (place + 1) rest))
-    ]
+      first : (one : Said) → (begun_after false one ≡ false) ⊎ (rows_said (lines_say workers (place + 1) (begun_after begun one) rest) ≡ [])
+      first (says.Fault met) = inl refl
+      first (says.Record one) = elim (cases_Bool one.is_row) [
+        | inl row ↦ inl (ap not row)
+        | inr request ↦ inr (subst (λ (b : Bool). rows_said (lines_say workers (place + 1) b rest) ≡ []) (sym (request_begins begun one request)) (no_rows_said workers (place + 1) rest))
+      ]
 
 -- nor does what an input has yet to say
 pub no_late_row : {R : Type 0} (remaining : R → Option (List ℕ)) (left : LiveInput R) (rest : List Said) → HasToSay remaining left rest → HasNoLateRow rest
@@ -140,19 +140,19 @@ rows_first options book [] rest are free = tt
 rows_first options book (Answer line ∷ steps) rest are free = (inl refl, rows_first options book steps rest are.1 free.1)
 rows_first options book (Part part ∷ steps) rest are free =
     (first (requests_in part.said) refl, rows_first options next steps rest are.1 (behind said later parted)) where
-    said : List Said
-    said = records_said part.said
+      said : List Said
+      said = records_said part.said
 
-    later : List Said
-    later = flat_map step_said steps ++ rest
+      later : List Said
+      later = flat_map step_said steps ++ rest
 
-    next : Book
-    next = book_past options book (Part part)
+      next : Book
+      next = book_past options book (Part part)
 
-    parted : HasNoLateRow (said ++ later)
-    parted = subst HasNoLateRow (append_assoc said (flat_map step_said steps) rest) free
+      parted : HasNoLateRow (said ++ later)
+      parted = subst HasNoLateRow (append_assoc said (flat_map step_said steps) rest) free
 
-    first : (n : ℕ) → requests_in part.said ≡ n → (step_history (Part part) ≡ []) ⊎ (added_rows steps ≡ [])
-    first zero none = inl (no_entries (scripts_in options part.said) (λ worker. none_of_all (λ w. script w part.said) (λ w. no_script w part.said none) (range_with_len 0 options.workers) worker)
-        part.history are.0.answer.serves.requests)
-    first (suc n) some = inr (none_by_steps options next steps rest are.1 (none_behind part.said later (omega (arith, some)) parted))
+      first : (n : ℕ) → requests_in part.said ≡ n → (step_history (Part part) ≡ []) ⊎ (added_rows steps ≡ [])
+      first zero none = inl (no_entries (scripts_in options part.said) (λ worker. none_of_all (λ w. script w part.said) (λ w. no_script w part.said none) (range_with_len 0 options.workers) worker)
+          part.history are.0.answer.serves.requests)
+      first (suc n) some = inr (none_by_steps options next steps rest are.1 (none_behind part.said later (omega (arith, some)) parted))

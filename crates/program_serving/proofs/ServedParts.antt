@@ -52,32 +52,32 @@ module _ (options : Options) (state next : JoinedState) (book : Book) (scripts :
       -- what is done of what is asked for
       pub done_is : record { rows = asked; scripts = run } ≡ done_of past (record { rows = asked; scripts = all })
       done_is = each past none some where
-          each : (past : Option ℕ) → IfNone past (run ≡ all) → IfSome past (λ worker. (ends_at_fault options ≡ false) × (IsPastOn mid all worker × (run ≡ map (λ script. []) all)))
-              → record { rows = asked; scripts = run } ≡ done_of past (record { rows = asked; scripts = all })
-          each None none some = λ i. record { rows = asked; scripts = none i }
-          each (Some worker) none some = λ i. record { rows = asked; scripts = some.1.1 i }
+        each : (past : Option ℕ) → IfNone past (run ≡ all) → IfSome past (λ worker. (ends_at_fault options ≡ false) × (IsPastOn mid all worker × (run ≡ map (λ script. []) all)))
+            → record { rows = asked; scripts = run } ≡ done_of past (record { rows = asked; scripts = all })
+        each None none some = λ i. record { rows = asked; scripts = none i }
+        each (Some worker) none some = λ i. record { rows = asked; scripts = some.1.1 i }
 
       -- and why it is not all
       pub are_done : AreDoneOf options book (record { rows = asked; scripts = all }) past
       are_done = each past some where
-          each : (past : Option ℕ) → IfSome past (λ worker. (ends_at_fault options ≡ false) × (IsPastOn mid all worker × (run ≡ map (λ script. []) all))) → AreDoneOf options book (record { rows = asked; scripts = all }) past
-          each None some = tt
-          each (Some worker) some = (
-            some.0,
-            record {
-              some = some.1.0.some;
-              past = λ short. some.1.0.past (
-                short.0,
-                omega (
-                  arith,
-                  short.1,
-                  begins_behind.start.fits.limit,
-                  stored mid (book ++ added) begins_behind.start.of.stands worker some.1.0.own,
-                  ap (λ (b : Book). rows_by b worker) part_adds.adds,
-                ),
-              );
-            },
-          )
+        each : (past : Option ℕ) → IfSome past (λ worker. (ends_at_fault options ≡ false) × (IsPastOn mid all worker × (run ≡ map (λ script. []) all))) → AreDoneOf options book (record { rows = asked; scripts = all }) past
+        each None some = tt
+        each (Some worker) some = (
+          some.0,
+          record {
+            some = some.1.0.some;
+            past = λ short. some.1.0.past (
+              short.0,
+              omega (
+                arith,
+                short.1,
+                begins_behind.start.fits.limit,
+                stored mid (book ++ added) begins_behind.start.of.stands worker some.1.0.own,
+                ap (λ (b : Book). rows_by b worker) part_adds.adds,
+              ),
+            );
+          },
+        )
 
       -- its scripts begin behind the rows
       pub run_begins : BeginsAt options mid run (book ++ added)
@@ -115,23 +115,23 @@ module _ (options : Options) (book : Book) (asked : Asked) (auction : JoinedStat
   pub requests_past : (before : BeforeView) (read : ℕ) → length auction.counters ≤ MOST_WORKERS → (counts : List (List Request)) → counts ≡ run → CannotCount before counts
       → IsPastCounts options book (gone_by before) read (record { rows = asked.rows; scripts = run })
   requests_past before read few counts are cannot = at (subst (CannotCount before) are cannot) where
-      at : CannotCount before run → IsPastCounts options book (gone_by before) read (record { rows = asked.rows; scripts = run })
-      at (inl many) = absurd (omega (arith, many, few, begun.begins.workers, begun.begins.start.fits.workers))
-      at (inr past) = inr (inl past)
+    at : CannotCount before run → IsPastCounts options book (gone_by before) read (record { rows = asked.rows; scripts = run })
+    at (inl many) = absurd (omega (arith, many, few, begun.begins.workers, begun.begins.start.fits.workers))
+    at (inr past) = inr (inl past)
 
   -- why they are not run
   pub run_refused : (gone : Gone) (before : ℕ) (fault : Fault) → AreNotRunOn options fault (book ++ added) run → IsPartRefused options book gone before (done_of past asked) fault
   run_refused gone before fault why = subst (λ (a : Asked). IsPartRefused options book gone before a fault) begun.done (refused fault why) where
-      behind_rows : (fault : Fault) → AreNotRunOn options fault (book ++ added) run → AreNotRunOn options fault (rows_from (opening_asked options) book asked.rows) run
-      behind_rows fault why = subst (λ (b : Book). AreNotRunOn options fault b run) (sym begun.adds.adds) why
+    behind_rows : (fault : Fault) → AreNotRunOn options fault (book ++ added) run → AreNotRunOn options fault (rows_from (opening_asked options) book asked.rows) run
+    behind_rows fault why = subst (λ (b : Book). AreNotRunOn options fault b run) (sym begun.adds.adds) why
 
-      is_end : (ends : Bool) → ends_at_fault options ≡ ends → ¬ AreShortFor MOST_COMMITS (book ++ added) run → ends_at_fault options ≡ true
-      is_end true is not_short = is
-      is_end false is not_short =
-          let at = begun.begins in
-          absurd (not_short (short_behind auction (book ++ added) run MOST_COMMITS at.start.fits.limit (at.workers ∙ sym at.start.fits.workers) at.start.of.stands (begun.short is)))
+    is_end : (ends : Bool) → ends_at_fault options ≡ ends → ¬ AreShortFor MOST_COMMITS (book ++ added) run → ends_at_fault options ≡ true
+    is_end true is not_short = is
+    is_end false is not_short =
+        let at = begun.begins in
+        absurd (not_short (short_behind auction (book ++ added) run MOST_COMMITS at.start.fits.limit (at.workers ∙ sym at.start.fits.workers) at.start.of.stands (begun.short is)))
 
-      refused : (fault : Fault) → AreNotRunOn options fault (book ++ added) run → IsPartRefused options book gone before (record { rows = asked.rows; scripts = run }) fault
-      refused (Run fault) why = inl (behind_rows (Run fault) why)
-      refused (Limit most) why = (is_end (ends_at_fault options) refl why.1.1, behind_rows (Limit most) why)
-      refused fault why = absurd why
+    refused : (fault : Fault) → AreNotRunOn options fault (book ++ added) run → IsPartRefused options book gone before (record { rows = asked.rows; scripts = run }) fault
+    refused (Run fault) why = inl (behind_rows (Run fault) why)
+    refused (Limit most) why = (is_end (ends_at_fault options) refl why.1.1, behind_rows (Limit most) why)
+    refused fault why = absurd why

@@ -168,21 +168,21 @@ module _ {L W : Type 0} (accepted : L → Option (List ℕ)) (contents : W → O
     pub session_passed : (left : Option (LiveInput R)) → PassesFault remaining options.workers options (gone_by served.before) left session.rest (AreTold accepted contents old new)
         → IsSession options book all served (MayHaveToSay remaining options.workers left) (AreTold accepted contents start new)
     session_passed left passes = passed passes.met passes.goes_on passes.behind passes.rest_is passes.left_is passes.holds where
-        passed : (met : Option LineFault) → IfSome met (λ _. ends_at_fault options ≡ false) → (behind : List Said) → session.rest ≡ fault_said met ++ behind → MayHaveToSay remaining options.workers left behind
-            → AreTold accepted contents old new [] (fault_answer options (gone_by served.before) met) → IsSession options book all served (MayHaveToSay remaining options.workers left) (AreTold accepted contents start new)
-        passed None goes_on behind is has told = record {
-          steps = session.steps;
-          rest = session.rest;
-          so_far = session.so_far;
-          start = session.start;
-          rows = session.rows;
-          before = session.before;
-          left = subst (MayHaveToSay remaining options.workers left) (sym is) has;
-          holds = told_more accepted contents start old new (served_rows session.steps) [] (served_rows session.steps) (served_text options nothing_gone session.steps) [] (served_text options nothing_gone session.steps)
-              (append-nil (served_rows session.steps)) (append-nil (served_text options nothing_gone session.steps)) session.holds told;
-        }
-        passed (Some met) goes_on behind is has told =
-            session_step (Answer (says.Fault met)) behind served (MayHaveToSay remaining options.workers left) is (goes_on, tt) session.start (omega arith) refl has told
+      passed : (met : Option LineFault) → IfSome met (λ _. ends_at_fault options ≡ false) → (behind : List Said) → session.rest ≡ fault_said met ++ behind → MayHaveToSay remaining options.workers left behind
+          → AreTold accepted contents old new [] (fault_answer options (gone_by served.before) met) → IsSession options book all served (MayHaveToSay remaining options.workers left) (AreTold accepted contents start new)
+      passed None goes_on behind is has told = record {
+        steps = session.steps;
+        rest = session.rest;
+        so_far = session.so_far;
+        start = session.start;
+        rows = session.rows;
+        before = session.before;
+        left = subst (MayHaveToSay remaining options.workers left) (sym is) has;
+        holds = told_more accepted contents start old new (served_rows session.steps) [] (served_rows session.steps) (served_text options nothing_gone session.steps) [] (served_text options nothing_gone session.steps)
+            (append-nil (served_rows session.steps)) (append-nil (served_text options nothing_gone session.steps)) session.holds told;
+      }
+      passed (Some met) goes_on behind is has told =
+          session_step (Answer (says.Fault met)) behind served (MayHaveToSay remaining options.workers left) is (goes_on, tt) session.start (omega arith) refl has told
 
   -- a part begins here
   pub part_begins : (scripts : List (List Request)) → length scripts ≡ options.workers → BeginsAt options served.auction scripts now

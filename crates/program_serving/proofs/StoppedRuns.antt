@@ -86,16 +86,16 @@ next_start state next book is stands of =
       is_of = record { is_book = of.is_book; own = subst (λ n. All (λ row. worker_of row < n) book) (sym (many state.counters)) of.own; stands = kept };
       counters = λ w below. at_start state book of w (omega (arith, below, many state.counters));
     }) where
-    at_start : (state : JoinedState) (book : Book) → IsBookOf state book → (w : ℕ) → w < length state.counters → counters_at (map stores_as_commits state.counters) w ≡ counters_in book w
-    at_start state book of w below =
-        let counts = of.stands.counts w below in let all = stored state book of.stands w below in
-        at_next state.counters w ∙ (λ i. record {
-          items = sym counts.items i;
-          bids = sym counts.bids i;
-          comments = sym counts.comments i;
-          buys = sym counts.buys i;
-          commits = all i;
-        })
+      at_start : (state : JoinedState) (book : Book) → IsBookOf state book → (w : ℕ) → w < length state.counters → counters_at (map stores_as_commits state.counters) w ≡ counters_in book w
+      at_start state book of w below =
+          let counts = of.stands.counts w below in let all = stored state book of.stands w below in
+          at_next state.counters w ∙ (λ i. record {
+            items = sym counts.items i;
+            bids = sym counts.bids i;
+            comments = sym counts.comments i;
+            buys = sym counts.buys i;
+            commits = all i;
+          })
 
 -- the auction before another run is the same, but for its phase
 pub next_fits : (options : Options) (state next : JoinedState) → next ≡ for_next_run state → FitsOptions options state → FitsOptions options next

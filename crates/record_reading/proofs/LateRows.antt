@@ -33,9 +33,9 @@ checked_by : (o : Option ℕ) (workers : ℕ) (check : ℕ → Result Record Cau
     → (w : ℕ) × (check w ≡ Ok said)
 checked_by None workers check said f g h e = absurd (cc e)
 checked_by (Some w) workers check said f g h e = (w, within (nat_lt w workers) (check w) e) where
-    within : (b : Bool) (r : Result Record Cause) → (if b then result_map_both {U = Record} (λ x. x) h r else Err g) ≡ Ok said → r ≡ Ok said
-    within true (Ok x) e = cc e
-    within b r e = absurd (cc e)
+  within : (b : Bool) (r : Result Record Cause) → (if b then result_map_both {U = Record} (λ x. x) h r else Err g) ≡ Ok said → r ≡ Ok said
+  within true (Ok x) e = cc e
+  within b r e = absurd (cc e)
 
 -- a record that stands after a request is no row
 pub request_after : (workers place : ℕ) (fields : List (List ℕ)) (said : Record) → read_record workers place true fields ≡ Ok said → said.is_row ≡ false

@@ -19,17 +19,17 @@ module _ {R : Type 0} where
   count_numbered : (i k : ℕ) (rs : List R) → k ≤ i → how_many (λ call. call.0 == i) (numbered k rs) ≡ cond (nat_lt i (k + length rs)) 1 0
   count_numbered i k [] from = sym (ap (λ b. cond b 1 0) (le-ltb i (k + 0) (omega arith)))
   count_numbered i k (r ∷ rs) from = go (cases_eq k i) (λ (more : suc k ≤ i). count_numbered i (suc k) rs more) where
-      go : (k ≡ i) ⊎ (k ≡ i → ⊥) → (suc k ≤ i → how_many (λ call. call.0 == i) (numbered (suc k) rs) ≡ cond (nat_lt i (suc k + length rs)) 1 0) →
-          cond (k == i) 1 0 + how_many (λ call. call.0 == i) (numbered (suc k) rs) ≡ cond (nat_lt i (k + suc (length rs))) 1 0
-      go (inl same) again =
-          ap (λ b. cond b 1 0 + how_many (λ call. call.0 == i) (numbered (suc k) rs)) (eq-eqb k i same)
-          ∙ omega (arith, count_past i (suc k) rs (omega arith))
-          ∙ sym (ap (λ b. cond b 1 0) (lt-ltb i (k + suc (length rs)) (omega arith)))
-      go (inr other) again =
-          let rest : how_many (λ call. call.0 == i) (numbered (suc k) rs) ≡ cond (nat_lt i (suc k + length rs)) 1 0 = again (omega arith) in
-          let len : suc k + length rs ≡ k + suc (length rs) = omega arith in
-          ap (λ b. cond b 1 0 + how_many (λ call. call.0 == i) (numbered (suc k) rs)) (ne_eqb k i other)
-          ∙ omega arith ∙ rest ∙ ap (λ n. cond (nat_lt i n) 1 0) len
+    go : (k ≡ i) ⊎ (k ≡ i → ⊥) → (suc k ≤ i → how_many (λ call. call.0 == i) (numbered (suc k) rs) ≡ cond (nat_lt i (suc k + length rs)) 1 0) →
+        cond (k == i) 1 0 + how_many (λ call. call.0 == i) (numbered (suc k) rs) ≡ cond (nat_lt i (k + suc (length rs))) 1 0
+    go (inl same) again =
+        ap (λ b. cond b 1 0 + how_many (λ call. call.0 == i) (numbered (suc k) rs)) (eq-eqb k i same)
+        ∙ omega (arith, count_past i (suc k) rs (omega arith))
+        ∙ sym (ap (λ b. cond b 1 0) (lt-ltb i (k + suc (length rs)) (omega arith)))
+    go (inr other) again =
+        let rest : how_many (λ call. call.0 == i) (numbered (suc k) rs) ≡ cond (nat_lt i (suc k + length rs)) 1 0 = again (omega arith) in
+        let len : suc k + length rs ≡ k + suc (length rs) = omega arith in
+        ap (λ b. cond b 1 0 + how_many (λ call. call.0 == i) (numbered (suc k) rs)) (ne_eqb k i other)
+        ∙ omega arith ∙ rest ∙ ap (λ n. cond (nat_lt i n) 1 0) len
 
   -- each numbered request is the script's at its index
   numbered_are : (script : List R) (k : ℕ) (rs : List R) → ((i : ℕ) → slice_get script (k + i) ≡ slice_get rs i) → AllByRecursion (λ call. slice_get script call.0 ≡ Some call.1) (numbered k rs)
@@ -59,9 +59,9 @@ module _ {R : Type 0} where
   pub at_index : (P : ℕ × R → Type 0) (k n : ℕ) (rs : List R) → AllByRecursion P (numbered k rs) → k ≤ n → n < k + length rs → (r : R) × P (n, r)
   at_index P k n [] h from until = absurd (omega arith)
   at_index P k n (r ∷ rs) h from until = go (cases_eq k n) (λ (more : suc k ≤ n). at_index P (suc k) n rs h.1 more (omega arith)) where
-      go : (k ≡ n) ⊎ (k ≡ n → ⊥) → (suc k ≤ n → (r : R) × P (n, r)) → (r : R) × P (n, r)
-      go (inl same) again = (r, subst (λ m. P (m, r)) same h.0)
-      go (inr other) again = again (omega arith)
+    go : (k ≡ n) ⊎ (k ≡ n → ⊥) → (suc k ≤ n → (r : R) × P (n, r)) → (r : R) × P (n, r)
+    go (inl same) again = (r, subst (λ m. P (m, r)) same h.0)
+    go (inr other) again = again (omega arith)
 
   module _ (commit : ℕ × R → ℕ) where
     pub all_turns : (P : ℕ × R → Type 0) (n : ℕ) (script : List R) → AllByRecursion P (numbered 0 script) → AllByRecursion P (turns commit n script)
@@ -86,9 +86,9 @@ module _ {R : Type 0} where
         (all-both (λ call. commit call < n → P call) (λ call. (commit call == n) ≡ true → P call) (numbered 0 script)
         (all_from_turns P n script (all-left P (turns commit n script) (turn commit n script) h))
         (all-unfilter P (λ call. commit call == n) (numbered 0 script) (all-right P (turns commit n script) (turn commit n script) h))) where
-        last : (call : ℕ × R) → (commit call < n → P call) × ((commit call == n) ≡ true → P call) → commit call < suc n → (commit call < n) ⊎ (n ≤ commit call) → P call
-        last call both less (inl before) = both.0 before
-        last call both less (inr from) = both.1 (eq-eqb (commit call) n (omega arith))
+          last : (call : ℕ × R) → (commit call < n → P call) × ((commit call == n) ≡ true → P call) → commit call < suc n → (commit call < n) ⊎ (n ≤ commit call) → P call
+          last call both less (inl before) = both.0 before
+          last call both less (inr from) = both.1 (eq-eqb (commit call) n (omega arith))
 
     -- turns are in order by phase, then index
     pub turns_ordered : (n : ℕ) (script : List R) → IsOrderedBy (λ c d. (commit c < commit d) ⊎ ((commit c ≡ commit d) × (c.0 < d.0))) (turns commit n script)
@@ -104,25 +104,25 @@ module _ {R : Type 0} where
 
     count_turns : (p : ℕ × R → Bool) (n : ℕ) (script : List R) → how_many p (turns commit n script) ≡ how_many (λ call. nat_lt (commit call) n && p call) (numbered 0 script)
     count_turns p zero script = sym (none (numbered 0 script)) where
-        none : (calls : List (ℕ × R)) → how_many (λ call. nat_lt (commit call) zero && p call) calls ≡ 0
-        none [] = refl
-        none (call ∷ calls) = ap (λ b. cond (b && p call) 1 0 + how_many (λ c. nat_lt (commit c) zero && p c) calls) (le-ltb (commit call) 0 (omega arith)) ∙ omega (arith, none calls)
+      none : (calls : List (ℕ × R)) → how_many (λ call. nat_lt (commit call) zero && p call) calls ≡ 0
+      none [] = refl
+      none (call ∷ calls) = ap (λ b. cond (b && p call) 1 0 + how_many (λ c. nat_lt (commit c) zero && p c) calls) (le-ltb (commit call) 0 (omega arith)) ∙ omega (arith, none calls)
     count_turns p (suc n) script =
         count-append p (turns commit n script) (turn commit n script)
         ∙ ap (λ m. m + how_many p (turn commit n script)) (count_turns p n script)
         ∙ ap (λ m. how_many (λ call. nat_lt (commit call) n && p call) (numbered 0 script) + m) (count-filter (λ call. commit call == n) p (numbered 0 script))
         ∙ count-sum (λ call. nat_lt (commit call) n && p call) (λ call. (commit call == n) && p call) (λ call. nat_lt (commit call) (suc n) && p call)
         (λ call. adds (commit call) (p call) (cases_order (commit call) n)) (numbered 0 script) where
-        adds : (m : ℕ) (b : Bool) → (m ≡ n) ⊎ ((m < n) ⊎ (n < m)) → cond (nat_lt m n && b) 1 0 + cond ((m == n) && b) 1 0 ≡ cond (nat_lt m (suc n) && b) 1 0
-        adds m b (inl same) =
-            ap (λ t. cond (t && b) 1 0 + cond ((m == n) && b) 1 0) (le-ltb m n (omega arith)) ∙ ap (λ t. 0 + cond (t && b) 1 0) (eq-eqb m n same)
-            ∙ omega arith ∙ sym (ap (λ t. cond (t && b) 1 0) (lt-ltb m (suc n) (omega arith)))
-        adds m b (inr (inl less)) =
-            ap (λ t. cond (t && b) 1 0 + cond ((m == n) && b) 1 0) (lt-ltb m n less) ∙ ap (λ t. cond b 1 0 + cond (t && b) 1 0) (ne_eqb m n (λ (e : m ≡ n). omega arith))
-            ∙ omega arith ∙ sym (ap (λ t. cond (t && b) 1 0) (lt-ltb m (suc n) (omega arith)))
-        adds m b (inr (inr more)) =
-            ap (λ t. cond (t && b) 1 0 + cond ((m == n) && b) 1 0) (le-ltb m n (omega arith)) ∙ ap (λ t. 0 + cond (t && b) 1 0) (ne_eqb m n (λ (e : m ≡ n). omega arith))
-            ∙ sym (ap (λ t. cond (t && b) 1 0) (le-ltb m (suc n) more))
+          adds : (m : ℕ) (b : Bool) → (m ≡ n) ⊎ ((m < n) ⊎ (n < m)) → cond (nat_lt m n && b) 1 0 + cond ((m == n) && b) 1 0 ≡ cond (nat_lt m (suc n) && b) 1 0
+          adds m b (inl same) =
+              ap (λ t. cond (t && b) 1 0 + cond ((m == n) && b) 1 0) (le-ltb m n (omega arith)) ∙ ap (λ t. 0 + cond (t && b) 1 0) (eq-eqb m n same)
+              ∙ omega arith ∙ sym (ap (λ t. cond (t && b) 1 0) (lt-ltb m (suc n) (omega arith)))
+          adds m b (inr (inl less)) =
+              ap (λ t. cond (t && b) 1 0 + cond ((m == n) && b) 1 0) (lt-ltb m n less) ∙ ap (λ t. cond b 1 0 + cond (t && b) 1 0) (ne_eqb m n (λ (e : m ≡ n). omega arith))
+              ∙ omega arith ∙ sym (ap (λ t. cond (t && b) 1 0) (lt-ltb m (suc n) (omega arith)))
+          adds m b (inr (inr more)) =
+              ap (λ t. cond (t && b) 1 0 + cond ((m == n) && b) 1 0) (le-ltb m n (omega arith)) ∙ ap (λ t. 0 + cond (t && b) 1 0) (ne_eqb m n (λ (e : m ≡ n). omega arith))
+              ∙ sym (ap (λ t. cond (t && b) 1 0) (le-ltb m (suc n) more))
 
     -- EXACTLY ONCE: where all calls commit before phase n, each index of the script stands once in its turns
     pub once_in_turns : (n i : ℕ) (script : List R) → AllByRecursion (λ call. commit call < n) (numbered 0 script) →

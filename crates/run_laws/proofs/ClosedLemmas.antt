@@ -57,12 +57,12 @@ module _ (policy : Policy) (scripts : List (List Request)) (p : ℕ) (hot : List
       (chosen_now : is_split p ≡ true → hot_now ≡ choose (segment_of (p - 1) history) policy.threshold policy.hot_max) where
     which : (q : ℕ) → q < length (hot ++ hot_now ∷ []) → (q ≡ p) ⊎ (q < p)
     which q less = go (cases_order q p) where
-        go : (q ≡ p) ⊎ ((q < p) ⊎ (p < q)) → (q ≡ p) ⊎ (q < p)
-        go (inl same) = inl same
-        go (inr (inl before)) = inr before
-        go (inr (inr later)) =
-            let e : length (hot ++ hot_now ∷ []) ≡ length hot + length (hot_now ∷ []) = length-append hot (hot_now ∷ []) in
-            let f : length hot ≡ p = run.phase_count in absurd (omega arith)
+      go : (q ≡ p) ⊎ ((q < p) ⊎ (p < q)) → (q ≡ p) ⊎ (q < p)
+      go (inl same) = inl same
+      go (inr (inl before)) = inr before
+      go (inr (inr later)) =
+          let e : length (hot ++ hot_now ∷ []) ≡ length hot + length (hot_now ∷ []) = length-append hot (hot_now ∷ []) in
+          let f : length hot ≡ p = run.phase_count in absurd (omega arith)
 
     within : (q : ℕ) → q < p → q < length hot
     within q less = subst (λ n. q < n) (sym run.phase_count) less
@@ -76,24 +76,24 @@ module _ (policy : Policy) (scripts : List (List Request)) (p : ℕ) (hot : List
 
     pub phase_chosen : AreChosen policy (hot ++ hot_now ∷ []) (history ++ segment)
     phase_chosen = record { joined = joined; split = split } where
-        joined : (q : ℕ) → q < length (hot ++ hot_now ∷ []) → is_split q ≡ false → hot_in (hot ++ hot_now ∷ []) q ≡ []
-        joined q less is = go (which q less) where
-            go : (q ≡ p) ⊎ (q < p) → hot_in (hot ++ hot_now ∷ []) q ≡ []
-            go (inl same) = ap (hot_in (hot ++ hot_now ∷ [])) same ∙ new ∙ not_chosen_now (sym (ap is_split same) ∙ is)
-            go (inr before) = old q (not_this q before) ∙ chosen.joined q (within q before) is
+      joined : (q : ℕ) → q < length (hot ++ hot_now ∷ []) → is_split q ≡ false → hot_in (hot ++ hot_now ∷ []) q ≡ []
+      joined q less is = go (which q less) where
+        go : (q ≡ p) ⊎ (q < p) → hot_in (hot ++ hot_now ∷ []) q ≡ []
+        go (inl same) = ap (hot_in (hot ++ hot_now ∷ [])) same ∙ new ∙ not_chosen_now (sym (ap is_split same) ∙ is)
+        go (inr before) = old q (not_this q before) ∙ chosen.joined q (within q before) is
 
-        split : (q : ℕ) → q < length (hot ++ hot_now ∷ []) → is_split q ≡ true →
-            hot_in (hot ++ hot_now ∷ []) q ≡ choose (segment_of (q - 1) (history ++ segment)) policy.threshold policy.hot_max
-        split q less is = go (which q less) where
-            same_segment : q ≤ p → segment_of (q - 1) (history ++ segment) ≡ segment_of (q - 1) history
-            same_segment le = segment_elsewhere p history segment run.phases_before phase.phases (q - 1) (before_split q is le)
+      split : (q : ℕ) → q < length (hot ++ hot_now ∷ []) → is_split q ≡ true →
+          hot_in (hot ++ hot_now ∷ []) q ≡ choose (segment_of (q - 1) (history ++ segment)) policy.threshold policy.hot_max
+      split q less is = go (which q less) where
+        same_segment : q ≤ p → segment_of (q - 1) (history ++ segment) ≡ segment_of (q - 1) history
+        same_segment le = segment_elsewhere p history segment run.phases_before phase.phases (q - 1) (before_split q is le)
 
-            go : (q ≡ p) ⊎ (q < p) → hot_in (hot ++ hot_now ∷ []) q ≡ choose (segment_of (q - 1) (history ++ segment)) policy.threshold policy.hot_max
-            go (inl same) =
-                ap (hot_in (hot ++ hot_now ∷ [])) same ∙ new ∙ chosen_now (sym (ap is_split same) ∙ is)
-                ∙ ap (λ n. choose (segment_of (n - 1) history) policy.threshold policy.hot_max) (sym same)
-                ∙ ap (λ es. choose es policy.threshold policy.hot_max) (sym (same_segment (omega arith)))
-            go (inr before) = old q (not_this q before) ∙ chosen.split q (within q before) is ∙ ap (λ es. choose es policy.threshold policy.hot_max) (sym (same_segment (omega arith)))
+        go : (q ≡ p) ⊎ (q < p) → hot_in (hot ++ hot_now ∷ []) q ≡ choose (segment_of (q - 1) (history ++ segment)) policy.threshold policy.hot_max
+        go (inl same) =
+            ap (hot_in (hot ++ hot_now ∷ [])) same ∙ new ∙ chosen_now (sym (ap is_split same) ∙ is)
+            ∙ ap (λ n. choose (segment_of (n - 1) history) policy.threshold policy.hot_max) (sym same)
+            ∙ ap (λ es. choose es policy.threshold policy.hot_max) (sym (same_segment (omega arith)))
+        go (inr before) = old q (not_this q before) ∙ chosen.split q (within q before) is ∙ ap (λ es. choose es policy.threshold policy.hot_max) (sym (same_segment (omega arith)))
 
 pub phase_numbered : (opening : Opening) (policy : Policy) (scripts : List (List Request)) (p : ℕ) (hot : List (List Object)) (hot_now : List Object)
     (history segment : List Entry) (stashes after : ℕ → List (ℕ × Request)) →
@@ -101,17 +101,17 @@ pub phase_numbered : (opening : Opening) (policy : Policy) (scripts : List (List
     AreNumbered opening policy hot history → IsNumbered opening policy.shards hot_now segment →
     AreNumbered opening policy (hot ++ hot_now ∷ []) (history ++ segment)
 phase_numbered opening policy scripts p hot hot_now history segment stashes after run phase before now q = go (cases_eq q p) where
-    hot' : ℕ → List Object
-    hot' = hot_in (hot ++ hot_now ∷ [])
+  hot' : ℕ → List Object
+  hot' = hot_in (hot ++ hot_now ∷ [])
 
-    same_now : hot' p ≡ hot_now
-    same_now = new policy scripts p hot hot_now history segment stashes after run phase
+  same_now : hot' p ≡ hot_now
+  same_now = new policy scripts p hot hot_now history segment stashes after run phase
 
-    go : (q ≡ p) ⊎ (q ≡ p → ⊥) → IsNumbered opening policy.shards (hot' q) (segment_of q (history ++ segment))
-    go (inl same) = subst (λ n. IsNumbered opening policy.shards (hot' n) (segment_of n (history ++ segment))) (sym same)
-        (subst (λ objects. IsNumbered opening policy.shards objects (segment_of p (history ++ segment))) (sym same_now)
-        (subst (IsNumbered opening policy.shards hot_now) (sym (segment_now p history segment run.phases_before phase.phases)) now))
-    go (inr other) =
-        subst (λ objects. IsNumbered opening policy.shards objects (segment_of q (history ++ segment)))
-        (sym (old policy scripts p hot hot_now history segment stashes after run phase q other))
-        (subst (IsNumbered opening policy.shards (hot_in hot q)) (sym (segment_elsewhere p history segment run.phases_before phase.phases q other)) (before q))
+  go : (q ≡ p) ⊎ (q ≡ p → ⊥) → IsNumbered opening policy.shards (hot' q) (segment_of q (history ++ segment))
+  go (inl same) = subst (λ n. IsNumbered opening policy.shards (hot' n) (segment_of n (history ++ segment))) (sym same)
+      (subst (λ objects. IsNumbered opening policy.shards objects (segment_of p (history ++ segment))) (sym same_now)
+      (subst (IsNumbered opening policy.shards hot_now) (sym (segment_now p history segment run.phases_before phase.phases)) now))
+  go (inr other) =
+      subst (λ objects. IsNumbered opening policy.shards objects (segment_of q (history ++ segment)))
+      (sym (old policy scripts p hot hot_now history segment stashes after run phase q other))
+      (subst (IsNumbered opening policy.shards (hot_in hot q)) (sym (segment_elsewhere p history segment run.phases_before phase.phases q other)) (before q))

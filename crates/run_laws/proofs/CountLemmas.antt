@@ -9,9 +9,9 @@ how_many p (x ∷ xs) = cond (p x) 1 0 + how_many p xs
 
 pub how_many-is : {X : Type 0} (p : X → Bool) (xs : List X) → how_many p xs ≡ count_by p xs
 how_many-is p xs = is_count_by (how_many p) p refl (λ y ys. one_more (p y) (how_many p ys)) xs where
-    one_more : (b : Bool) (n : ℕ) → cond b 1 0 + n ≡ cond b (1 + n) n
-    one_more true n = refl
-    one_more false n = omega arith
+  one_more : (b : Bool) (n : ℕ) → cond b 1 0 + n ≡ cond b (1 + n) n
+  one_more true n = refl
+  one_more false n = omega arith
 
 pub count-append : {X : Type 0} (p : X → Bool) (xs ys : List X) → how_many p (xs ++ ys) ≡ how_many p xs + how_many p ys
 count-append p [] ys = omega arith
@@ -20,10 +20,10 @@ count-append p (x ∷ xs) ys = omega (arith, count-append p xs ys)
 pub count-filter : {X : Type 0} (p q : X → Bool) (xs : List X) → how_many q (filter p xs) ≡ how_many (λ x. p x && q x) xs
 count-filter p q [] = refl
 count-filter p q (x ∷ xs) = go (p x) (count-filter p q xs) where
-    go : (b : Bool) → how_many q (filter p xs) ≡ how_many (λ y. p y && q y) xs →
-        how_many q (cond b (x ∷ filter p xs) (filter p xs)) ≡ cond (b && q x) 1 0 + how_many (λ y. p y && q y) xs
-    go true again = ap (λ n. cond (q x) 1 0 + n) again
-    go false again = again ∙ omega arith
+  go : (b : Bool) → how_many q (filter p xs) ≡ how_many (λ y. p y && q y) xs →
+      how_many q (cond b (x ∷ filter p xs) (filter p xs)) ≡ cond (b && q x) 1 0 + how_many (λ y. p y && q y) xs
+  go true again = ap (λ n. cond (q x) 1 0 + n) again
+  go false again = again ∙ omega arith
 
 pub count-map : {X Y : Type 0} (f : X → Y) (p : Y → Bool) (xs : List X) → how_many p (map f xs) ≡ how_many (λ x. p (f x)) xs
 count-map f p [] = refl

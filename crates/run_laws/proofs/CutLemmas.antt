@@ -13,26 +13,26 @@ filter_true p (x ∷ xs) h = cond-true (p x) _ _ h.0 ∙ ap (λ ys. x ∷ ys) (f
 -- what is before the next number is before this one, or this one
 before_this : (m n : ℕ) → (nat_lt m (suc n) && nat_lt m n) ≡ nat_lt m n
 before_this m n = go (cases_lt m n) where
-    go : (m < n) ⊎ (n ≤ m) → (nat_lt m (suc n) && nat_lt m n) ≡ nat_lt m n
-    go (inl less) = ap (λ b. b && nat_lt m n) (lt-ltb m (suc n) (omega arith))
-    go (inr from) = and_right (nat_lt m (suc n)) (nat_lt m n) (le-ltb m n from) ∙ sym (le-ltb m n from)
+  go : (m < n) ⊎ (n ≤ m) → (nat_lt m (suc n) && nat_lt m n) ≡ nat_lt m n
+  go (inl less) = ap (λ b. b && nat_lt m n) (lt-ltb m (suc n) (omega arith))
+  go (inr from) = and_right (nat_lt m (suc n)) (nat_lt m n) (le-ltb m n from) ∙ sym (le-ltb m n from)
 
 just_this : (m n : ℕ) → (nat_lt m (suc n) && not (nat_lt m n)) ≡ (m == n)
 just_this m n = go (cases_order m n) where
-    go : (m ≡ n) ⊎ ((m < n) ⊎ (n < m)) → (nat_lt m (suc n) && not (nat_lt m n)) ≡ (m == n)
-    go (inl same) =
-        ap (λ b. b && not (nat_lt m n)) (lt-ltb m (suc n) (omega arith))
-        ∙ ap not (le-ltb m n (omega arith)) ∙ sym (eq-eqb m n same)
-    go (inr (inl less)) =
-        and_right (nat_lt m (suc n)) (not (nat_lt m n)) (ap not (lt-ltb m n less)) ∙ sym (ne_eqb m n (λ (e : m ≡ n). omega arith))
-    go (inr (inr more)) =
-        and_left (nat_lt m (suc n)) (not (nat_lt m n)) (le-ltb m (suc n) (omega arith)) ∙ sym (ne_eqb m n (λ (e : m ≡ n). omega arith))
+  go : (m ≡ n) ⊎ ((m < n) ⊎ (n < m)) → (nat_lt m (suc n) && not (nat_lt m n)) ≡ (m == n)
+  go (inl same) =
+      ap (λ b. b && not (nat_lt m n)) (lt-ltb m (suc n) (omega arith))
+      ∙ ap not (le-ltb m n (omega arith)) ∙ sym (eq-eqb m n same)
+  go (inr (inl less)) =
+      and_right (nat_lt m (suc n)) (not (nat_lt m n)) (ap not (lt-ltb m n less)) ∙ sym (ne_eqb m n (λ (e : m ≡ n). omega arith))
+  go (inr (inr more)) =
+      and_left (nat_lt m (suc n)) (not (nat_lt m n)) (le-ltb m (suc n) (omega arith)) ∙ sym (ne_eqb m n (λ (e : m ≡ n). omega arith))
 
 equal_before : (m n k : ℕ) → m < n → (nat_lt k n && (k == m)) ≡ (k == m)
 equal_before m n k less = go (cases_eq k m) where
-    go : (k ≡ m) ⊎ (k ≡ m → ⊥) → (nat_lt k n && (k == m)) ≡ (k == m)
-    go (inl same) = ap (λ b. b && (k == m)) (lt-ltb k n (omega arith))
-    go (inr other) = and_right (nat_lt k n) (k == m) (ne_eqb k m other) ∙ sym (ne_eqb k m other)
+  go : (k ≡ m) ⊎ (k ≡ m → ⊥) → (nat_lt k n && (k == m)) ≡ (k == m)
+  go (inl same) = ap (λ b. b && (k == m)) (lt-ltb k n (omega arith))
+  go (inr other) = and_right (nat_lt k n) (k == m) (ne_eqb k m other) ∙ sym (ne_eqb k m other)
 
 module _ {X : Type 0} (phase : X → ℕ) where
   -- the elements before a phase
@@ -53,17 +53,17 @@ module _ {X : Type 0} (phase : X → ℕ) where
   pub cut_in_two : (n : ℕ) (xs : List X) → IsOrderedBy (λ x y. phase x ≤ phase y) xs → until n xs ++ since n xs ≡ xs
   cut_in_two n [] up = refl
   cut_in_two n (x ∷ xs) up = go (cases_lt (phase x) n) (cut_in_two n xs up.1) where
-      go : (phase x < n) ⊎ (n ≤ phase x) → until n xs ++ since n xs ≡ xs → until n (x ∷ xs) ++ since n (x ∷ xs) ≡ x ∷ xs
-      go (inl less) again =
-          ap (λ b. cond b (x ∷ until n xs) (until n xs) ++ cond (not b) (x ∷ since n xs) (since n xs)) (lt-ltb (phase x) n less)
-          ∙ ap (λ ys. x ∷ ys) again
-      go (inr from) again =
-          let later : AllByRecursion (λ y. nat_lt (phase y) n ≡ false) xs =
-          all-weaker (λ y. phase x ≤ phase y) (λ y. nat_lt (phase y) n ≡ false) (λ y le. le-ltb (phase y) n (omega arith)) xs up.0 in
-          ap (λ b. cond b (x ∷ until n xs) (until n xs) ++ cond (not b) (x ∷ since n xs) (since n xs)) (le-ltb (phase x) n from)
-          ∙ ap (λ ys. ys ++ x ∷ since n xs) (filter_false (λ y. nat_lt (phase y) n) xs later)
-          ∙ ap (λ ys. x ∷ ys) (filter_true (λ y. not (nat_lt (phase y) n)) xs
-          (all-weaker (λ y. nat_lt (phase y) n ≡ false) (λ y. not (nat_lt (phase y) n) ≡ true) (λ y is. ap not is) xs later))
+    go : (phase x < n) ⊎ (n ≤ phase x) → until n xs ++ since n xs ≡ xs → until n (x ∷ xs) ++ since n (x ∷ xs) ≡ x ∷ xs
+    go (inl less) again =
+        ap (λ b. cond b (x ∷ until n xs) (until n xs) ++ cond (not b) (x ∷ since n xs) (since n xs)) (lt-ltb (phase x) n less)
+        ∙ ap (λ ys. x ∷ ys) again
+    go (inr from) again =
+        let later : AllByRecursion (λ y. nat_lt (phase y) n ≡ false) xs =
+        all-weaker (λ y. phase x ≤ phase y) (λ y. nat_lt (phase y) n ≡ false) (λ y le. le-ltb (phase y) n (omega arith)) xs up.0 in
+        ap (λ b. cond b (x ∷ until n xs) (until n xs) ++ cond (not b) (x ∷ since n xs) (since n xs)) (le-ltb (phase x) n from)
+        ∙ ap (λ ys. ys ++ x ∷ since n xs) (filter_false (λ y. nat_lt (phase y) n) xs later)
+        ∙ ap (λ ys. x ∷ ys) (filter_true (λ y. not (nat_lt (phase y) n)) xs
+        (all-weaker (λ y. nat_lt (phase y) n ≡ false) (λ y. not (nat_lt (phase y) n) ≡ true) (λ y is. ap not is) xs later))
 
   -- what is before the next phase is what is before this one, and this one
   pub until_next : (n : ℕ) (xs : List X) → IsOrderedBy (λ x y. phase x ≤ phase y) xs → until (suc n) xs ≡ until n xs ++ filter (λ x. phase x == n) xs

@@ -49,20 +49,20 @@ module _ (opening : Opening) (policy : Policy) (some : 0 < policy.joined_quota +
         ((commit_phase policy hot (call_of d) ≡ commit_phase policy hot (call_of e)) × (d.index < e.index))) →
         d.worker ≡ e.worker → is_splittable e.request ≡ true → d.index < e.index
     store_first d e order same store = go (order same) where
-        at_once : commit_phase policy hot (call_of e) ≡ phase_reached policy e.index
-        at_once = commit_free (phase_reached policy) (λ q request. is_put_off (hot_in hot q) request) (call_of e)
-            (and_left (not (is_splittable e.request)) (list_any (λ touched. option_map_or (is_hot (hot_in hot (phase_reached policy e.index))) touched false) (touches e.request)) (ap not store))
+      at_once : commit_phase policy hot (call_of e) ≡ phase_reached policy e.index
+      at_once = commit_free (phase_reached policy) (λ q request. is_put_off (hot_in hot q) request) (call_of e)
+          (and_left (not (is_splittable e.request)) (list_any (λ touched. option_map_or (is_hot (hot_in hot (phase_reached policy e.index))) touched false) (touches e.request)) (ap not store))
 
-        go : (commit_phase policy hot (call_of d) < commit_phase policy hot (call_of e)) ⊎ ((commit_phase policy hot (call_of d) ≡ commit_phase policy hot (call_of e)) × (d.index < e.index)) → d.index < e.index
-        go (inr both) = both.1
-        go (inl less) = later (cases_lt d.index e.index) where
-            later : (d.index < e.index) ⊎ (e.index ≤ d.index) → d.index < e.index
-            later (inl before) = before
-            later (inr not_before) =
-                let a : phase_reached policy e.index ≤ phase_reached policy d.index = reach_rises policy.joined_quota policy.split_quota some e.index d.index not_before in
-                let b : phase_reached policy d.index ≤ commit_phase policy hot (call_of d) = from policy hot (call_of d) in
-                let c : commit_phase policy hot (call_of e) ≡ phase_reached policy e.index = at_once in
-                absurd (omega arith)
+      go : (commit_phase policy hot (call_of d) < commit_phase policy hot (call_of e)) ⊎ ((commit_phase policy hot (call_of d) ≡ commit_phase policy hot (call_of e)) × (d.index < e.index)) → d.index < e.index
+      go (inr both) = both.1
+      go (inl less) = later (cases_lt d.index e.index) where
+        later : (d.index < e.index) ⊎ (e.index ≤ d.index) → d.index < e.index
+        later (inl before) = before
+        later (inr not_before) =
+            let a : phase_reached policy e.index ≤ phase_reached policy d.index = reach_rises policy.joined_quota policy.split_quota some e.index d.index not_before in
+            let b : phase_reached policy d.index ≤ commit_phase policy hot (call_of d) = from policy hot (call_of d) in
+            let c : commit_phase policy hot (call_of e) ≡ phase_reached policy e.index = at_once in
+            absurd (omega arith)
 
     greatest_is : length hot ≡ greatest_by (λ e. suc e.phase) history
     greatest_is =
@@ -70,23 +70,23 @@ module _ (opening : Opening) (policy : Policy) (some : 0 < policy.joined_quota +
         (all-weaker (λ e. e.phase < p) (λ e. suc e.phase ≤ p) (λ e less. omega arith) history run.phases_before) in
         let low : p ≤ greatest_by (λ e. suc e.phase) history = run.needed (greatest_by (λ e. suc e.phase) history) below in
         let is : length hot ≡ p = run.phase_count in omega arith where
-        entries_below : AllByRecursion (λ e. commit_phase policy hot (call_of e) < greatest_by (λ e. suc e.phase) history) history
-        entries_below = all-weaker (λ e. (suc e.phase ≤ greatest_by (λ e. suc e.phase) history) × (e.phase ≡ commit_phase policy hot (call_of e)))
-            (λ e. commit_phase policy hot (call_of e) < greatest_by (λ e. suc e.phase) history) (λ e both. at e both.0 both.1) history
-            (all-both (λ e. suc e.phase ≤ greatest_by (λ e. suc e.phase) history) (λ e. e.phase ≡ commit_phase policy hot (call_of e)) history (greatest_bounds (λ e. suc e.phase) history) run.phases)
-          where
-            at : (e : Entry) → suc e.phase ≤ greatest_by (λ e. suc e.phase) history → e.phase ≡ commit_phase policy hot (call_of e) → commit_phase policy hot (call_of e) < greatest_by (λ e. suc e.phase) history
-            at e le is = omega arith
+          entries_below : AllByRecursion (λ e. commit_phase policy hot (call_of e) < greatest_by (λ e. suc e.phase) history) history
+          entries_below = all-weaker (λ e. (suc e.phase ≤ greatest_by (λ e. suc e.phase) history) × (e.phase ≡ commit_phase policy hot (call_of e)))
+              (λ e. commit_phase policy hot (call_of e) < greatest_by (λ e. suc e.phase) history) (λ e both. at e both.0 both.1) history
+              (all-both (λ e. suc e.phase ≤ greatest_by (λ e. suc e.phase) history) (λ e. e.phase ≡ commit_phase policy hot (call_of e)) history (greatest_bounds (λ e. suc e.phase) history) run.phases)
+            where
+              at : (e : Entry) → suc e.phase ≤ greatest_by (λ e. suc e.phase) history → e.phase ≡ commit_phase policy hot (call_of e) → commit_phase policy hot (call_of e) < greatest_by (λ e. suc e.phase) history
+              at e le is = omega arith
 
-        below : (w : ℕ) → AllByRecursion (λ call. commit_phase policy hot call < greatest_by (λ e. suc e.phase) history) (numbered 0 (script_of scripts w))
-        below w = all-weaker (λ call. (commit_phase policy hot call < p → commit_phase policy hot call < greatest_by (λ e. suc e.phase) history) × (commit_phase policy hot call < p))
-            (λ call. commit_phase policy hot call < greatest_by (λ e. suc e.phase) history) (λ call both. both.0 both.1) (numbered 0 (script_of scripts w))
-            (all-both (λ call. commit_phase policy hot call < p → commit_phase policy hot call < greatest_by (λ e. suc e.phase) history) (λ call. commit_phase policy hot call < p) (numbered 0 (script_of scripts w))
-            (all_from_turns (commit_phase policy hot) (λ call. commit_phase policy hot call < greatest_by (λ e. suc e.phase) history) p (script_of scripts w)
-            (subst (AllByRecursion (λ call. commit_phase policy hot call < greatest_by (λ e. suc e.phase) history)) (run.done w)
-            (all-map call_of (λ call. commit_phase policy hot call < greatest_by (λ e. suc e.phase) history) (part (λ e. e.worker) w history)
-            (all-filter (λ e. commit_phase policy hot (call_of e) < greatest_by (λ e. suc e.phase) history) (λ e. e.worker == w) history entries_below))))
-            (all_commit w))
+          below : (w : ℕ) → AllByRecursion (λ call. commit_phase policy hot call < greatest_by (λ e. suc e.phase) history) (numbered 0 (script_of scripts w))
+          below w = all-weaker (λ call. (commit_phase policy hot call < p → commit_phase policy hot call < greatest_by (λ e. suc e.phase) history) × (commit_phase policy hot call < p))
+              (λ call. commit_phase policy hot call < greatest_by (λ e. suc e.phase) history) (λ call both. both.0 both.1) (numbered 0 (script_of scripts w))
+              (all-both (λ call. commit_phase policy hot call < p → commit_phase policy hot call < greatest_by (λ e. suc e.phase) history) (λ call. commit_phase policy hot call < p) (numbered 0 (script_of scripts w))
+              (all_from_turns (commit_phase policy hot) (λ call. commit_phase policy hot call < greatest_by (λ e. suc e.phase) history) p (script_of scripts w)
+              (subst (AllByRecursion (λ call. commit_phase policy hot call < greatest_by (λ e. suc e.phase) history)) (run.done w)
+              (all-map call_of (λ call. commit_phase policy hot call < greatest_by (λ e. suc e.phase) history) (part (λ e. e.worker) w history)
+              (all-filter (λ e. commit_phase policy hot (call_of e) < greatest_by (λ e. suc e.phase) history) (λ e. e.worker == w) history entries_below))))
+              (all_commit w))
 
     pub run_serves : Serves opening policy scripts hot history
     run_serves = record {
@@ -113,10 +113,10 @@ module _ (opening : Opening) (policy : Policy) (some : 0 < policy.joined_quota +
       phase_count = greatest_is;
       numbers = numbered_all;
     } where
-        in_phase : (d e : Entry) → d.phase ≡ commit_phase policy hot (call_of d) → e.phase ≡ commit_phase policy hot (call_of e) →
-            (commit_phase policy hot (call_of d) < commit_phase policy hot (call_of e)) ⊎ ((commit_phase policy hot (call_of d) ≡ commit_phase policy hot (call_of e)) × (d.index < e.index)) → d.phase ≡ e.phase → d.index < e.index
-        in_phase d e is is' (inl less) phases = absurd (omega arith)
-        in_phase d e is is' (inr both) phases = both.1
+      in_phase : (d e : Entry) → d.phase ≡ commit_phase policy hot (call_of d) → e.phase ≡ commit_phase policy hot (call_of e) →
+          (commit_phase policy hot (call_of d) < commit_phase policy hot (call_of e)) ⊎ ((commit_phase policy hot (call_of d) ≡ commit_phase policy hot (call_of e)) × (d.index < e.index)) → d.phase ≡ e.phase → d.index < e.index
+      in_phase d e is is' (inl less) phases = absurd (omega arith)
+      in_phase d e is is' (inr both) phases = both.1
 
 -- A run has few phases.
 pub few_phases : (policy : Policy) (some : 0 < policy.joined_quota + policy.split_quota) (scripts : List (List Request)) (p most : ℕ) (hot : List (List Object)) (history : List Entry) (stashes : ℕ → List (ℕ × Request)) →
@@ -124,7 +124,7 @@ pub few_phases : (policy : Policy) (some : 0 < policy.joined_quota + policy.spli
 few_phases policy some scripts p most hot history stashes run short = run.needed (2 * most + 2)
     (λ w. all-weaker (λ call. call.0 < most) (λ call. commit_phase policy hot call < 2 * most + 2) (λ call less. early call less) (numbered 0 (script_of scripts w))
     (numbered_until 0 most (script_of scripts w) (let e : length (script_of scripts w) ≤ most = short w in omega arith))) where
-    early : (call : ℕ × Request) → call.0 < most → commit_phase policy hot call < 2 * most + 2
-    early call less =
-        let a : commit_phase policy hot call ≤ suc (phase_reached policy call.0) = until policy hot call in
-        let b : phase_reached policy call.0 ≤ 2 * call.0 + 1 = reach_most policy.joined_quota policy.split_quota some call.0 in omega arith
+      early : (call : ℕ × Request) → call.0 < most → commit_phase policy hot call < 2 * most + 2
+      early call less =
+          let a : commit_phase policy hot call ≤ suc (phase_reached policy call.0) = until policy hot call in
+          let b : phase_reached policy call.0 ≤ 2 * call.0 + 1 = reach_most policy.joined_quota policy.split_quota some call.0 in omega arith

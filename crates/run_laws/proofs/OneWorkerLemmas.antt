@@ -79,18 +79,18 @@ module _ {opening : Opening} {start : Book} {policy : Policy} {script : List Req
   -- each request of the script commits in one of the phases
   pub commits_below : (i : ℕ) (r : Request) → slice_get script i ≡ Some r → commit_phase policy hot (i, r) < length hot
   commits_below i r is = go (cases_lt (commit_phase policy hot (i, r)) (length hot)) where
-      absent : length hot ≤ commit_phase policy hot (i, r) → (e : Entry) → e.phase < length hot → (e.index ≡ i → e.phase ≡ commit_phase policy hot (i, r)) → (e.index == i) ≡ false
-      absent high e low in_phase = ne_eqb e.index i (λ same. let p : e.phase ≡ commit_phase policy hot (i, r) = in_phase same in omega arith)
+    absent : length hot ≤ commit_phase policy hot (i, r) → (e : Entry) → e.phase < length hot → (e.index ≡ i → e.phase ≡ commit_phase policy hot (i, r)) → (e.index == i) ≡ false
+    absent high e low in_phase = ne_eqb e.index i (λ same. let p : e.phase ≡ commit_phase policy hot (i, r) = in_phase same in omega arith)
 
-      go : (commit_phase policy hot (i, r) < length hot) ⊎ (length hot ≤ commit_phase policy hot (i, r)) → commit_phase policy hot (i, r) < length hot
-      go (inl less) = less
-      go (inr high) =
-          let none : how_many (λ e. e.index == i) history ≡ 0 = count_none (λ e. e.index == i) history
-          (all-weaker (λ e. (e.phase < length hot) × (e.index ≡ i → e.phase ≡ commit_phase policy hot (i, r))) (λ e. (e.index == i) ≡ false)
-          (λ e both. absent high e both.0 both.1) history
-          (all-both (λ e. e.phase < length hot) (λ e. e.index ≡ i → e.phase ≡ commit_phase policy hot (i, r)) history all_below (in_its_phase i r is))) in
-          let once : how_many (λ e. e.index == i) history ≡ 1 =
-          index_count i ∙ ap (λ b. cond b 1 0) (lt-ltb i (length script) (slice_get_within script i r is)) in absurd (omega arith)
+    go : (commit_phase policy hot (i, r) < length hot) ⊎ (length hot ≤ commit_phase policy hot (i, r)) → commit_phase policy hot (i, r) < length hot
+    go (inl less) = less
+    go (inr high) =
+        let none : how_many (λ e. e.index == i) history ≡ 0 = count_none (λ e. e.index == i) history
+        (all-weaker (λ e. (e.phase < length hot) × (e.index ≡ i → e.phase ≡ commit_phase policy hot (i, r))) (λ e. (e.index == i) ≡ false)
+        (λ e both. absent high e both.0 both.1) history
+        (all-both (λ e. e.phase < length hot) (λ e. e.index ≡ i → e.phase ≡ commit_phase policy hot (i, r)) history all_below (in_its_phase i r is))) in
+        let once : how_many (λ e. e.index == i) history ≡ 1 =
+        index_count i ∙ ap (λ b. cond b 1 0) (lt-ltb i (length script) (slice_get_within script i r is)) in absurd (omega arith)
 
   module _ (n : ℕ) where
     -- how often an index occurs in a phase
@@ -107,10 +107,10 @@ module _ {opening : Opening} {start : Book} {policy : Policy} {script : List Req
         (λ e in_phase. same_test e in_phase (e.index == i) refl) history (in_its_phase i r is))
         ∙ count_where (commit_phase policy hot (i, r) == n) (λ e. e.index == i) history
         ∙ ap (λ m. cond (commit_phase policy hot (i, r) == n) m 0) (index_count i) where
-        same_test : (e : Entry) → (e.index ≡ i → e.phase ≡ commit_phase policy hot (i, r)) → (b : Bool) → (e.index == i) ≡ b →
-            ((e.phase == n) && (e.index == i)) ≡ ((commit_phase policy hot (i, r) == n) && (e.index == i))
-        same_test e in_phase true is = ap (λ p. (p == n) && (e.index == i)) (in_phase (eqb-true e.index i is))
-        same_test e in_phase false is = and_right (e.phase == n) (e.index == i) is ∙ sym (and_right (commit_phase policy hot (i, r) == n) (e.index == i) is)
+          same_test : (e : Entry) → (e.index ≡ i → e.phase ≡ commit_phase policy hot (i, r)) → (b : Bool) → (e.index == i) ≡ b →
+              ((e.phase == n) && (e.index == i)) ≡ ((commit_phase policy hot (i, r) == n) && (e.index == i))
+          same_test e in_phase true is = ap (λ p. (p == n) && (e.index == i)) (in_phase (eqb-true e.index i is))
+          same_test e in_phase false is = and_right (e.phase == n) (e.index == i) is ∙ sym (and_right (commit_phase policy hot (i, r) == n) (e.index == i) is)
 
     -- the calls of a phase are the script's
     pub calls_are : AllByRecursion (λ call. slice_get script call.0 ≡ Some call.1) (calls_in n history)
@@ -163,67 +163,67 @@ module _ {opening : Opening} {start : Book} {policy : Policy} {script : List Req
     -- the hot sets so far are the same
     same_hot : (q : ℕ) → q ≤ n → q < length hot → q < length hot' → hot_in hot q ≡ hot_in hot' q
     same_hot q le less less' = go (cases_Bool (is_split q)) where
-        earlier : q - 1 < n → segment_of (q - 1) history ≡ segment_of (q - 1) history'
-        earlier early =
-            sym (earlier_until (λ e. e.phase) (q - 1) n early history)
-            ∙ ap (segment_of (q - 1)) before
-            ∙ earlier_until (λ e. e.phase) (q - 1) n early history'
+      earlier : q - 1 < n → segment_of (q - 1) history ≡ segment_of (q - 1) history'
+      earlier early =
+          sym (earlier_until (λ e. e.phase) (q - 1) n early history)
+          ∙ ap (segment_of (q - 1)) before
+          ∙ earlier_until (λ e. e.phase) (q - 1) n early history'
 
-        go : (is_split q ≡ true) ⊎ (is_split q ≡ false) → hot_in hot q ≡ hot_in hot' q
-        go (inl split) =
-            let more : 0 < q = after_first q split in
-            answer.chosen.split q less split
-            ∙ ap (λ entries. choose entries policy.threshold policy.hot_max) (earlier (omega arith))
-            ∙ sym (answer'.chosen.split q less' split)
-        go (inr joined) = answer.chosen.joined q less joined ∙ sym (answer'.chosen.joined q less' joined)
+      go : (is_split q ≡ true) ⊎ (is_split q ≡ false) → hot_in hot q ≡ hot_in hot' q
+      go (inl split) =
+          let more : 0 < q = after_first q split in
+          answer.chosen.split q less split
+          ∙ ap (λ entries. choose entries policy.threshold policy.hot_max) (earlier (omega arith))
+          ∙ sym (answer'.chosen.split q less' split)
+      go (inr joined) = answer.chosen.joined q less joined ∙ sym (answer'.chosen.joined q less' joined)
 
     -- so the phase has the same requests of the script
     same_test : (i : ℕ) (r : Request) → slice_get script i ≡ Some r → (commit_phase policy hot (i, r) == n) ≡ (commit_phase policy hot' (i, r) == n)
     same_test i r is = go (cases_lt n (phase_reached policy i)) where
-        low : phase_reached policy i ≤ commit_phase policy hot (i, r)
-        low = from policy hot (i, r)
+      low : phase_reached policy i ≤ commit_phase policy hot (i, r)
+      low = from policy hot (i, r)
 
-        low' : phase_reached policy i ≤ commit_phase policy hot' (i, r)
-        low' = from policy hot' (i, r)
+      low' : phase_reached policy i ≤ commit_phase policy hot' (i, r)
+      low' = from policy hot' (i, r)
 
-        go : (n < phase_reached policy i) ⊎ (phase_reached policy i ≤ n) → (commit_phase policy hot (i, r) == n) ≡ (commit_phase policy hot' (i, r) == n)
-        go (inl more) =
-            let a : phase_reached policy i ≤ commit_phase policy hot (i, r) = low in
-            let b : phase_reached policy i ≤ commit_phase policy hot' (i, r) = low' in
-            ne_eqb (commit_phase policy hot (i, r)) n (λ (e : commit_phase policy hot (i, r) ≡ n). omega arith)
-            ∙ sym (ne_eqb (commit_phase policy hot' (i, r)) n (λ (e : commit_phase policy hot' (i, r) ≡ n). omega arith))
-        go (inr le) =
-            let a : phase_reached policy i ≤ commit_phase policy hot (i, r) = low in
-            let b : phase_reached policy i ≤ commit_phase policy hot' (i, r) = low' in
-            let c : commit_phase policy hot (i, r) < length hot = commits_below answer i r is in
-            let d : commit_phase policy hot' (i, r) < length hot' = commits_below answer' i r is in
-            ap (λ objects. (phase_reached policy i + cond (is_split (phase_reached policy i) && is_put_off objects r) 1 0) == n)
-            (same_hot (phase_reached policy i) le (omega arith) (omega arith))
+      go : (n < phase_reached policy i) ⊎ (phase_reached policy i ≤ n) → (commit_phase policy hot (i, r) == n) ≡ (commit_phase policy hot' (i, r) == n)
+      go (inl more) =
+          let a : phase_reached policy i ≤ commit_phase policy hot (i, r) = low in
+          let b : phase_reached policy i ≤ commit_phase policy hot' (i, r) = low' in
+          ne_eqb (commit_phase policy hot (i, r)) n (λ (e : commit_phase policy hot (i, r) ≡ n). omega arith)
+          ∙ sym (ne_eqb (commit_phase policy hot' (i, r)) n (λ (e : commit_phase policy hot' (i, r) ≡ n). omega arith))
+      go (inr le) =
+          let a : phase_reached policy i ≤ commit_phase policy hot (i, r) = low in
+          let b : phase_reached policy i ≤ commit_phase policy hot' (i, r) = low' in
+          let c : commit_phase policy hot (i, r) < length hot = commits_below answer i r is in
+          let d : commit_phase policy hot' (i, r) < length hot' = commits_below answer' i r is in
+          ap (λ objects. (phase_reached policy i + cond (is_split (phase_reached policy i) && is_put_off objects r) 1 0) == n)
+          (same_hot (phase_reached policy i) le (omega arith) (omega arith))
 
     same_part : (i : ℕ) → part (λ call. call.0) i (calls_in n history) ≡ part (λ call. call.0) i (calls_in n history')
     same_part i = go (slice_get script i) refl where
-        none : slice_get script i ≡ None → (calls : List (ℕ × Request)) → AllByRecursion (λ call. slice_get script call.0 ≡ Some call.1) calls → part (λ call. call.0) i calls ≡ []
-        none is calls are = filter_false (λ call. call.0 == i) calls
-            (all-weaker (λ call. slice_get script call.0 ≡ Some call.1) (λ call. (call.0 == i) ≡ false)
-            (λ call got. ne_eqb call.0 i (λ (same : call.0 ≡ i). let e : Some call.1 ≡ None = sym got ∙ ap (slice_get script) same ∙ is in cc)) calls are)
+      none : slice_get script i ≡ None → (calls : List (ℕ × Request)) → AllByRecursion (λ call. slice_get script call.0 ≡ Some call.1) calls → part (λ call. call.0) i calls ≡ []
+      none is calls are = filter_false (λ call. call.0 == i) calls
+          (all-weaker (λ call. slice_get script call.0 ≡ Some call.1) (λ call. (call.0 == i) ≡ false)
+          (λ call got. ne_eqb call.0 i (λ (same : call.0 ≡ i). let e : Some call.1 ≡ None = sym got ∙ ap (slice_get script) same ∙ is in cc)) calls are)
 
-        all_one : (r : Request) → slice_get script i ≡ Some r → (calls : List (ℕ × Request)) → AllByRecursion (λ call. slice_get script call.0 ≡ Some call.1) calls →
-            AllByRecursion (λ call. call ≡ (i, r)) (part (λ call. call.0) i calls)
-        all_one r is calls are =
-            all-weaker (λ call. (slice_get script call.0 ≡ Some call.1) × ((call.0 == i) ≡ true)) (λ call. call ≡ (i, r)) (λ call both. one call both.0 (eqb-true call.0 i both.1))
-            (part (λ call. call.0) i calls)
-            (all-both (λ call. slice_get script call.0 ≡ Some call.1) (λ call. (call.0 == i) ≡ true) (part (λ call. call.0) i calls)
-            (all-filter (λ call. slice_get script call.0 ≡ Some call.1) (λ call. call.0 == i) calls are) (all-kept (λ call. call.0 == i) calls)) where
+      all_one : (r : Request) → slice_get script i ≡ Some r → (calls : List (ℕ × Request)) → AllByRecursion (λ call. slice_get script call.0 ≡ Some call.1) calls →
+          AllByRecursion (λ call. call ≡ (i, r)) (part (λ call. call.0) i calls)
+      all_one r is calls are =
+          all-weaker (λ call. (slice_get script call.0 ≡ Some call.1) × ((call.0 == i) ≡ true)) (λ call. call ≡ (i, r)) (λ call both. one call both.0 (eqb-true call.0 i both.1))
+          (part (λ call. call.0) i calls)
+          (all-both (λ call. slice_get script call.0 ≡ Some call.1) (λ call. (call.0 == i) ≡ true) (part (λ call. call.0) i calls)
+          (all-filter (λ call. slice_get script call.0 ≡ Some call.1) (λ call. call.0 == i) calls are) (all-kept (λ call. call.0 == i) calls)) where
             one : (call : ℕ × Request) → slice_get script call.0 ≡ Some call.1 → call.0 ≡ i → call ≡ (i, r)
             one call got same =
                 let some : Some call.1 ≡ Some r = sym got ∙ ap (slice_get script) same ∙ is in
                 let request : call.1 ≡ r = cc in λ k. (same k, request k)
 
-        go : (o : Option Request) → slice_get script i ≡ o → part (λ call. call.0) i (calls_in n history) ≡ part (λ call. call.0) i (calls_in n history')
-        go None is = none is (calls_in n history) (calls_are answer n) ∙ sym (none is (calls_in n history') (calls_are answer' n))
-        go (Some r) is = same_repeated (i, r) (part (λ call. call.0) i (calls_in n history)) (part (λ call. call.0) i (calls_in n history'))
-            (all_one r is (calls_in n history) (calls_are answer n)) (all_one r is (calls_in n history') (calls_are answer' n))
-            (count_in answer n i r is ∙ ap (λ b. cond b (cond (nat_lt i (length script)) 1 0) 0) (same_test i r is) ∙ sym (count_in answer' n i r is))
+      go : (o : Option Request) → slice_get script i ≡ o → part (λ call. call.0) i (calls_in n history) ≡ part (λ call. call.0) i (calls_in n history')
+      go None is = none is (calls_in n history) (calls_are answer n) ∙ sym (none is (calls_in n history') (calls_are answer' n))
+      go (Some r) is = same_repeated (i, r) (part (λ call. call.0) i (calls_in n history)) (part (λ call. call.0) i (calls_in n history'))
+          (all_one r is (calls_in n history) (calls_are answer n)) (all_one r is (calls_in n history') (calls_are answer' n))
+          (count_in answer n i r is ∙ ap (λ b. cond b (cond (nat_lt i (length script)) 1 0) 0) (same_test i r is) ∙ sym (count_in answer' n i r is))
 
     same_calls : calls_in n history ≡ calls_in n history'
     same_calls = same_parts (λ call. call.0) (λ call. call.0) (calls_in n history) (calls_in n history') (calls_rise answer n) (calls_rise answer' n) same_part

@@ -42,21 +42,21 @@ module _ (policy : Policy) (some : 0 < policy.joined_quota + policy.split_quota)
 
     same_test : (q : ℕ) → q < p → (call : ℕ × Request) → (commit_phase policy hot call == q) ≡ (commit_phase policy (hot ++ hot_now ∷ []) call == q)
     same_test q less call = go (cases_lt (phase_reached policy call.0) p) where
-        go : (phase_reached policy call.0 < p) ⊎ (p ≤ phase_reached policy call.0) → (commit_phase policy hot call == q) ≡ (commit_phase policy (hot ++ hot_now ∷ []) call == q)
-        go (inl before) = ap (λ n. n == q) (sym (same_commit call before))
-        go (inr later) =
-            let a : phase_reached policy call.0 ≤ commit_phase policy hot call = from policy hot call in
-            let b : phase_reached policy call.0 ≤ commit_phase policy (hot ++ hot_now ∷ []) call = from policy (hot ++ hot_now ∷ []) call in
-            ne_eqb (commit_phase policy hot call) q (λ (e : commit_phase policy hot call ≡ q). omega arith)
-            ∙ sym (ne_eqb (commit_phase policy (hot ++ hot_now ∷ []) call) q (λ (e : commit_phase policy (hot ++ hot_now ∷ []) call ≡ q). omega arith))
+      go : (phase_reached policy call.0 < p) ⊎ (p ≤ phase_reached policy call.0) → (commit_phase policy hot call == q) ≡ (commit_phase policy (hot ++ hot_now ∷ []) call == q)
+      go (inl before) = ap (λ n. n == q) (sym (same_commit call before))
+      go (inr later) =
+          let a : phase_reached policy call.0 ≤ commit_phase policy hot call = from policy hot call in
+          let b : phase_reached policy call.0 ≤ commit_phase policy (hot ++ hot_now ∷ []) call = from policy (hot ++ hot_now ∷ []) call in
+          ne_eqb (commit_phase policy hot call) q (λ (e : commit_phase policy hot call ≡ q). omega arith)
+          ∙ sym (ne_eqb (commit_phase policy (hot ++ hot_now ∷ []) call) q (λ (e : commit_phase policy (hot ++ hot_now ∷ []) call ≡ q). omega arith))
 
     same_wait : (call : ℕ × Request) → (nat_lt (phase_reached policy call.0) p && (commit_phase policy hot call == p)) ≡ (nat_lt (phase_reached policy call.0) p && (commit_phase policy (hot ++ hot_now ∷ []) call == p))
     same_wait call = go (cases_lt (phase_reached policy call.0) p) where
-        go : (phase_reached policy call.0 < p) ⊎ (p ≤ phase_reached policy call.0) → (nat_lt (phase_reached policy call.0) p && (commit_phase policy hot call == p)) ≡ (nat_lt (phase_reached policy call.0) p && (commit_phase policy (hot ++ hot_now ∷ []) call == p))
-        go (inl before) = ap (λ n. nat_lt (phase_reached policy call.0) p && (n == p)) (sym (same_commit call before))
-        go (inr later) =
-            and_left (nat_lt (phase_reached policy call.0) p) (commit_phase policy hot call == p) (le-ltb (phase_reached policy call.0) p later)
-            ∙ sym (and_left (nat_lt (phase_reached policy call.0) p) (commit_phase policy (hot ++ hot_now ∷ []) call == p) (le-ltb (phase_reached policy call.0) p later))
+      go : (phase_reached policy call.0 < p) ⊎ (p ≤ phase_reached policy call.0) → (nat_lt (phase_reached policy call.0) p && (commit_phase policy hot call == p)) ≡ (nat_lt (phase_reached policy call.0) p && (commit_phase policy (hot ++ hot_now ∷ []) call == p))
+      go (inl before) = ap (λ n. nat_lt (phase_reached policy call.0) p && (n == p)) (sym (same_commit call before))
+      go (inr later) =
+          and_left (nat_lt (phase_reached policy call.0) p) (commit_phase policy hot call == p) (le-ltb (phase_reached policy call.0) p later)
+          ∙ sym (and_left (nat_lt (phase_reached policy call.0) p) (commit_phase policy (hot ++ hot_now ∷ []) call == p) (le-ltb (phase_reached policy call.0) p later))
 
     waiting_same : (w : ℕ) → stashes w ≡ waiting (phase_reached policy) (commit_phase policy (hot ++ hot_now ∷ [])) p (script_of scripts w)
     waiting_same w = run.stashed w ∙ filter_same (λ call. nat_lt (phase_reached policy call.0) p && (commit_phase policy hot call == p)) (λ call. nat_lt (phase_reached policy call.0) p && (commit_phase policy (hot ++ hot_now ∷ []) call == p))
@@ -67,29 +67,29 @@ module _ (policy : Policy) (some : 0 < policy.joined_quota + policy.split_quota)
 
     segment_turn : (w : ℕ) → calls_of w segment ≡ turn (commit_phase policy (hot ++ hot_now ∷ [])) p (script_of scripts w)
     segment_turn w = go (cases_Bool (is_split p)) where
-        go : (is_split p ≡ true) ⊎ (is_split p ≡ false) → calls_of w segment ≡ turn (commit_phase policy (hot ++ hot_now ∷ [])) p (script_of scripts w)
-        go (inl split) =
-            phase.split_calls split w
-            ∙ ap (λ objects. filter (λ call. not (is_put_off objects call.1)) (calls_given policy p (script_of scripts w))) (sym same_now)
-            ∙ ap (filter (λ call. not (is_put_off (hot_in (hot ++ hot_now ∷ []) p) call.1))) (given_is w)
-            ∙ sym (split_turn (phase_reached policy) (λ q request. is_put_off (hot_in (hot ++ hot_now ∷ []) q) request) p split (script_of scripts w))
-        go (inr joined) =
-            phase.joined_calls joined w
-            ∙ ap (λ calls. calls ++ calls_given policy p (script_of scripts w)) (waiting_same w)
-            ∙ ap (λ calls. waiting (phase_reached policy) (commit_phase policy (hot ++ hot_now ∷ [])) p (script_of scripts w) ++ calls) (given_is w)
-            ∙ sym (joined_turn (phase_reached policy) (λ q request. is_put_off (hot_in (hot ++ hot_now ∷ []) q) request) p (reach_rises policy.joined_quota policy.split_quota some) joined (script_of scripts w))
+      go : (is_split p ≡ true) ⊎ (is_split p ≡ false) → calls_of w segment ≡ turn (commit_phase policy (hot ++ hot_now ∷ [])) p (script_of scripts w)
+      go (inl split) =
+          phase.split_calls split w
+          ∙ ap (λ objects. filter (λ call. not (is_put_off objects call.1)) (calls_given policy p (script_of scripts w))) (sym same_now)
+          ∙ ap (filter (λ call. not (is_put_off (hot_in (hot ++ hot_now ∷ []) p) call.1))) (given_is w)
+          ∙ sym (split_turn (phase_reached policy) (λ q request. is_put_off (hot_in (hot ++ hot_now ∷ []) q) request) p split (script_of scripts w))
+      go (inr joined) =
+          phase.joined_calls joined w
+          ∙ ap (λ calls. calls ++ calls_given policy p (script_of scripts w)) (waiting_same w)
+          ∙ ap (λ calls. waiting (phase_reached policy) (commit_phase policy (hot ++ hot_now ∷ [])) p (script_of scripts w) ++ calls) (given_is w)
+          ∙ sym (joined_turn (phase_reached policy) (λ q request. is_put_off (hot_in (hot ++ hot_now ∷ []) q) request) p (reach_rises policy.joined_quota policy.split_quota some) joined (script_of scripts w))
 
     after_is : (w : ℕ) → after w ≡ waiting (phase_reached policy) (commit_phase policy (hot ++ hot_now ∷ [])) (suc p) (script_of scripts w)
     after_is w = go (cases_Bool (is_split p)) where
-        go : (is_split p ≡ true) ⊎ (is_split p ≡ false) → after w ≡ waiting (phase_reached policy) (commit_phase policy (hot ++ hot_now ∷ [])) (suc p) (script_of scripts w)
-        go (inl split) =
-            phase.split_stash split w
-            ∙ ap (λ objects. filter (λ call. is_put_off objects call.1) (calls_given policy p (script_of scripts w))) (sym same_now)
-            ∙ ap (filter (λ call. is_put_off (hot_in (hot ++ hot_now ∷ []) p) call.1)) (given_is w)
-            ∙ sym (waiting_next (phase_reached policy) (λ q request. is_put_off (hot_in (hot ++ hot_now ∷ []) q) request) p split (script_of scripts w))
-        go (inr joined) =
-            phase.joined_stash joined w
-            ∙ sym (waiting_none (phase_reached policy) (λ q request. is_put_off (hot_in (hot ++ hot_now ∷ []) q) request) p joined (script_of scripts w))
+      go : (is_split p ≡ true) ⊎ (is_split p ≡ false) → after w ≡ waiting (phase_reached policy) (commit_phase policy (hot ++ hot_now ∷ [])) (suc p) (script_of scripts w)
+      go (inl split) =
+          phase.split_stash split w
+          ∙ ap (λ objects. filter (λ call. is_put_off objects call.1) (calls_given policy p (script_of scripts w))) (sym same_now)
+          ∙ ap (filter (λ call. is_put_off (hot_in (hot ++ hot_now ∷ []) p) call.1)) (given_is w)
+          ∙ sym (waiting_next (phase_reached policy) (λ q request. is_put_off (hot_in (hot ++ hot_now ∷ []) q) request) p split (script_of scripts w))
+      go (inr joined) =
+          phase.joined_stash joined w
+          ∙ sym (waiting_none (phase_reached policy) (λ q request. is_put_off (hot_in (hot ++ hot_now ∷ []) q) request) p joined (script_of scripts w))
 
     segment_commits : AllByRecursion (λ e. commit_phase policy (hot ++ hot_now ∷ []) (call_of e) ≡ p) segment
     segment_commits = of_calls (λ call. commit_phase policy (hot ++ hot_now ∷ []) call ≡ p) segment
@@ -109,16 +109,16 @@ module _ (policy : Policy) (some : 0 < policy.joined_quota + policy.split_quota)
         let less : commit_phase policy (hot ++ hot_now ∷ []) (first_index policy p, call.0) < n = call.1 in
         omega arith
     still_needed w (inr waits) n all = go (cases_lt p n) where
-        none : n ≤ p → stashes w ≡ []
-        none le = waiting_same w ∙ filter_false (λ call. nat_lt (phase_reached policy call.0) p && (commit_phase policy (hot ++ hot_now ∷ []) call == p)) (numbered 0 (script_of scripts w))
-            (all-weaker (λ call. commit_phase policy (hot ++ hot_now ∷ []) call < n) (λ call. (nat_lt (phase_reached policy call.0) p && (commit_phase policy (hot ++ hot_now ∷ []) call == p)) ≡ false)
-            (λ call less. and_right (nat_lt (phase_reached policy call.0) p) (commit_phase policy (hot ++ hot_now ∷ []) call == p)
-            (ne_eqb (commit_phase policy (hot ++ hot_now ∷ []) call) p (λ (e : commit_phase policy (hot ++ hot_now ∷ []) call ≡ p). omega arith)))
-            (numbered 0 (script_of scripts w)) (all w))
+      none : n ≤ p → stashes w ≡ []
+      none le = waiting_same w ∙ filter_false (λ call. nat_lt (phase_reached policy call.0) p && (commit_phase policy (hot ++ hot_now ∷ []) call == p)) (numbered 0 (script_of scripts w))
+          (all-weaker (λ call. commit_phase policy (hot ++ hot_now ∷ []) call < n) (λ call. (nat_lt (phase_reached policy call.0) p && (commit_phase policy (hot ++ hot_now ∷ []) call == p)) ≡ false)
+          (λ call less. and_right (nat_lt (phase_reached policy call.0) p) (commit_phase policy (hot ++ hot_now ∷ []) call == p)
+          (ne_eqb (commit_phase policy (hot ++ hot_now ∷ []) call) p (λ (e : commit_phase policy (hot ++ hot_now ∷ []) call ≡ p). omega arith)))
+          (numbered 0 (script_of scripts w)) (all w))
 
-        go : (p < n) ⊎ (n ≤ p) → suc p ≤ n
-        go (inl less) = omega arith
-        go (inr le) = let e : length (stashes w) ≡ 0 = ap length (none le) in absurd (omega arith)
+      go : (p < n) ⊎ (n ≤ p) → suc p ≤ n
+      go (inl less) = omega arith
+      go (inr le) = let e : length (stashes w) ≡ 0 = ap length (none le) in absurd (omega arith)
 
     pub phase_runs : (w : ℕ) → HasLeft policy scripts p stashes w → HasRun policy scripts (suc p) (hot ++ hot_now ∷ []) (history ++ segment) after
     phase_runs w left = record {

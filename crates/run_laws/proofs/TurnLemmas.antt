@@ -8,10 +8,10 @@ use Rattle.run_laws.specs.Turns.{numbered, commits_in, turn, waiting, reaching}
 pub filter_twice : {X : Type 0} (p q : X → Bool) (xs : List X) → filter q (filter p xs) ≡ filter (λ x. p x && q x) xs
 filter_twice p q [] = refl
 filter_twice p q (x ∷ xs) = go (p x) (filter_twice p q xs) where
-    go : (b : Bool) → filter q (filter p xs) ≡ filter (λ y. p y && q y) xs →
-        filter q (cond b (x ∷ filter p xs) (filter p xs)) ≡ cond (b && q x) (x ∷ filter (λ y. p y && q y) xs) (filter (λ y. p y && q y) xs)
-    go true again = ap (λ ys. cond (q x) (x ∷ ys) ys) again
-    go false again = again
+  go : (b : Bool) → filter q (filter p xs) ≡ filter (λ y. p y && q y) xs →
+      filter q (cond b (x ∷ filter p xs) (filter p xs)) ≡ cond (b && q x) (x ∷ filter (λ y. p y && q y) xs) (filter (λ y. p y && q y) xs)
+  go true again = ap (λ ys. cond (q x) (x ∷ ys) ys) again
+  go false again = again
 
 module _ {R : Type 0} where
   pub filter_numbered : (p q : ℕ × R → Bool) (k : ℕ) (rs : List R) → ((i : ℕ) (r : R) → k ≤ i → p (i, r) ≡ q (i, r)) →
@@ -53,89 +53,89 @@ module _ {R : Type 0} (reach : ℕ → ℕ) (held : ℕ → R → Bool) where
     -- a call that commits in a later phase than it reaches reached a split phase
     late_is_split : (call : ℕ × R) → reach call.0 < commits_in reach held call → is_split (reach call.0) ≡ true
     late_is_split call less = go (cases_Bool (is_split (reach call.0))) where
-        go : (is_split (reach call.0) ≡ true) ⊎ (is_split (reach call.0) ≡ false) → is_split (reach call.0) ≡ true
-        go (inl is) = is
-        go (inr is) = let e : commits_in reach held call ≡ reach call.0 = commit_joined call is in absurd (omega arith)
+      go : (is_split (reach call.0) ≡ true) ⊎ (is_split (reach call.0) ≡ false) → is_split (reach call.0) ≡ true
+      go (inl is) = is
+      go (inr is) = let e : commits_in reach held call ≡ reach call.0 = commit_joined call is in absurd (omega arith)
 
     -- in a joined phase or later: who commits in p reaches p
     joined_test : is_split p ≡ false → (call : ℕ × R) → p ≤ reach call.0 → (commits_in reach held call == p) ≡ (reach call.0 == p)
     joined_test joined call from = go (cases_order (reach call.0) p) where
-        go : (reach call.0 ≡ p) ⊎ ((reach call.0 < p) ⊎ (p < reach call.0)) → (commits_in reach held call == p) ≡ (reach call.0 == p)
-        go (inl same) = ap (λ n. n == p) (commit_joined call (ap is_split same ∙ joined))
-        go (inr (inl less)) = absurd (omega arith)
-        go (inr (inr more)) =
-            let c : reach call.0 ≤ commits_in reach held call = commit_from call in
-            ne_eqb (commits_in reach held call) p (λ (e : commits_in reach held call ≡ p). omega arith) ∙ sym (ne_eqb (reach call.0) p (λ (e : reach call.0 ≡ p). omega arith))
+      go : (reach call.0 ≡ p) ⊎ ((reach call.0 < p) ⊎ (p < reach call.0)) → (commits_in reach held call == p) ≡ (reach call.0 == p)
+      go (inl same) = ap (λ n. n == p) (commit_joined call (ap is_split same ∙ joined))
+      go (inr (inl less)) = absurd (omega arith)
+      go (inr (inr more)) =
+          let c : reach call.0 ≤ commits_in reach held call = commit_from call in
+          ne_eqb (commits_in reach held call) p (λ (e : commits_in reach held call ≡ p). omega arith) ∙ sym (ne_eqb (reach call.0) p (λ (e : reach call.0 ≡ p). omega arith))
 
     -- in a split phase: who commits in p reaches it and isn't held back
     split_test : is_split p ≡ true → (call : ℕ × R) → (commits_in reach held call == p) ≡ ((reach call.0 == p) && not (held p call.1))
     split_test split call = go (cases_order (reach call.0) p) where
-        at : reach call.0 ≡ p → (held p call.1 ≡ true) ⊎ (held p call.1 ≡ false) → (commits_in reach held call == p) ≡ ((reach call.0 == p) && not (held p call.1))
-        at same (inl is) =
-            let c : commits_in reach held call ≡ suc (reach call.0) = commit_held call (ap is_split same ∙ split) (ap (λ n. held n call.1) same ∙ is) in
-            ne_eqb (commits_in reach held call) p (λ (e : commits_in reach held call ≡ p). omega arith)
-            ∙ sym (and_right (reach call.0 == p) (not (held p call.1)) (ap not is))
-        at same (inr is) =
-            let c : commits_in reach held call ≡ reach call.0 = commit_free call (ap (λ n. held n call.1) same ∙ is) in
-            ap (λ n. n == p) c ∙ eq-eqb (reach call.0) p same
-            ∙ sym (ap (λ b. b && not (held p call.1)) (eq-eqb (reach call.0) p same) ∙ ap not is)
+      at : reach call.0 ≡ p → (held p call.1 ≡ true) ⊎ (held p call.1 ≡ false) → (commits_in reach held call == p) ≡ ((reach call.0 == p) && not (held p call.1))
+      at same (inl is) =
+          let c : commits_in reach held call ≡ suc (reach call.0) = commit_held call (ap is_split same ∙ split) (ap (λ n. held n call.1) same ∙ is) in
+          ne_eqb (commits_in reach held call) p (λ (e : commits_in reach held call ≡ p). omega arith)
+          ∙ sym (and_right (reach call.0 == p) (not (held p call.1)) (ap not is))
+      at same (inr is) =
+          let c : commits_in reach held call ≡ reach call.0 = commit_free call (ap (λ n. held n call.1) same ∙ is) in
+          ap (λ n. n == p) c ∙ eq-eqb (reach call.0) p same
+          ∙ sym (ap (λ b. b && not (held p call.1)) (eq-eqb (reach call.0) p same) ∙ ap not is)
 
-        go : (reach call.0 ≡ p) ⊎ ((reach call.0 < p) ⊎ (p < reach call.0)) → (commits_in reach held call == p) ≡ ((reach call.0 == p) && not (held p call.1))
-        go (inl same) = at same (cases_Bool (held p call.1))
-        go (inr (inl less)) =
-            ne_eqb (commits_in reach held call) p (λ (e : commits_in reach held call ≡ p).
-            let up : commits_in reach held call ≤ suc (reach call.0) = commit_until call in
-            let last : suc (reach call.0) ≡ p = omega arith in
-            let odd : is_split (reach call.0) ≡ true = late_is_split call (omega arith) in
-            let even : is_split p ≡ false = ap is_split (sym last) ∙ split_then_joined (reach call.0) odd in
-            let both : true ≡ false = sym split ∙ even in cc)
-            ∙ sym (and_left (reach call.0 == p) (not (held p call.1)) (ne_eqb (reach call.0) p (λ (e : reach call.0 ≡ p). omega arith)))
-        go (inr (inr more)) =
-            let c : reach call.0 ≤ commits_in reach held call = commit_from call in
-            ne_eqb (commits_in reach held call) p (λ (e : commits_in reach held call ≡ p). omega arith)
-            ∙ sym (and_left (reach call.0 == p) (not (held p call.1)) (ne_eqb (reach call.0) p (λ (e : reach call.0 ≡ p). omega arith)))
+      go : (reach call.0 ≡ p) ⊎ ((reach call.0 < p) ⊎ (p < reach call.0)) → (commits_in reach held call == p) ≡ ((reach call.0 == p) && not (held p call.1))
+      go (inl same) = at same (cases_Bool (held p call.1))
+      go (inr (inl less)) =
+          ne_eqb (commits_in reach held call) p (λ (e : commits_in reach held call ≡ p).
+          let up : commits_in reach held call ≤ suc (reach call.0) = commit_until call in
+          let last : suc (reach call.0) ≡ p = omega arith in
+          let odd : is_split (reach call.0) ≡ true = late_is_split call (omega arith) in
+          let even : is_split p ≡ false = ap is_split (sym last) ∙ split_then_joined (reach call.0) odd in
+          let both : true ≡ false = sym split ∙ even in cc)
+          ∙ sym (and_left (reach call.0 == p) (not (held p call.1)) (ne_eqb (reach call.0) p (λ (e : reach call.0 ≡ p). omega arith)))
+      go (inr (inr more)) =
+          let c : reach call.0 ≤ commits_in reach held call = commit_from call in
+          ne_eqb (commits_in reach held call) p (λ (e : commits_in reach held call ≡ p). omega arith)
+          ∙ sym (and_left (reach call.0 == p) (not (held p call.1)) (ne_eqb (reach call.0) p (λ (e : reach call.0 ≡ p). omega arith)))
 
     -- after a split phase: who waits reached it and was held back
     waits_test : is_split p ≡ true → (call : ℕ × R) →
         (nat_lt (reach call.0) (suc p) && (commits_in reach held call == suc p)) ≡ ((reach call.0 == p) && held p call.1)
     waits_test split call = go (cases_order (reach call.0) p) where
-        at : reach call.0 ≡ p → (held p call.1 ≡ true) ⊎ (held p call.1 ≡ false) →
-            (nat_lt (reach call.0) (suc p) && (commits_in reach held call == suc p)) ≡ ((reach call.0 == p) && held p call.1)
-        at same (inl is) =
-            let c : commits_in reach held call ≡ suc (reach call.0) = commit_held call (ap is_split same ∙ split) (ap (λ n. held n call.1) same ∙ is) in
-            ap (λ b. b && (commits_in reach held call == suc p)) (lt-ltb (reach call.0) (suc p) (omega arith))
-            ∙ eq-eqb (commits_in reach held call) (suc p) (omega arith)
-            ∙ sym (ap (λ b. b && held p call.1) (eq-eqb (reach call.0) p same) ∙ is)
-        at same (inr is) =
-            let c : commits_in reach held call ≡ reach call.0 = commit_free call (ap (λ n. held n call.1) same ∙ is) in
-            and_right (nat_lt (reach call.0) (suc p)) (commits_in reach held call == suc p)
-            (ne_eqb (commits_in reach held call) (suc p) (λ (e : commits_in reach held call ≡ suc p). omega arith))
-            ∙ sym (and_right (reach call.0 == p) (held p call.1) is)
+      at : reach call.0 ≡ p → (held p call.1 ≡ true) ⊎ (held p call.1 ≡ false) →
+          (nat_lt (reach call.0) (suc p) && (commits_in reach held call == suc p)) ≡ ((reach call.0 == p) && held p call.1)
+      at same (inl is) =
+          let c : commits_in reach held call ≡ suc (reach call.0) = commit_held call (ap is_split same ∙ split) (ap (λ n. held n call.1) same ∙ is) in
+          ap (λ b. b && (commits_in reach held call == suc p)) (lt-ltb (reach call.0) (suc p) (omega arith))
+          ∙ eq-eqb (commits_in reach held call) (suc p) (omega arith)
+          ∙ sym (ap (λ b. b && held p call.1) (eq-eqb (reach call.0) p same) ∙ is)
+      at same (inr is) =
+          let c : commits_in reach held call ≡ reach call.0 = commit_free call (ap (λ n. held n call.1) same ∙ is) in
+          and_right (nat_lt (reach call.0) (suc p)) (commits_in reach held call == suc p)
+          (ne_eqb (commits_in reach held call) (suc p) (λ (e : commits_in reach held call ≡ suc p). omega arith))
+          ∙ sym (and_right (reach call.0 == p) (held p call.1) is)
 
-        go : (reach call.0 ≡ p) ⊎ ((reach call.0 < p) ⊎ (p < reach call.0)) →
-            (nat_lt (reach call.0) (suc p) && (commits_in reach held call == suc p)) ≡ ((reach call.0 == p) && held p call.1)
-        go (inl same) = at same (cases_Bool (held p call.1))
-        go (inr (inl less)) =
-            let up : commits_in reach held call ≤ suc (reach call.0) = commit_until call in
-            and_right (nat_lt (reach call.0) (suc p)) (commits_in reach held call == suc p)
-            (ne_eqb (commits_in reach held call) (suc p) (λ (e : commits_in reach held call ≡ suc p). omega arith))
-            ∙ sym (and_left (reach call.0 == p) (held p call.1) (ne_eqb (reach call.0) p (λ (e : reach call.0 ≡ p). omega arith)))
-        go (inr (inr more)) =
-            and_left (nat_lt (reach call.0) (suc p)) (commits_in reach held call == suc p) (le-ltb (reach call.0) (suc p) (omega arith))
-            ∙ sym (and_left (reach call.0 == p) (held p call.1) (ne_eqb (reach call.0) p (λ (e : reach call.0 ≡ p). omega arith)))
+      go : (reach call.0 ≡ p) ⊎ ((reach call.0 < p) ⊎ (p < reach call.0)) →
+          (nat_lt (reach call.0) (suc p) && (commits_in reach held call == suc p)) ≡ ((reach call.0 == p) && held p call.1)
+      go (inl same) = at same (cases_Bool (held p call.1))
+      go (inr (inl less)) =
+          let up : commits_in reach held call ≤ suc (reach call.0) = commit_until call in
+          and_right (nat_lt (reach call.0) (suc p)) (commits_in reach held call == suc p)
+          (ne_eqb (commits_in reach held call) (suc p) (λ (e : commits_in reach held call ≡ suc p). omega arith))
+          ∙ sym (and_left (reach call.0 == p) (held p call.1) (ne_eqb (reach call.0) p (λ (e : reach call.0 ≡ p). omega arith)))
+      go (inr (inr more)) =
+          and_left (nat_lt (reach call.0) (suc p)) (commits_in reach held call == suc p) (le-ltb (reach call.0) (suc p) (omega arith))
+          ∙ sym (and_left (reach call.0 == p) (held p call.1) (ne_eqb (reach call.0) p (λ (e : reach call.0 ≡ p). omega arith)))
 
     -- after a joined phase nobody waits
     none_waits_test : is_split p ≡ false → (call : ℕ × R) → (nat_lt (reach call.0) (suc p) && (commits_in reach held call == suc p)) ≡ false
     none_waits_test joined call = go (cases_lt (reach call.0) (suc p)) where
-        go : (reach call.0 < suc p) ⊎ (suc p ≤ reach call.0) → (nat_lt (reach call.0) (suc p) && (commits_in reach held call == suc p)) ≡ false
-        go (inl less) =
-            and_right (nat_lt (reach call.0) (suc p)) (commits_in reach held call == suc p)
-            (ne_eqb (commits_in reach held call) (suc p) (λ (e : commits_in reach held call ≡ suc p).
-            let up : commits_in reach held call ≤ suc (reach call.0) = commit_until call in
-            let last : reach call.0 ≡ p = omega arith in
-            let odd : is_split (reach call.0) ≡ true = late_is_split call (omega arith) in
-            let both : true ≡ false = sym odd ∙ ap is_split last ∙ joined in cc))
-        go (inr more) = and_left (nat_lt (reach call.0) (suc p)) (commits_in reach held call == suc p) (le-ltb (reach call.0) (suc p) more)
+      go : (reach call.0 < suc p) ⊎ (suc p ≤ reach call.0) → (nat_lt (reach call.0) (suc p) && (commits_in reach held call == suc p)) ≡ false
+      go (inl less) =
+          and_right (nat_lt (reach call.0) (suc p)) (commits_in reach held call == suc p)
+          (ne_eqb (commits_in reach held call) (suc p) (λ (e : commits_in reach held call ≡ suc p).
+          let up : commits_in reach held call ≤ suc (reach call.0) = commit_until call in
+          let last : reach call.0 ≡ p = omega arith in
+          let odd : is_split (reach call.0) ≡ true = late_is_split call (omega arith) in
+          let both : true ≡ false = sym odd ∙ ap is_split last ∙ joined in cc))
+      go (inr more) = and_left (nat_lt (reach call.0) (suc p)) (commits_in reach held call == suc p) (le-ltb (reach call.0) (suc p) more)
 
     -- WHAT A SPLIT PHASE COMMITS: what reaches it and isn't held back
     pub split_turn : is_split p ≡ true → (script : List R) → turn (commits_in reach held) p script ≡ filter (λ call. not (held p call.1)) (reaching reach p script)
@@ -160,25 +160,25 @@ module _ {R : Type 0} (reach : ℕ → ℕ) (held : ℕ → R → Bool) where
           filter (λ call. nat_lt (reach call.0) p && (commits_in reach held call == p)) (numbered k rs) ++ filter (λ call. reach call.0 == p) (numbered k rs)
       joined_from joined k [] = refl
       joined_from joined k (r ∷ rs) = go (cases_lt (reach k) p) (joined_from joined (suc k) rs) where
-          put : (b : Bool) → (fs ws qs : List (ℕ × R)) → fs ≡ ws ++ qs → cond b ((k, r) ∷ fs) fs ≡ cond b ((k, r) ∷ ws) ws ++ qs
-          put true fs ws qs e = ap (λ xs. (k, r) ∷ xs) e
-          put false fs ws qs e = e
+        put : (b : Bool) → (fs ws qs : List (ℕ × R)) → fs ≡ ws ++ qs → cond b ((k, r) ∷ fs) fs ≡ cond b ((k, r) ∷ ws) ws ++ qs
+        put true fs ws qs e = ap (λ xs. (k, r) ∷ xs) e
+        put false fs ws qs e = e
 
-          go : (reach k < p) ⊎ (p ≤ reach k) → filter (λ call. commits_in reach held call == p) (numbered (suc k) rs) ≡
-              filter (λ call. nat_lt (reach call.0) p && (commits_in reach held call == p)) (numbered (suc k) rs) ++ filter (λ call. reach call.0 == p) (numbered (suc k) rs) →
-              filter (λ call. commits_in reach held call == p) (numbered k (r ∷ rs)) ≡
-              filter (λ call. nat_lt (reach call.0) p && (commits_in reach held call == p)) (numbered k (r ∷ rs)) ++ filter (λ call. reach call.0 == p) (numbered k (r ∷ rs))
-          go (inl less) again =
-              put (commits_in reach held (k, r) == p) _ _ _ again
-              ∙ ap (λ b. cond (b && (commits_in reach held (k, r) == p)) ((k, r) ∷ filter (λ call. nat_lt (reach call.0) p && (commits_in reach held call == p)) (numbered (suc k) rs)) (filter (λ call. nat_lt (reach call.0) p && (commits_in reach held call == p)) (numbered (suc k) rs)) ++ filter (λ call. reach call.0 == p) (numbered (suc k) rs)) (sym (lt-ltb (reach k) p less))
-              ∙ ap (λ qs. filter (λ call. nat_lt (reach call.0) p && (commits_in reach held call == p)) (numbered k (r ∷ rs)) ++ qs)
-              (sym (cond-false (reach k == p) _ _ (ne_eqb (reach k) p (λ (e : reach k ≡ p). omega arith))))
-          go (inr from) again =
-              let above : (i : ℕ) → k ≤ i → p ≤ reach i = λ i le. (let up : reach k ≤ reach i = rises k i le in omega arith) in
-              filter_numbered (λ call. commits_in reach held call == p) (λ call. reach call.0 == p) k (r ∷ rs) (λ i x le. joined_test joined (i, x) (above i le))
-              ∙ ap (λ ws. ws ++ filter (λ call. reach call.0 == p) (numbered k (r ∷ rs)))
-              (sym (filter_none (λ call. nat_lt (reach call.0) p && (commits_in reach held call == p)) k (r ∷ rs)
-              (λ i x le. and_left (nat_lt (reach i) p) _ (le-ltb (reach i) p (above i le)))))
+        go : (reach k < p) ⊎ (p ≤ reach k) → filter (λ call. commits_in reach held call == p) (numbered (suc k) rs) ≡
+            filter (λ call. nat_lt (reach call.0) p && (commits_in reach held call == p)) (numbered (suc k) rs) ++ filter (λ call. reach call.0 == p) (numbered (suc k) rs) →
+            filter (λ call. commits_in reach held call == p) (numbered k (r ∷ rs)) ≡
+            filter (λ call. nat_lt (reach call.0) p && (commits_in reach held call == p)) (numbered k (r ∷ rs)) ++ filter (λ call. reach call.0 == p) (numbered k (r ∷ rs))
+        go (inl less) again =
+            put (commits_in reach held (k, r) == p) _ _ _ again
+            ∙ ap (λ b. cond (b && (commits_in reach held (k, r) == p)) ((k, r) ∷ filter (λ call. nat_lt (reach call.0) p && (commits_in reach held call == p)) (numbered (suc k) rs)) (filter (λ call. nat_lt (reach call.0) p && (commits_in reach held call == p)) (numbered (suc k) rs)) ++ filter (λ call. reach call.0 == p) (numbered (suc k) rs)) (sym (lt-ltb (reach k) p less))
+            ∙ ap (λ qs. filter (λ call. nat_lt (reach call.0) p && (commits_in reach held call == p)) (numbered k (r ∷ rs)) ++ qs)
+            (sym (cond-false (reach k == p) _ _ (ne_eqb (reach k) p (λ (e : reach k ≡ p). omega arith))))
+        go (inr from) again =
+            let above : (i : ℕ) → k ≤ i → p ≤ reach i = λ i le. (let up : reach k ≤ reach i = rises k i le in omega arith) in
+            filter_numbered (λ call. commits_in reach held call == p) (λ call. reach call.0 == p) k (r ∷ rs) (λ i x le. joined_test joined (i, x) (above i le))
+            ∙ ap (λ ws. ws ++ filter (λ call. reach call.0 == p) (numbered k (r ∷ rs)))
+            (sym (filter_none (λ call. nat_lt (reach call.0) p && (commits_in reach held call == p)) k (r ∷ rs)
+            (λ i x le. and_left (nat_lt (reach i) p) _ (le-ltb (reach i) p (above i le)))))
 
       pub joined_turn : is_split p ≡ false → (script : List R) →
           turn (commits_in reach held) p script ≡ waiting reach (commits_in reach held) p script ++ reaching reach p script

@@ -28,13 +28,13 @@ calls_are_of first count script = all-take (IsCallOf script) count (drop first (
 pub left_asked : (policy : Policy) (scripts : List (List Request)) (phase : ℕ) (hot : List Object) (stashes after : ℕ → List (ℕ × Request)) (segment : List Entry) →
     IsPhasePerformed policy scripts phase hot stashes after segment → (worker : ℕ) → AllByRecursion (IsCallOf (script_of scripts worker)) (after worker)
 left_asked policy scripts phase hot stashes after segment performed worker = at (cases_Bool (is_split phase)) where
-    at : (is_split phase ≡ true) ⊎ (is_split phase ≡ false) → AllByRecursion (IsCallOf (script_of scripts worker)) (after worker)
-    at (inl split) =
-        let script = script_of scripts worker in
-        subst (AllByRecursion (IsCallOf script)) (sym (performed.split_stash split worker))
-        (all-filter (IsCallOf script) (λ (call : ℕ × Request). is_put_off hot (call_request call)) (calls_given policy phase script)
-        (calls_are_of (first_index policy phase) (quota policy.joined_quota policy.split_quota phase (length script)) script))
-    at (inr joined) = subst (AllByRecursion (IsCallOf (script_of scripts worker))) (sym (performed.joined_stash joined worker)) tt
+  at : (is_split phase ≡ true) ⊎ (is_split phase ≡ false) → AllByRecursion (IsCallOf (script_of scripts worker)) (after worker)
+  at (inl split) =
+      let script = script_of scripts worker in
+      subst (AllByRecursion (IsCallOf script)) (sym (performed.split_stash split worker))
+      (all-filter (IsCallOf script) (λ (call : ℕ × Request). is_put_off hot (call_request call)) (calls_given policy phase script)
+      (calls_are_of (first_index policy phase) (quota policy.joined_quota policy.split_quota phase (length script)) script))
+  at (inr joined) = subst (AllByRecursion (IsCallOf (script_of scripts worker))) (sym (performed.joined_stash joined worker)) tt
 
 -- what holds of each receipt's journal holds of all
 pub all_journals : (P : JournalView → Type 0) (receipts : List WorkerState) → ((w : ℕ) → w < length receipts → P (journal_of (receipt_at receipts w))) → AllByRecursion P (map journal_of receipts)

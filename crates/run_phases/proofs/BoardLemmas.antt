@@ -65,9 +65,9 @@ all_counted k (n ∷ ns) known = omega (arith, all_counted k ns known.1, total_w
 total_within : (k : ℕ) (ns : List ℕ) → total k ns ≤ length ns
 total_within k [] = omega (arith, total_of_none k)
 total_within k (n ∷ ns) = go (cases_lt n k) (total_within k ns) where
-    go : (n < k) ⊎ (k ≤ n) → total k ns ≤ length ns → total k (n ∷ ns) ≤ length (n ∷ ns)
-    go (inl below) rest = omega (arith, total_with k n ns below, rest)
-    go (inr out) rest = omega (arith, total_without k n ns out, rest)
+  go : (n < k) ⊎ (k ≤ n) → total k ns ≤ length ns → total k (n ∷ ns) ≤ length (n ∷ ns)
+  go (inl below) rest = omega (arith, total_with k n ns below, rest)
+  go (inr out) rest = omega (arith, total_without k n ns out, rest)
 
 total_at_most : (k : ℕ) (ns : List ℕ) → ((n : ℕ) → n < k → how_many (λ m. m == n) ns ≤ 1000000) → total k ns ≤ k * 1000000
 total_at_most zero ns few = omega arith
@@ -159,9 +159,9 @@ module _ (opening : Opening) (rows : Book) (is_book : IsBook opening rows) (poli
   all_below : AllByRecursion (λ n. n < length scripts) all_workers
   all_below = all-append (λ n. n < length scripts) (map worker_of rows) (map (λ e. e.worker) history)
       (onto worker_of rows (recursion_from_All (λ row. worker_of row < length scripts) rows own)) (onto (λ e. e.worker) history known) where
-      onto : {X : Type 0} (f : X → ℕ) (xs : List X) → AllByRecursion (λ x. f x < length scripts) xs → AllByRecursion (λ n. n < length scripts) (map f xs)
-      onto f [] h = tt
-      onto f (x ∷ xs) h = (h.0, onto f xs h.1)
+        onto : {X : Type 0} (f : X → ℕ) (xs : List X) → AllByRecursion (λ x. f x < length scripts) xs → AllByRecursion (λ n. n < length scripts) (map f xs)
+        onto f [] h = tt
+        onto f (x ∷ xs) h = (h.0, onto f xs h.1)
 
   few : AreShort rows scripts → length rows + length (rows_of history) ≤ 16000000
   few short =
@@ -298,10 +298,10 @@ module _ {B : Type 0} (has has_refused : B → Opening → Book → List (List R
         ((opening : Opening) (rows : Book) (phases : List (List Row)) → has old opening rows phases → has new opening rows phases ⊎ has_refused new opening rows phases) →
         HasShownFirstAfter has has_refused opening rows before policy scripts new Memory
     not_shown old new shown left = first_shown new Memory (at (left opening rows (before ++ phase_rows p running.history.entries) shown.has_them)) where
-        at : has new opening rows (before ++ phase_rows p running.history.entries) ⊎ has_refused new opening rows (before ++ phase_rows p running.history.entries) →
-            HasShownAfter has opening rows before p running.history.entries new ⊎ ((Memory ≡ Memory) × HasShownAfter has_refused opening rows before p running.history.entries new)
-        at (inl kept) = inl (record { has_them = kept; book_is = shown.book_is })
-        at (inr refused) = inr (refl, record { has_them = refused; book_is = shown.book_is })
+      at : has new opening rows (before ++ phase_rows p running.history.entries) ⊎ has_refused new opening rows (before ++ phase_rows p running.history.entries) →
+          HasShownAfter has opening rows before p running.history.entries new ⊎ ((Memory ≡ Memory) × HasShownAfter has_refused opening rows before p running.history.entries new)
+      at (inl kept) = inl (record { has_them = kept; book_is = shown.book_is })
+      at (inr refused) = inr (refl, record { has_them = refused; book_is = shown.book_is })
 
 -- a board that has all phases of a run is up to date with the state that it left
 pub up_to_date : {B : Type 0} (has : B → Opening → Book → List (List Row) → Type 0) (opening : Opening) (rows : Book) (before : List (List Row)) (phase : ℕ) (history : List Entry) (board : B)

@@ -31,13 +31,13 @@ IsThere opening book (Category category) = category < opening.categories
 -- more rows leave it there
 stays : (opening : Opening) (book rows : Book) (object : Object) → IsThere opening book object → IsThere opening (book ++ rows) object
 stays opening book rows (Item id) h = subst (λ o. IsSome (option_map (λ (r : ItemRow). r.facts) o)) (sym more) (go (item_in book id) h) where
-    more : item_in (book ++ rows) id ≡ option_or (item_in book id) (item_in rows id)
-    more = ap (find (λ (r : ItemRow). same_item r.id id)) (filter_map-append as_item book rows)
-        ∙ find-append (λ (r : ItemRow). same_item r.id id) (item_rows book) (item_rows rows)
+  more : item_in (book ++ rows) id ≡ option_or (item_in book id) (item_in rows id)
+  more = ap (find (λ (r : ItemRow). same_item r.id id)) (filter_map-append as_item book rows)
+      ∙ find-append (λ (r : ItemRow). same_item r.id id) (item_rows book) (item_rows rows)
 
-    go : (o : Option ItemRow) → IsSome (option_map (λ (r : ItemRow). r.facts) o) → IsSome (option_map (λ (r : ItemRow). r.facts) (option_or o (item_in rows id)))
-    go None none = absurd (false≢true none)
-    go (Some r) some = refl
+  go : (o : Option ItemRow) → IsSome (option_map (λ (r : ItemRow). r.facts) o) → IsSome (option_map (λ (r : ItemRow). r.facts) (option_or o (item_in rows id)))
+  go None none = absurd (false≢true none)
+  go (Some r) some = refl
 stays opening book rows (User user) h = h
 stays opening book rows (Category category) h = h
 
@@ -74,21 +74,21 @@ written_there opening book e right object is =
 all_there : (opening : Opening) (book : Book) (es : List Entry) → ReplaysFrom opening book es → AllByRecursion (IsThere opening (book_after opening book es)) (objects_written es)
 all_there opening book [] h = tt
 all_there opening book (e ∷ es) h = go (written_by e) refl (all_there opening (after_entry opening book e) es h.1) where
-    now : (object : Object) → written_by e ≡ Some object → IsThere opening (book_after opening (after_entry opening book e) es) object
-    now object is = subst (λ b. IsThere opening b object) (sym (book_after-replays opening (after_entry opening book e) es h.1))
-        (stays opening (after_entry opening book e) (rows_of es) object (stays opening book _ object (written_there opening book e h.0 object is)))
+  now : (object : Object) → written_by e ≡ Some object → IsThere opening (book_after opening (after_entry opening book e) es) object
+  now object is = subst (λ b. IsThere opening b object) (sym (book_after-replays opening (after_entry opening book e) es h.1))
+      (stays opening (after_entry opening book e) (rows_of es) object (stays opening book _ object (written_there opening book e h.0 object is)))
 
-    go : (o : Option Object) → written_by e ≡ o → AllByRecursion (IsThere opening (book_after opening (after_entry opening book e) es)) (objects_written es) →
-        AllByRecursion (IsThere opening (book_after opening (after_entry opening book e) es)) (cons_option o (objects_written es))
-    go None is rest = rest
-    go (Some object) is rest = (now object is, rest)
+  go : (o : Option Object) → written_by e ≡ o → AllByRecursion (IsThere opening (book_after opening (after_entry opening book e) es)) (objects_written es) →
+      AllByRecursion (IsThere opening (book_after opening (after_entry opening book e) es)) (cons_option o (objects_written es))
+  go None is rest = rest
+  go (Some object) is rest = (now object is, rest)
 
 -- what holds of all that entries write holds of what the last of them write
 rest_of : (P : Object → Type 0) (n : ℕ) (es : List Entry) → AllByRecursion P (objects_written es) → AllByRecursion P (objects_written (drop n es))
 rest_of P (suc n) (e ∷ es) h = rest_of P n es (go (written_by e) h) where
-    go : (o : Option Object) → AllByRecursion P (cons_option o (objects_written es)) → AllByRecursion P (objects_written es)
-    go None all = all
-    go (Some object) all = all.1
+  go : (o : Option Object) → AllByRecursion P (cons_option o (objects_written es)) → AllByRecursion P (objects_written es)
+  go None all = all
+  go (Some object) all = all.1
 rest_of P n es h = h
 
 -- and of what is chosen from them
@@ -111,9 +111,9 @@ module _ (state : JoinedState) (book : Book) (some : 0 < length state.shards) (s
 
   exists : (object : Object) → IsThere state.opening book object → DoesExist state.opening (states_of state) object
   exists (Item id) h = subst (λ v. IsSome (stock v)) (sym (shown (Item id))) (go (facts_of book id) h) where
-      go : (o : Option Facts) → IsSome o → IsSome {T = Facts × ℕ} (option_map (λ (facts : Facts). (facts, facts.quantity - bought book id)) o)
-      go None none = absurd (false≢true none)
-      go (Some facts) is = refl
+    go : (o : Option Facts) → IsSome o → IsSome {T = Facts × ℕ} (option_map (λ (facts : Facts). (facts, facts.quantity - bought book id)) o)
+    go None none = absurd (false≢true none)
+    go (Some facts) is = refl
   exists object h = h
 
   pub all_exist : (objects : List Object) → AllByRecursion (IsThere state.opening book) objects → DoAllExist state.opening (states_of state) objects

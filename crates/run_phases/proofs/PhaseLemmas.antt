@@ -226,11 +226,11 @@ module _ {policy : Policy} {scripts : List (List Request)} {state : JoinedState}
 
       own_at : (w : ℕ) → AllByRecursion (λ (e : Entry). e.phase ≡ state.phase) (journal_of (receipt_at receipts w)).entries
       own_at w = at (cases_lt w (length scripts)) where
-          at : (w < length scripts) ⊎ (length scripts ≤ w) → AllByRecursion (λ (e : Entry). e.phase ≡ state.phase) (journal_of (receipt_at receipts w)).entries
-          at (inl less) =
-              let before : AreOfPhase (receipt_at permits w) = subst AreOfPhase (sym (begins w less).new) tt in
-              subst (λ n. AllByRecursion (λ (e : Entry). e.phase ≡ n) (journal_of (receipt_at receipts w)).entries) (journal_phase w less ∙ begun.phase_is) ((same w less).own before)
-          at (inr beyond) = subst (λ (p : WorkerState). AllByRecursion (λ (e : Entry). e.phase ≡ state.phase) (journal_of p).entries) (sym (past w beyond)) tt
+        at : (w < length scripts) ⊎ (length scripts ≤ w) → AllByRecursion (λ (e : Entry). e.phase ≡ state.phase) (journal_of (receipt_at receipts w)).entries
+        at (inl less) =
+            let before : AreOfPhase (receipt_at permits w) = subst AreOfPhase (sym (begins w less).new) tt in
+            subst (λ n. AllByRecursion (λ (e : Entry). e.phase ≡ n) (journal_of (receipt_at receipts w)).entries) (journal_phase w less ∙ begun.phase_is) ((same w less).own before)
+        at (inr beyond) = subst (λ (p : WorkerState). AllByRecursion (λ (e : Entry). e.phase ≡ state.phase) (journal_of p).entries) (sym (past w beyond)) tt
 
       of_phase : AllByRecursion (λ (e : Entry). e.phase ≡ state.phase) entries
       of_phase = all_of_parts entry_worker (λ e. e.phase ≡ state.phase) entries (λ w. subst (AllByRecursion (λ (e : Entry). e.phase ≡ state.phase)) (sym (parts w)) (own_at w))
@@ -269,26 +269,26 @@ module _ {policy : Policy} {scripts : List (List Request)} {state : JoinedState}
 
         calls_done : (w : ℕ) → calls_of w entries ≡ not_put_off hot (asked w)
         calls_done w = at (cases_lt w (length scripts)) where
-            at : (w < length scripts) ⊎ (length scripts ≤ w) → calls_of w entries ≡ not_put_off hot (asked w)
-            at (inl less) =
-                let permit : WorkerState = receipt_at permits w in
-                let given : List (ℕ × Request) = to_do takes (task permit (script_of scripts w) first) in
-                calls_are w ∙ (done w less).calls
-                ∙ ap (λ cs. cs ++ not_put_off (hot_for permit) given) (none_committed w less)
-                ∙ ap (λ h. not_put_off h given) (hot_is w less)
-                ∙ ap (not_put_off hot) (asked_is w less)
-            at (inr beyond) = calls_are w ∙ ap (λ (p : WorkerState). committed p) (past w beyond) ∙ sym (ap (not_put_off hot) (none_asked w beyond))
+          at : (w < length scripts) ⊎ (length scripts ≤ w) → calls_of w entries ≡ not_put_off hot (asked w)
+          at (inl less) =
+              let permit : WorkerState = receipt_at permits w in
+              let given : List (ℕ × Request) = to_do takes (task permit (script_of scripts w) first) in
+              calls_are w ∙ (done w less).calls
+              ∙ ap (λ cs. cs ++ not_put_off (hot_for permit) given) (none_committed w less)
+              ∙ ap (λ h. not_put_off h given) (hot_is w less)
+              ∙ ap (not_put_off hot) (asked_is w less)
+          at (inr beyond) = calls_are w ∙ ap (λ (p : WorkerState). committed p) (past w beyond) ∙ sym (ap (not_put_off hot) (none_asked w beyond))
 
         stash_left : (w : ℕ) → waiting_in (map stash_of receipts) w ≡ put_off hot (asked w)
         stash_left w = at (cases_lt w (length scripts)) where
-            at : (w < length scripts) ⊎ (length scripts ≤ w) → waiting_in (map stash_of receipts) w ≡ put_off hot (asked w)
-            at (inl less) =
-                let permit : WorkerState = receipt_at permits w in
-                waits_after w ∙ (done w less).stash
-                ∙ ap (λ ss. ss ++ put_off (hot_for permit) (to_do takes (task permit (script_of scripts w) first))) (none_kept takes permit (waiting_in stashes w) (stash_is w less) (none w))
-                ∙ ap (λ h. put_off h (to_do takes (task permit (script_of scripts w) first))) (hot_is w less)
-                ∙ ap (put_off hot) (asked_is w less)
-            at (inr beyond) = waits_after w ∙ ap (λ (p : WorkerState). stashed p) (past w beyond) ∙ sym (ap (put_off hot) (none_asked w beyond))
+          at : (w < length scripts) ⊎ (length scripts ≤ w) → waiting_in (map stash_of receipts) w ≡ put_off hot (asked w)
+          at (inl less) =
+              let permit : WorkerState = receipt_at permits w in
+              waits_after w ∙ (done w less).stash
+              ∙ ap (λ ss. ss ++ put_off (hot_for permit) (to_do takes (task permit (script_of scripts w) first))) (none_kept takes permit (waiting_in stashes w) (stash_is w less) (none w))
+              ∙ ap (λ h. put_off h (to_do takes (task permit (script_of scripts w) first))) (hot_is w less)
+              ∙ ap (put_off hot) (asked_is w less)
+          at (inr beyond) = waits_after w ∙ ap (λ (p : WorkerState). stashed p) (past w beyond) ∙ sym (ap (put_off hot) (none_asked w beyond))
 
         performed : IsPhasePerformed policy scripts state.phase hot (waiting_in stashes) (waiting_in (map stash_of receipts)) entries
         performed = record {

@@ -40,23 +40,23 @@ module _ (policy : Policy) (some : 0 < policy.joined_quota + policy.split_quota)
   -- what it did and what waits now is at most what waited and what it was given
   pub dealt : length (calls_of worker entries) + length (after worker) ≤ length (waits worker) + quota_of policy p script
   dealt = go (cases_Bool (is_split p)) where
-      go : (is_split p ≡ true) ⊎ (is_split p ≡ false) → length (calls_of worker entries) + length (after worker) ≤ length (waits worker) + quota_of policy p script
-      go (inl split) =
-          let done : length (calls_of worker entries) ≡ length (filter (λ (call : ℕ × Request). not (is_put_off hot call.1)) (calls_given policy p script)) = ap length (performed.split_calls split worker) in
-          let left : length (after worker) ≡ length (filter (λ (call : ℕ × Request). is_put_off hot call.1) (calls_given policy p script)) = ap length (performed.split_stash split worker) in
-          let all = length-filter_both (λ (call : ℕ × Request). is_put_off hot call.1) (λ (call : ℕ × Request). not (is_put_off hot call.1)) (λ call. refl) (calls_given policy p script) in
-          plain (length (calls_of worker entries)) (length (after worker)) (length (waits worker)) _ _ (length (calls_given policy p script)) (quota_of policy p script) done left all given
-        where
-          plain : (done left waited a b all quota : ℕ) → done ≡ a → left ≡ b → b + a ≡ all → all ≡ quota → done + left ≤ waited + quota
-          plain done left waited a b all quota e f g h = omega (arith, e, f, g, h)
-      go (inr joined) =
-          let done : length (calls_of worker entries) ≡ length (waits worker) + length (calls_given policy p script) =
-          ap length (performed.joined_calls joined worker) ∙ length-append (waits worker) (calls_given policy p script) in
-          let left : length (after worker) ≡ 0 = ap length (performed.joined_stash joined worker) in
-          plain (length (calls_of worker entries)) (length (after worker)) (length (waits worker)) (length (calls_given policy p script)) (quota_of policy p script) done left given
-        where
-          plain : (done left waited all quota : ℕ) → done ≡ waited + all → left ≡ 0 → all ≡ quota → done + left ≤ waited + quota
-          plain done left waited all quota e f g = omega (arith, e, f, g)
+    go : (is_split p ≡ true) ⊎ (is_split p ≡ false) → length (calls_of worker entries) + length (after worker) ≤ length (waits worker) + quota_of policy p script
+    go (inl split) =
+        let done : length (calls_of worker entries) ≡ length (filter (λ (call : ℕ × Request). not (is_put_off hot call.1)) (calls_given policy p script)) = ap length (performed.split_calls split worker) in
+        let left : length (after worker) ≡ length (filter (λ (call : ℕ × Request). is_put_off hot call.1) (calls_given policy p script)) = ap length (performed.split_stash split worker) in
+        let all = length-filter_both (λ (call : ℕ × Request). is_put_off hot call.1) (λ (call : ℕ × Request). not (is_put_off hot call.1)) (λ call. refl) (calls_given policy p script) in
+        plain (length (calls_of worker entries)) (length (after worker)) (length (waits worker)) _ _ (length (calls_given policy p script)) (quota_of policy p script) done left all given
+      where
+        plain : (done left waited a b all quota : ℕ) → done ≡ a → left ≡ b → b + a ≡ all → all ≡ quota → done + left ≤ waited + quota
+        plain done left waited a b all quota e f g h = omega (arith, e, f, g, h)
+    go (inr joined) =
+        let done : length (calls_of worker entries) ≡ length (waits worker) + length (calls_given policy p script) =
+        ap length (performed.joined_calls joined worker) ∙ length-append (waits worker) (calls_given policy p script) in
+        let left : length (after worker) ≡ 0 = ap length (performed.joined_stash joined worker) in
+        plain (length (calls_of worker entries)) (length (after worker)) (length (waits worker)) (length (calls_given policy p script)) (quota_of policy p script) done left given
+      where
+        plain : (done left waited all quota : ℕ) → done ≡ waited + all → left ≡ 0 → all ≡ quota → done + left ≤ waited + quota
+        plain done left waited all quota e f g = omega (arith, e, f, g)
 
 -- what was given of a script before a phase, and in it, was given before the next
 more_given : (commits rows done left waited first next len part : ℕ) → next ≡ first + part → done + left ≤ waited + min part (len - first) →
@@ -149,9 +149,9 @@ goes_on {opening} {rows} is_book {policy} same_policy {scripts} {own_scripts} sa
 
 all_short : (limit : ℕ) (rows : Book) (scripts : List (List Request)) → AreShortFor limit rows scripts → (worker : ℕ) → length (script_of scripts worker) ≤ 1000000
 all_short limit rows scripts short worker = go (cases_lt worker (length scripts)) where
-    go : (worker < length scripts) ⊎ (length scripts ≤ worker) → length (script_of scripts worker) ≤ 1000000
-    go (inl known) = (short worker known).0
-    go (inr past) = let e : length (script_of scripts worker) ≡ 0 = ap length (past_end scripts worker past) in omega (arith, e)
+  go : (worker < length scripts) ⊎ (length scripts ≤ worker) → length (script_of scripts worker) ≤ 1000000
+  go (inl known) = (short worker known).0
+  go (inr past) = let e : length (script_of scripts worker) ≡ 0 = ap length (past_end scripts worker past) in omega (arith, e)
 
 -- what was put off waits for a joined phase
 nothing_waits : (policy : Policy) (scripts : List (List Request)) (p : ℕ) (hot : List (List Object)) (history : List Entry) (stashes : ℕ → List (ℕ × Request)) →
@@ -181,12 +181,12 @@ module _ (policy : Policy) (scripts : List (List Request)) (running : Running) (
 
   hot_exist : DoAllExist running.state.opening (states_of running.state) hot_now
   hot_exist = go (cases_Bool (is_split running.state.phase)) where
-      go : (is_split running.state.phase ≡ true) ⊎ (is_split running.state.phase ≡ false) → DoAllExist running.state.opening (states_of running.state) hot_now
-      go (inl split) = subst (DoAllExist running.state.opening (states_of running.state)) (sym (chosen split ∙ ap (λ es. choose es policy.threshold policy.hot_max) (sym run.last_entries)))
-          (chosen_exist running.state on.rows running.history.entries run.from policy.threshold policy.hot_max (omega (arith, shards, run.shards_are))
-          (subst (λ o. ReplaysFrom o on.rows running.history.entries) (sym run.opening_is) run.replayed.replays)
-          (subst (λ o. StandsFor running.state (book_after o on.rows running.history.entries)) (sym run.opening_is) run.replayed.stands))
-      go (inr joined) = subst (DoAllExist running.state.opening (states_of running.state)) (sym (not_chosen joined)) tt
+    go : (is_split running.state.phase ≡ true) ⊎ (is_split running.state.phase ≡ false) → DoAllExist running.state.opening (states_of running.state) hot_now
+    go (inl split) = subst (DoAllExist running.state.opening (states_of running.state)) (sym (chosen split ∙ ap (λ es. choose es policy.threshold policy.hot_max) (sym run.last_entries)))
+        (chosen_exist running.state on.rows running.history.entries run.from policy.threshold policy.hot_max (omega (arith, shards, run.shards_are))
+        (subst (λ o. ReplaysFrom o on.rows running.history.entries) (sym run.opening_is) run.replayed.replays)
+        (subst (λ o. StandsFor running.state (book_after o on.rows running.history.entries)) (sym run.opening_is) run.replayed.stands))
+    go (inr joined) = subst (DoAllExist running.state.opening (states_of running.state)) (sym (not_chosen joined)) tt
 
   pub may_perform : AreAsked scripts running.stashes.items → MayPerform policy scripts running.state running.stashes.items hot_now
   may_perform asked = record {

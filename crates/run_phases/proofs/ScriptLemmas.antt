@@ -21,13 +21,13 @@ one_stash_more (s ∷ stashes) x empty none (suc worker) = one_stash_more stashe
 -- where neither a request nor a stash is left, nothing is
 pub neither : (first len waits : ℕ) → ((first < len) ⊎ (0 < waits) → ⊥) → (len ≤ first) × (waits ≡ 0)
 neither first len waits none = (go (cases_lt first len), at waits (λ some. none (inr some))) where
-    go : (first < len) ⊎ (len ≤ first) → len ≤ first
-    go (inl more) = absurd (none (inl more))
-    go (inr within) = within
+  go : (first < len) ⊎ (len ≤ first) → len ≤ first
+  go (inl more) = absurd (none (inl more))
+  go (inr within) = within
 
-    at : (n : ℕ) → (0 < n → ⊥) → n ≡ 0
-    at zero never = refl
-    at (suc n) never = absurd (never (omega arith))
+  at : (n : ℕ) → (0 < n → ⊥) → n ≡ 0
+  at zero never = refl
+  at (suc n) never = absurd (never (omega arith))
 
 script_at : (scripts : List (List Request)) (i : ℕ) (d : List Request) → i < length scripts → script_of scripts i ≡ get_or scripts i d
 script_at [] i d less = absurd (omega arith)
@@ -56,8 +56,8 @@ pub nobody : (scripts : List (List Request)) (stashes : List StashState) (first 
     ((w : ℕ) → w < i → (length (script_of scripts w) ≤ first) × (length (waiting_in stashes w) ≡ 0)) →
     (w : ℕ) → (length (script_of scripts w) ≤ first) × (length (waiting_in stashes w) ≡ 0)
 nobody scripts stashes first i all same none w = go (cases_lt w i) where
-    go : (w < i) ⊎ (i ≤ w) → (length (script_of scripts w) ≤ first) × (length (waiting_in stashes w) ≡ 0)
-    go (inl before) = none w before
-    go (inr past) =
-        let e : length (script_of scripts w) ≡ 0 = ap length (past_end scripts w (omega arith)) in
-        (omega arith, ap length (past_stashes stashes w (omega (arith, same, all, past))))
+  go : (w < i) ⊎ (i ≤ w) → (length (script_of scripts w) ≤ first) × (length (waiting_in stashes w) ≡ 0)
+  go (inl before) = none w before
+  go (inr past) =
+      let e : length (script_of scripts w) ≡ 0 = ap length (past_end scripts w (omega arith)) in
+      (omega arith, ap length (past_stashes stashes w (omega (arith, same, all, past))))

@@ -30,9 +30,9 @@ is_at_guess keys key guess lt is = λ i. lt-ltb guess (length keys) lt i && eq-e
 
 pub not_at : (keys : List ℕ) (key guess : ℕ) → (guess < length keys → get_or keys guess 0 ≡ key → ⊥) → is_at keys key guess ≡ false
 not_at keys key guess never = at (is_at keys key guess) refl where
-    at : (b : Bool) → is_at keys key guess ≡ b → is_at keys key guess ≡ false
-    at true is = let found = at_guess keys key guess is in absurd (never found.0 found.1)
-    at false is = is
+  at : (b : Bool) → is_at keys key guess ≡ b → is_at keys key guess ≡ false
+  at true is = let found = at_guess keys key guess is in absurd (never found.0 found.1)
+  at false is = is
 
 -- at first nothing is kept
 pub none_kept : {Slice : Type 0} (guesses : List ℕ) → AreKept {Slice = Slice} guesses [] []
@@ -146,35 +146,35 @@ module _ {Record Slice Look Request Reply Act : Type 0} (rules : Rules Record Sl
       ext_get_or rules.empty _ _
       (length-spread guesses keys (set slices place s) ∙ sym (length-spread guesses keys slices) ∙ sym (length-set (spread rules guesses keys slices) key s))
       (λ j in_all. at j (omega (arith, in_all, length-spread guesses keys (set slices place s))) (j == key) refl) where
-      within : key < length guesses
-      within = omega (arith, are.within place lt, there)
+        within : key < length guesses
+        within = omega (arith, are.within place lt, there)
 
-      guess : get_or guesses key 0 ≡ place
-      guess = ap (λ k. get_or guesses k 0) (sym there) ∙ are.right place lt
+        guess : get_or guesses key 0 ≡ place
+        guess = ap (λ k. get_or guesses k 0) (sym there) ∙ are.right place lt
 
-      beside : (j g : ℕ) → (j ≡ key → ⊥) → (b : Bool) → is_at keys j g ≡ b → kept rules keys (set slices place s) j g ≡ kept rules keys slices j g
-      beside j g other true is =
-          let found = at_guess keys j g is in
-          kept_here keys (set slices place s) j g is
-          ∙ get_or-set_other slices place g s rules.empty (λ same. other (sym found.1 ∙ ap (λ p. get_or keys p 0) same ∙ there)) ∙ sym (kept_here keys slices j g is)
-      beside j g other false is = not_kept keys (set slices place s) j g is ∙ sym (not_kept keys slices j g is)
+        beside : (j g : ℕ) → (j ≡ key → ⊥) → (b : Bool) → is_at keys j g ≡ b → kept rules keys (set slices place s) j g ≡ kept rules keys slices j g
+        beside j g other true is =
+            let found = at_guess keys j g is in
+            kept_here keys (set slices place s) j g is
+            ∙ get_or-set_other slices place g s rules.empty (λ same. other (sym found.1 ∙ ap (λ p. get_or keys p 0) same ∙ there)) ∙ sym (kept_here keys slices j g is)
+        beside j g other false is = not_kept keys (set slices place s) j g is ∙ sym (not_kept keys slices j g is)
 
-      at : (j : ℕ) → j < length guesses → (b : Bool) → (j == key) ≡ b →
-          get_or (spread rules guesses keys (set slices place s)) j rules.empty ≡ get_or (set (spread rules guesses keys slices) key s) j rules.empty
-      at j lt_j true is =
-          let same = eqb-true j key is in
-          ap (λ k. get_or (spread rules guesses keys (set slices place s)) k rules.empty) same
-          ∙ spread_at guesses keys (set slices place s) key within
-          ∙ ap (kept rules keys (set slices place s) key) guess
-          ∙ kept_here keys (set slices place s) key place (is_at_guess keys key place lt there)
-          ∙ get_or-set_same slices place s rules.empty (omega (arith, lt, are.long))
-          ∙ sym (get_or-set_same (spread rules guesses keys slices) key s rules.empty (omega (arith, within, length-spread guesses keys slices)))
-          ∙ ap (λ k. get_or (set (spread rules guesses keys slices) key s) k rules.empty) (sym same)
-      at j lt_j false is =
-          let other = eqb-false j key is in
-          spread_at guesses keys (set slices place s) j lt_j
-          ∙ beside j (get_or guesses j 0) other (is_at keys j (get_or guesses j 0)) refl
-          ∙ sym (spread_at guesses keys slices j lt_j) ∙ sym (get_or-set_other (spread rules guesses keys slices) key j s rules.empty other)
+        at : (j : ℕ) → j < length guesses → (b : Bool) → (j == key) ≡ b →
+            get_or (spread rules guesses keys (set slices place s)) j rules.empty ≡ get_or (set (spread rules guesses keys slices) key s) j rules.empty
+        at j lt_j true is =
+            let same = eqb-true j key is in
+            ap (λ k. get_or (spread rules guesses keys (set slices place s)) k rules.empty) same
+            ∙ spread_at guesses keys (set slices place s) key within
+            ∙ ap (kept rules keys (set slices place s) key) guess
+            ∙ kept_here keys (set slices place s) key place (is_at_guess keys key place lt there)
+            ∙ get_or-set_same slices place s rules.empty (omega (arith, lt, are.long))
+            ∙ sym (get_or-set_same (spread rules guesses keys slices) key s rules.empty (omega (arith, within, length-spread guesses keys slices)))
+            ∙ ap (λ k. get_or (set (spread rules guesses keys slices) key s) k rules.empty) (sym same)
+        at j lt_j false is =
+            let other = eqb-false j key is in
+            spread_at guesses keys (set slices place s) j lt_j
+            ∙ beside j (get_or guesses j 0) other (is_at keys j (get_or guesses j 0)) refl
+            ∙ sym (spread_at guesses keys slices j lt_j) ∙ sym (get_or-set_other (spread rules guesses keys slices) key j s rules.empty other)
 
   -- the slice of a kept key is the one of the spread ones
   pub kept_is : (guesses keys : List ℕ) (slices : List Slice) (place key : ℕ) → AreKept guesses keys slices → place < length keys → get_or keys place 0 ≡ key →
@@ -288,14 +288,14 @@ module _ {Record Slice Look Request Reply Act : Type 0} (rules : Rules Record Sl
         beside j g other false is =
             not_kept (take (k + 1) keys) (take (k + 1) slices) j g (not_at (take (k + 1) keys) j g (λ lt_g at. never lt_g at (nat_lt g k) refl))
             ∙ sym (not_kept (take k keys) (take k slices) j g is) where
-            never : g < length (take (k + 1) keys) → get_or (take (k + 1) keys) g 0 ≡ j → (b : Bool) → nat_lt g k ≡ b → ⊥
-            never lt_g at true before =
-                let low = ltb-true g k before in
-                true≢false (sym (is_at_guess (take k keys) j g (omega (arith, low, short))
-                (get_or-take k keys g 0 low ∙ sym (get_or-take (k + 1) keys g 0 (omega (arith, low))) ∙ at)) ∙ is)
-            never lt_g at false behind =
-                let last : g ≡ k = omega (arith, ltb-false g k behind, lt_g, long) in
-                other (sym at ∙ ap (λ p. get_or (take (k + 1) keys) p 0) last ∙ get_or-take (k + 1) keys k 0 (omega arith))
+              never : g < length (take (k + 1) keys) → get_or (take (k + 1) keys) g 0 ≡ j → (b : Bool) → nat_lt g k ≡ b → ⊥
+              never lt_g at true before =
+                  let low = ltb-true g k before in
+                  true≢false (sym (is_at_guess (take k keys) j g (omega (arith, low, short))
+                  (get_or-take k keys g 0 low ∙ sym (get_or-take (k + 1) keys g 0 (omega (arith, low))) ∙ at)) ∙ is)
+              never lt_g at false behind =
+                  let last : g ≡ k = omega (arith, ltb-false g k behind, lt_g, long) in
+                  other (sym at ∙ ap (λ p. get_or (take (k + 1) keys) p 0) last ∙ get_or-take (k + 1) keys k 0 (omega arith))
 
         at : (j : ℕ) → j < length opened → (b : Bool) → (j == key) ≡ b →
             get_or (merged_before (k + 1)) j d ≡ get_or (set (merged_before k) key grown) j d

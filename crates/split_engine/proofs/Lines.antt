@@ -43,9 +43,9 @@ mark_there scripts before marks w i q are there = are w i ∙ ap (option_map (λ
 pub all_had : {Q R : Type 0} (scripts : List (List Q)) (lines : List (Line R)) (marks : List (List Bool)) → AreMarks scripts lines marks →
     ((w i : ℕ) → request_at marks w i ≡ Some false → ⊥) → (w i : ℕ) (q : Q) → request_at scripts w i ≡ Some q → has_line lines w i ≡ true
 all_had scripts lines marks are none w i q there = here (has_line lines w i) (mark_there scripts lines marks w i q are there) where
-    here : (b : Bool) → request_at marks w i ≡ Some b → b ≡ true
-    here true is = refl
-    here false is = absurd (none w i is)
+  here : (b : Bool) → request_at marks w i ≡ Some b → b ≡ true
+  here true is = refl
+  here false is = absurd (none w i is)
 
 -- a list set at a place
 pub set_here : (xs : List Bool) (i : ℕ) (b c : Bool) → slice_get xs i ≡ Some c → slice_get (set xs i b) i ≡ Some b
@@ -77,10 +77,10 @@ row_others rows w i row old v j at is ne = refl
 has-append : {R : Type 0} (before : List (Line R)) (line : Line R) (w i : ℕ) → has_line (before ++ line ∷ []) w i ≡ (has_line before w i || ((line.worker == w) && (line.index == i)))
 has-append [] line w i = or-false ((line.worker == w) && (line.index == i))
 has-append (l ∷ before) line w i = here ((l.worker == w) && (l.index == i)) (has-append before line w i) where
-    here : (b : Bool) → has_line (before ++ line ∷ []) w i ≡ (has_line before w i || ((line.worker == w) && (line.index == i))) →
-        (b || has_line (before ++ line ∷ []) w i) ≡ ((b || has_line before w i) || ((line.worker == w) && (line.index == i)))
-    here true again = refl
-    here false again = again
+  here : (b : Bool) → has_line (before ++ line ∷ []) w i ≡ (has_line before w i || ((line.worker == w) && (line.index == i))) →
+      (b || has_line (before ++ line ∷ []) w i) ≡ ((b || has_line before w i) || ((line.worker == w) && (line.index == i)))
+  here true again = refl
+  here false again = again
 
 -- the line's own request
 pub has_own : {R : Type 0} (before : List (Line R)) (line : Line R) → has_line (before ++ line ∷ []) line.worker line.index ≡ true
@@ -91,9 +91,9 @@ has_own before line =
 
 other_false : (a w b i : ℕ) → (w ≡ a → i ≡ b → ⊥) → ((a == w) && (b == i)) ≡ false
 other_false a w b i ne = here (a == w) refl where
-    here : (x : Bool) → (a == w) ≡ x → (x && (b == i)) ≡ false
-    here true is = ne_eqb b i (λ e. ne (sym (eqb-true a w is)) (sym e))
-    here false is = refl
+  here : (x : Bool) → (a == w) ≡ x → (x && (b == i)) ≡ false
+  here true is = ne_eqb b i (λ e. ne (sym (eqb-true a w is)) (sym e))
+  here false is = refl
 
 -- and another
 has_other : {R : Type 0} (before : List (Line R)) (line : Line R) (w i : ℕ) → (w ≡ line.worker → i ≡ line.index → ⊥) → has_line (before ++ line ∷ []) w i ≡ has_line before w i

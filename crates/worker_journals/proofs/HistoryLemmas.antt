@@ -75,9 +75,9 @@ module _ (old new : List (Vec JournalView)) (len count : ℕ) (journals closed :
   history_after history was =
       let last : last_of (journals_of new) ≡ map closed_journal journals = ap last_of phases_after ∙ last_more (journals_of old) (map closed_journal journals) in
       view_by entries_after last ∙ ap (λ h. with_phase h journals) was where
-      view_by : {es es' : List Entry} {js js' : List JournalView} → es ≡ es' → js ≡ js' →
-          ◌≡◌ {A = HistoryView} (record { entries = es; last = js }) (record { entries = es'; last = js' })
-      view_by e f = cc
+        view_by : {es es' : List Entry} {js js' : List JournalView} → es ≡ es' → js ≡ js' →
+            ◌≡◌ {A = HistoryView} (record { entries = es; last = js }) (record { entries = es'; last = js' })
+        view_by e f = cc
 
   pub kept_after : count ≡ entry_count journals → IsHistory (journals_of new) (len + count)
   kept_after counted = record {

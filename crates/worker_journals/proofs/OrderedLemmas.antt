@@ -125,8 +125,8 @@ part_put_own w e (x ∷ xs) is rises = elim (cases_Bool (comes_before x e)) [
       ∙ part_put_own w e xs is rises.1 ∙ ap (λ ys. e ∷ ys) (sym (part_other w x xs others))
   | inr behind ↦ ap (part entry_worker w) (cond-false (comes_before x e) _ _ behind) ∙ part_own w e (x ∷ xs) is
 ] where
-    not_both : (x e : Entry) → Precedes entry_number entry_worker x e → e.number < x.number → ⊥
-    not_both x e before less = elim before [ inl lt ↦ omega arith | inr tie ↦ omega (arith, tie.0) ]
+  not_both : (x e : Entry) → Precedes entry_number entry_worker x e → e.number < x.number → ⊥
+  not_both x e before less = elim before [ inl lt ↦ omega arith | inr tie ↦ omega (arith, tie.0) ]
 
 pub part_in_order : (w : ℕ) (xs : List Entry) → IsOrderedBy Rises xs → part entry_worker w (in_order xs) ≡ part entry_worker w xs
 unfolding in_order

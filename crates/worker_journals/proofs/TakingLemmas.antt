@@ -54,21 +54,20 @@ pub merged_taken : (journals : List JournalView) (i : ℕ) (e : Entry) → AreBy
     merged journals ≡ e ∷ merged (without_first journals i)
 merged_taken [] i e up lawful is least = absurd (omega (arith, least.within))
 merged_taken (journal ∷ journals) zero e up lawful is least = taken journal.entries refl where
-    taken : (es : List Entry) → journal.entries ≡ es → merged (journal ∷ journals) ≡ e ∷ merged (without_first (journal ∷ journals) zero)
-    taken [] has = let none : None ≡ Some e = ap (λ xs. slice_get xs 0) (sym has) ∙ is in cc
-    taken (d ∷ ds) has =
-        let found : Some d ≡ Some e = ap (λ xs. slice_get xs 0) (sym has) ∙ is in
-        let same : d ≡ e = cc in
-        let has' : journal.entries ≡ e ∷ ds = has ∙ ap (λ x. x ∷ ds) same in
-        let asc : IsAscendingByNumber entry_number (e ∷ ds) = subst (IsAscendingByNumber entry_number) has' lawful.0.ascending in
-        let own : AllByRecursion (IsOf journal.phase journal.worker) (e ∷ ds) = subst (AllByRecursion (IsOf journal.phase journal.worker)) has' lawful.0.own in
-        let later = all-weaker (λ (j : JournalView). journal.worker < j.worker) (λ j. e.worker < j.worker) (λ j less. omega (arith, own.0.1)) journals up.0 in
-        let rest = none_later e journals later lawful.1 (λ k within. least.others (suc k) (omega arith)) in
-        let own_rest = all-weaker (λ (d : Entry). e.number < d.number) (λ d. comes_before d e ≡ false)
-        (λ d less. not_before d e (omega arith) (λ tie. absurd (omega arith))) ds asc.0 in
-        ap (λ es. in_order (es ++ all_entries journals)) has'
-        ∙ first_in_order e (ds ++ all_entries journals) (all-append (λ (d : Entry). comes_before d e ≡ false) ds (all_entries journals) own_rest rest)
-        ∙ ap (λ es. e ∷ in_order (drop 1 es ++ all_entries journals)) (sym has')
+  taken : (es : List Entry) → journal.entries ≡ es → merged (journal ∷ journals) ≡ e ∷ merged (without_first (journal ∷ journals) zero)
+  taken [] has = let none : None ≡ Some e = ap (λ xs. slice_get xs 0) (sym has) ∙ is in cc
+  taken (d ∷ ds) has =
+      let found : Some d ≡ Some e = ap (λ xs. slice_get xs 0) (sym has) ∙ is in
+      let same : d ≡ e = cc in let has' : journal.entries ≡ e ∷ ds = has ∙ ap (λ x. x ∷ ds) same in
+      let asc : IsAscendingByNumber entry_number (e ∷ ds) = subst (IsAscendingByNumber entry_number) has' lawful.0.ascending in
+      let own : AllByRecursion (IsOf journal.phase journal.worker) (e ∷ ds) = subst (AllByRecursion (IsOf journal.phase journal.worker)) has' lawful.0.own in
+      let later = all-weaker (λ (j : JournalView). journal.worker < j.worker) (λ j. e.worker < j.worker) (λ j less. omega (arith, own.0.1)) journals up.0 in
+      let rest = none_later e journals later lawful.1 (λ k within. least.others (suc k) (omega arith)) in
+      let own_rest = all-weaker (λ (d : Entry). e.number < d.number) (λ d. comes_before d e ≡ false)
+      (λ d less. not_before d e (omega arith) (λ tie. absurd (omega arith))) ds asc.0 in
+      ap (λ es. in_order (es ++ all_entries journals)) has'
+      ∙ first_in_order e (ds ++ all_entries journals) (all-append (λ (d : Entry). comes_before d e ≡ false) ds (all_entries journals) own_rest rest)
+      ∙ ap (λ es. e ∷ in_order (drop 1 es ++ all_entries journals)) (sym has')
 merged_taken (journal ∷ journals) (suc i) e up lawful is least =
     let before = bounded_strictly e.number journal.entries lawful.0.ascending (least.earlier 0 (omega arith)) in
     first_among e journal.entries (all_entries journals) (all_entries (without_first journals i))
@@ -84,11 +83,11 @@ merged_taken (journal ∷ journals) (suc i) e up lawful is least =
 pub merged_none : (journals : List JournalView) → ((k : ℕ) → k < length journals → get_or (map first_number journals) k None ≡ None) → merged journals ≡ []
 unfolding in_order
 merged_none journals none = ap in_order (empty journals none) where
-    no_first : (es : List Entry) → slice_get (map entry_number es) 0 ≡ None → es ≡ []
-    no_first [] is = refl
-    no_first (e ∷ es) is = cc
+  no_first : (es : List Entry) → slice_get (map entry_number es) 0 ≡ None → es ≡ []
+  no_first [] is = refl
+  no_first (e ∷ es) is = cc
 
-    empty : (js : List JournalView) → ((k : ℕ) → k < length js → get_or (map first_number js) k None ≡ None) → all_entries js ≡ []
-    empty [] none = refl
-    empty (j ∷ js) none =
-        ap (λ es. es ++ all_entries js) (no_first j.entries (none 0 (omega arith))) ∙ empty js (λ k within. none (suc k) (omega arith))
+  empty : (js : List JournalView) → ((k : ℕ) → k < length js → get_or (map first_number js) k None ≡ None) → all_entries js ≡ []
+  empty [] none = refl
+  empty (j ∷ js) none =
+      ap (λ es. es ++ all_entries js) (no_first j.entries (none 0 (omega arith))) ∙ empty js (λ k within. none (suc k) (omega arith))

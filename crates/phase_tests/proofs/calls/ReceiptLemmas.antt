@@ -11,9 +11,9 @@ use Rattle.phase_floor.specs.{Closings.{AreReceiptsOf, IsReceipt}, Floors.{Floor
 
 pub only_receipt : {floor : FloorState} {receipt : WorkerState} {receipts : List WorkerState} → length floor.counters ≡ 1 → receipts ≡ receipt ∷ [] → IsReceipt floor 0 receipt → AreReceiptsOf floor receipts
 only_receipt {floor} {receipt} one is its = subst (AreReceiptsOf floor) (sym is) (sym one, λ w below. at _ w (subst (λ n. w < n) one below)) where
-    at : (none : WorkerState) (w : ℕ) → w < 1 → IsReceipt floor w (get_or (receipt ∷ []) w none)
-    at none zero less = its
-    at none (suc w) less = absurd (omega (arith, less))
+  at : (none : WorkerState) (w : ℕ) → w < 1 → IsReceipt floor w (get_or (receipt ∷ []) w none)
+  at none zero less = its
+  at none (suc w) less = absurd (omega (arith, less))
 
 -- a permit is its worker's whatever it answers
 module _ (initial : List ShardState) (floor : FloorState) (old new : WorkerState) (was : IsReceipt floor 0 old) (request : Request) (index : ℕ) where

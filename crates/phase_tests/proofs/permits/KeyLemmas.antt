@@ -16,14 +16,14 @@ two_keys boxes workers keys one other is two new = let all = subst (AreNewKeys b
 module _ (boxes : List BoxId) (workers : ℕ) (keys : List KeyState) where
   pub one_spent : (key : KeyState) → keys ≡ key ∷ [] → IsOnlyKey workers boxes key → AreSpent boxes workers keys
   one_spent key is only = subst (AreSpent boxes workers) (sym is) (only.one, λ w below. at w (subst (λ n. w < n) (sym only.one) below)) where
-      at : (w : ℕ) → w < 1 → IsSpent boxes w (key_at (key ∷ []) w)
-      at zero less = record { boxes_are = only.of; worker_is = only.worker; idle = only.idle }
-      at (suc w) less = absurd (omega (arith, less))
+    at : (w : ℕ) → w < 1 → IsSpent boxes w (key_at (key ∷ []) w)
+    at zero less = record { boxes_are = only.of; worker_is = only.worker; idle = only.idle }
+    at (suc w) less = absurd (omega (arith, less))
 
   pub two_spent : (first second : KeyState) → keys ≡ first ∷ second ∷ [] → 2 ≡ workers → (first.boxes ≡ boxes) × (second.boxes ≡ boxes) → (first.worker ≡ 0) × (second.worker ≡ 1)
       → IsIdle first × IsIdle second → AreSpent boxes workers keys
   two_spent first second is two of number idle = subst (AreSpent boxes workers) (sym is) (two, λ w below. at w (subst (λ n. w < n) (sym two) below)) where
-      at : (w : ℕ) → w < 2 → IsSpent boxes w (key_at (first ∷ second ∷ []) w)
-      at zero less = record { boxes_are = of.0; worker_is = number.0; idle = idle.0 }
-      at (suc zero) less = record { boxes_are = of.1; worker_is = number.1; idle = idle.1 }
-      at (suc (suc w)) less = absurd (omega (arith, less))
+    at : (w : ℕ) → w < 2 → IsSpent boxes w (key_at (first ∷ second ∷ []) w)
+    at zero less = record { boxes_are = of.0; worker_is = number.0; idle = idle.0 }
+    at (suc zero) less = record { boxes_are = of.1; worker_is = number.1; idle = idle.1 }
+    at (suc (suc w)) less = absurd (omega (arith, less))

@@ -8,9 +8,9 @@ use Rattle.auction_text.proofs.writing.rows.push_rows_of.Goals as goal
 -- the rows of an entry, and of those after it
 one_row : (e : Entry) (rest : List Entry) → rows_of (e ∷ rest) ≡ option_to_list (row_of_entry e) ++ rows_of rest
 one_row e rest = go (row_of_entry e) refl where
-    go : (o : Option Row) → row_of_entry e ≡ o → rows_of (e ∷ rest) ≡ option_to_list o ++ rows_of rest
-    go None is = rw is refl
-    go (Some row) is = rw is refl
+  go : (o : Option Row) → row_of_entry e ≡ o → rows_of (e ∷ rest) ≡ option_to_list o ++ rows_of rest
+  go None is = rw is refl
+  go (Some row) is = rw is refl
 
 line_more : (text : List ℕ) (e : Entry) (rest left : List Entry) → left ≡ e ∷ rest →
     (text ++ lines row_line (option_to_list (row_of_entry e))) ++ lines row_line (rows_of rest) ≡ text ++ lines row_line (rows_of left)
