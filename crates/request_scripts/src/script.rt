@@ -4,7 +4,7 @@ ghost use Rattle.auction_rows.specs.declared.requests.Facts.{Facts as FactsKept}
 ghost use Rattle.request_scripts.specs.ShortRequests.{HasListRoom, HaveRequests};
 ghost use Rattle.request_scripts.specs.inner.Shifting.{CanShift, shifted};
 
-use crate::short_request::{ShortRequest, keep_request};
+use crate::short_request::{ShortRequest, facts_stored, keep_request};
 use auction_rows::{Facts, ItemId, Request};
 use std::alloc::{AllocError, Global};
 use std::marker::Model;
@@ -58,7 +58,7 @@ impl Script {
         }
     }
 
-    /// A script with no request, with room for so many, but not for the facts of items.
+    /// A script with no request, with room for so many that make no item.
     pub fn with_room(alloc: Global, requests: usize) -> Result<Script, AllocError>
         ensures { IfOk result (λ script. script ≡ []) }
     {
@@ -85,8 +85,7 @@ impl Script {
         ensures pushed { OnOk result (self.new ≡ self.old ++ request.now ∷ []) }
         ensures refused { OnErr result (self.new ≡ self.old) }
     {
-        // Room for one more of both: then only `keep_request` asks for the request's kind.
-        self.facts.reserve(1)?;
+        self.facts.reserve(facts_stored(request))?;
         make_room(&mut self.requests)?;
         let short = keep_request(&mut self.facts, request);
         self.requests.push_reserved(short);

@@ -85,6 +85,17 @@ impl ShortRequest {
     }
 }
 
+/// How many facts a request stores: 1 of an item, or none.
+#[inline(always)]
+pub(crate) fn facts_stored(request: &Request) -> usize
+    ensures { result ≡ length (facts_in request.now) }
+{
+    match request {
+        Request::StoreItem { .. } => 1,
+        _ => 0,
+    }
+}
+
 /// A request, with the facts that it stores at the end of the facts. It takes no memory.
 #[inline(always)]
 pub fn keep_request(all: &mut Vec<Facts>, request: &Request) -> ShortRequest

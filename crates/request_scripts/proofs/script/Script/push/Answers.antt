@@ -1,10 +1,6 @@
-use Rattle.std.proofs.Common.{◌++◌, ◌∷◌, [], ap, ◌∙◌, arith}
-use Rattle.request_scripts.proofs.{RequestLemmas.{one_fact_at_most}, ScriptLemmas.{pushed_requests}}
-use Rattle.request_scripts.specs.ShortRequests.{facts_in}
+use Rattle.std.proofs.Common.{◌++◌, ◌∷◌, [], ap, ◌∙◌}
+use Rattle.request_scripts.{proofs.ScriptLemmas.{pushed_requests}, specs.ShortRequests.{facts_in}}
 use Rattle.request_scripts.proofs.script.Script.push.Goals as goal
-
-pub keep_request-short-requires : goal.keep_request-short-requires
-keep_request-short-requires c = omega (arith, c.in_ok-reserve.ensures.ok, one_fact_at_most c.args.request.now)
 
 pub returns-clause-pushed : goal.returns-clause-pushed
 returns-clause-pushed c =
