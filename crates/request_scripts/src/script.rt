@@ -181,8 +181,8 @@ fn push_after(requests: &mut Vec<ShortRequest>, others: &[ShortRequest], before:
     }
 }
 
-// Room for so many requests more. A short list that is full gets four times its length: to enlarge
-// it moves its memory, and what nothing fills is never touched.
+// Room for so many requests more. A list that is full gets sixteen times what it is to hold: more
+// will join, to enlarge it may copy it, and what nothing fills is never touched.
 fn make_room_for(requests: &mut Vec<ShortRequest>, more: usize) -> Result<(), AllocError>
     ensures same { requests.new.items ≡ requests.old.items }
     ensures room { OnOk result (HasListRoom more (vec_len requests.new)
@@ -191,8 +191,8 @@ fn make_room_for(requests: &mut Vec<ShortRequest>, more: usize) -> Result<(), Al
     if more <= requests.capacity() - requests.len() {
         return Ok(());
     }
-    let ahead = requests.len().saturating_mul(3).min(REQUESTS_AHEAD);
-    requests.reserve(more.max(ahead))
+    let needed = requests.len().saturating_add(more);
+    requests.reserve(more.max(needed.saturating_mul(16).min(REQUESTS_AHEAD)))
 }
 
 // Room for one request more.
