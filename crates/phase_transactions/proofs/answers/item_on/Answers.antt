@@ -17,8 +17,8 @@ item_seen-requires g c =
     let can : CanView c.in-One.one.shard (ViewItem c.args.item) = subst (IsOnOne (ViewItem c.args.item)) c.in-One.is c.requires in
     record { here = subst (λ (s : Shard). LiesIn s (Item c.args.item)) (sym c.shard.ensures) (can.here (Item c.args.item) refl) }
 
-pub returns-in-One : goal.returns-in-One
-returns-in-One g c = record {
+pub returns : goal.returns
+returns g c = record {
   asked = refl;
   answers = λ counters worker. told_suits c.item_seen.result;
   holds = rw c.in-One.is (c.item_seen.ensures ∙ ap (λ (s : Shard). item_view (contents s (Item c.args.item))) c.shard.ensures, tt);

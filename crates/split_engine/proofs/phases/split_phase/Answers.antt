@@ -41,7 +41,8 @@ returns-clause-state g c = λ n opened few all f.
     (λ a answer. IfOk answer (λ own. HasDone s.rules s.is_small a own.cursor own.journal.items own.slices))
     (c.in_ok-tasks.ensures.tasks ∙ ap (λ t. assignments t c.args.plan.hot.now c.args.plan.quota 0 scripts c.args.state.cursors.items) c.deref.ensures.value)
     c.in_ok-answers.ensures.answers) in
-    state_worked s.rules s.fits s.slice_fits s.is_small g.met.A.Application.laws table hot quota n opened scripts new.so_far.table.items history new.so_far.history
+    let laws = (g.met.A.Application g.world.𝓛 g.world.𝓜 g.world.𝓡 ((λ s x. x), (λ x. x), (λ x. x), λ x. x)).laws in
+    state_worked s.rules s.fits s.slice_fits s.is_small laws table hot quota n opened scripts new.so_far.table.items history new.so_far.history
     cursors new.cursors.items closed.journals here f closed.worked closed.merged closed.size_is closed.history_is (closed.fits n f.fits)
 
 pub returns-in_err-answers-clause-fault : goal.returns-in_err-answers-clause-fault
