@@ -1,5 +1,5 @@
 //! What is logged of a part, and what is written of it.
-ghost use Rattle.std.specs.Prelude.{◌≡◌, IfErr, IfSome, OnOk};
+ghost use Rattle.std.specs.Prelude.{◌≡◌, IfErr, IfOk, IfSome, OnOk};
 ghost use Rattle.auction_text.specs.{Moved.{gone_by}, RowLines.{rows_text}};
 ghost use Rattle.byte_texts.specs.Writing.{WritesText};
 ghost use Rattle.program_serving.specs.ServeFaults.{AreToldAt};
