@@ -17,14 +17,14 @@ from pathlib import Path
 from textwrap import indent
 from typing import Iterator
 
-import helps
-from checks import tell_of
-from inputs import Text, random_options
-from load_model import Plan, load_of
-from model import Options, Outcome, open_auction
-from program import BUILT, DOCUMENTS, EXAMPLES, TESTS, Tally, build_shim, built, executable, parser_of, run, run_typed
-from records import Fault
-from refusing import Refusing
+from lib import helps
+from lib.checks import tell_of
+from lib.inputs import Text, random_options
+from lib.load_model import Plan, load_of
+from lib.model import Options, Outcome, open_auction
+from lib.program import BUILT, DOCUMENTS, EXAMPLES, TESTS, Tally, build_shim, built, executable, parser_of, run, run_typed
+from lib.records import Fault
+from lib.refusing import Refusing
 from worked import examples_of
 
 REPLAYS = "the history replays"

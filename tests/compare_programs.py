@@ -18,9 +18,9 @@ from collections import Counter
 from dataclasses import replace
 from pathlib import Path
 
-from inputs import Input, random_input
-from model import Options, Outcome
-from program import TESTS, Tally, build_shim, described, executable, parser_of, run
+from lib.inputs import Input, random_input
+from lib.model import Options, Outcome
+from lib.program import TESTS, Tally, build_shim, described, executable, parser_of, run
 
 KEPT = TESTS / "out"
 TOLD_EVERY = 100

@@ -17,10 +17,9 @@ from pathlib import Path
 from textwrap import indent
 from typing import Iterator
 
-from program import DOCUMENTS, TESTS, Tally, described, run
-from themes import LEAST, faults, smallest
+from lib.program import DOCUMENTS, ROOT, TESTS, Tally, described, run
+from lib.themes import LEAST, faults, smallest
 
-ROOT = TESTS.parent
 CODE = {".rt", ".rs", ".antt", ".py", ".c", ".sh", ".sql", ".txt", ".edit"}
 TUTORIALS = (DOCUMENTS / "TUTORIAL.md", DOCUMENTS / "APPLICATIONS.md")
 DEFINITIONS = (DOCUMENTS / "DEFINITIONS.md", DOCUMENTS / "ENGINE_DEFINITIONS.md")

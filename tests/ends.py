@@ -17,10 +17,10 @@ from dataclasses import replace
 from itertools import product
 from subprocess import SubprocessError
 
-from checks import SEEN, VIEW, Tester, each_output, main, with_shim
-from model import Options, Outcome, expected
-from program import become_nobody, fault, run
-from records import BYTE_ORDER_MARK
+from lib.checks import SEEN, VIEW, Tester, each_output, main, with_shim
+from lib.model import Options, Outcome, expected
+from lib.program import become_nobody, fault, run
+from lib.records import BYTE_ORDER_MARK
 
 UNREAD = fault(2, "input cannot be read")
 UNSTARTED = fault(3, "thread not started")

@@ -23,10 +23,10 @@ from pathlib import Path
 from typing import Callable, Iterator
 
 import postgres
-from load_model import Plan, load_of
-from model import Outcome
+from lib.load_model import Plan, load_of
+from lib.model import Outcome
 from postgres import ACCEPTED, HOLD, MARKET, NUMBERED, SQL, Kept, compared, found, program_views, rows_after, said_by, wait_for
-from program import Tally, described, run, servers_folder, two_programs
+from lib.program import Tally, described, run, servers_folder, two_programs
 
 FAILOVERS = 5
 WORKERS, REQUESTS = 8, 3000

@@ -17,9 +17,9 @@ from pathlib import Path
 from tempfile import TemporaryDirectory
 from typing import Iterable, NamedTuple
 
-from load_model import Plan, load_of
-from model import Outcome
-from program import Tally, described, run, two_programs
+from lib.load_model import Plan, load_of
+from lib.model import Outcome
+from lib.program import Tally, described, run, two_programs
 
 PROCESSES, WORKERS = 4, 16
 EACH = WORKERS // PROCESSES

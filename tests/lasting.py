@@ -9,9 +9,9 @@ from contextlib import contextmanager
 from pathlib import Path
 from typing import Iterator
 
-from checks import MILLION, Tester, main
-from program import described, in_little_memory, run
-from sessions import Auction, Refused
+from lib.checks import MILLION, Tester, main
+from lib.program import described, in_little_memory, run
+from lib.sessions import Auction, Refused
 
 ITEM = b'0,+item,0,0,"Vase",10,1000,1,3\n'
 # A row that needs no memory of its own: its stars are added up.

@@ -15,10 +15,10 @@ from collections import Counter
 from dataclasses import dataclass, field
 from pathlib import Path
 
-from histories import Difference, require
-from model import Outcome
-from program import TESTS, Tally, build_shim, built_tests, described, executable, parser_of, run
-from refusing import Refusal, Refusing
+from lib.histories import Difference, require
+from lib.model import Outcome
+from lib.program import TESTS, Tally, build_shim, built_tests, described, executable, parser_of, run
+from lib.refusing import Refusal, Refusing
 
 PREFIX = "calls::tests::"
 PASSED, WITHOUT_FAULT = 0, "\ntest result: ok\n"

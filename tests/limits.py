@@ -12,11 +12,11 @@ import shutil
 from dataclasses import fields, replace
 from itertools import product
 
-import helps
-from checks import FEW, MILLION, SEEN, VASE, VIEW, Tester, main
-from model import Options, Outcome, expected
-from program import EXAMPLES, described, fault, run
-from records import BYTE_ORDER_MARK
+from lib import helps
+from lib.checks import FEW, MILLION, SEEN, VASE, VIEW, Tester, main
+from lib.model import Options, Outcome, expected
+from lib.program import EXAMPLES, described, fault, run
+from lib.records import BYTE_ORDER_MARK
 
 
 # Texts.

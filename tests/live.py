@@ -23,10 +23,10 @@ from contextlib import contextmanager, suppress
 from pathlib import Path
 from typing import Callable, Iterator
 
-from checks import Tester, tell_of
-from model import Outcome
-from program import BUILT, EXAMPLES, Tally, built, described, executable, in_little_memory, is_asleep, parser_of, run, run_typed
-from sessions import FIRST, ITEMS, PLAIN, SECONDS, Auction, Era, Refused, fault_of, in_use, requests, rows_of, wait_until
+from lib.checks import Tester, tell_of
+from lib.model import Outcome
+from lib.program import BUILT, EXAMPLES, Tally, built, described, executable, in_little_memory, is_asleep, parser_of, run, run_typed
+from lib.sessions import FIRST, ITEMS, PLAIN, SECONDS, Auction, Era, Refused, fault_of, in_use, requests, rows_of, wait_until
 
 SEEN = "user rating=0 comments=0"
 ENDS = ("--faults", "end")

@@ -16,11 +16,11 @@ from collections import Counter
 from dataclasses import replace
 from pathlib import Path
 
-import helps
-from load_model import Plan, load_of
-from model import Book, Entry, Options, Outcome, Run, choose_hot, is_put_off, is_split, open_auction, quota, report_text
-from program import EXAMPLES, Tally, build_shim, built, described, executable, parser_of, run
-from refusing import Refusing
+from lib import helps
+from lib.load_model import Plan, load_of
+from lib.model import Book, Entry, Options, Outcome, Run, choose_hot, is_put_off, is_split, open_auction, quota, report_text
+from lib.program import EXAMPLES, Tally, build_shim, built, described, executable, parser_of, run
+from lib.refusing import Refusing
 
 PLANS = 60
 DRAWN = 200_000

@@ -19,11 +19,11 @@ from functools import partial
 from pathlib import Path
 from typing import Iterable
 
-from checks import Tester, main, with_shim
-from model import Options, Outcome, expected
-from program import NOBODY, become_nobody, build_shim, described, run
-from refusing import UNREACHED_IN_A_ROW, Refusing
-from sessions import FIRST, PLAIN, Auction, Refused, fault_of, in_use, is_stored, requests, rows_of, told_of, wait_until, whole_lines
+from lib.checks import Tester, main, with_shim
+from lib.model import Options, Outcome, expected
+from lib.program import NOBODY, become_nobody, build_shim, described, run
+from lib.refusing import UNREACHED_IN_A_ROW, Refusing
+from lib.sessions import FIRST, PLAIN, Auction, Refused, fault_of, in_use, is_stored, requests, rows_of, told_of, wait_until, whole_lines
 
 # Rows that are refused behind those of `FIRST`, and how this is told.
 REFUSED_ROWS = (

@@ -13,7 +13,7 @@ import tempfile
 from dataclasses import dataclass
 from pathlib import Path
 
-from program import DOCUMENTS, Tally
+from lib.program import DOCUMENTS, Tally
 from tutorial import copy_of_sources
 
 CRATE = "spending"

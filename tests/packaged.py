@@ -11,10 +11,9 @@ import tempfile
 from hashlib import sha256
 from pathlib import Path
 
-from model import Outcome
-from program import CRATES, TESTS, Tally, built, described, run
+from lib.model import Outcome
+from lib.program import CRATES, ROOT, Tally, built, described, run
 
-ROOT = TESTS.parent
 PROGRAMS = ("rubis_auction", "rubis_check", "rubis_load")
 PACKED = ("README.md", "LICENSE", "CHANGELOG.md", "docs", "examples")
 # The commit is made at a time of its own, with no settings of the user's.

@@ -26,11 +26,11 @@ from pathlib import Path
 from subprocess import PIPE, run as run_tool
 from typing import Iterator, NamedTuple
 
-from inputs import PROFILES, Text
-from load_model import Plan, load_of
-from model import Options, Outcome, open_auction
-from program import EXAMPLES, SECONDS, Tally, described, run, two_programs
-from records import BYTE_ORDER_MARK, Fault
+from lib.inputs import PROFILES, Text
+from lib.load_model import Plan, load_of
+from lib.model import Options, Outcome, open_auction
+from lib.program import EXAMPLES, SECONDS, Tally, described, run, two_programs
+from lib.records import BYTE_ORDER_MARK, Fault
 
 SQL = EXAMPLES / "sql"
 RUNS = 20

@@ -20,11 +20,11 @@ from pathlib import Path
 from types import SimpleNamespace
 from typing import Callable
 
-from checks import Tester, tell_of
-from fronts import ENDS, UNKNOWN, WORKERS, Front, load
-from program import BUILT, EXAMPLES, Tally, built, executable, parser_of, run, servers_folder
-from sessions import SECONDS, wait_until
-from watched import PIPELINE, Outcome, Watcher, against_time, judge, judged_by_itself, mix, whole_lines
+from lib.checks import Tester, tell_of
+from lib.fronts import ENDS, UNKNOWN, WORKERS, Front, load
+from lib.program import BUILT, EXAMPLES, Tally, built, executable, parser_of, run, servers_folder
+from lib.sessions import SECONDS, wait_until
+from lib.watched import PIPELINE, Outcome, Watcher, against_time, judge, judged_by_itself, mix, whole_lines
 
 MACHINES = (1, 2, 3)
 PORTS = 3  # of a machine: of its front, and two of its server of etcd

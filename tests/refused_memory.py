@@ -17,12 +17,12 @@ from collections import Counter
 from dataclasses import dataclass, replace
 from pathlib import Path
 
-from histories import Difference, check_printed
-from inputs import Text
-from model import Options, Outcome, expected, failed, open_auction
-from program import BUILT, EXAMPLES, TESTS, Tally, build_shim, described, executable, fault, parser_of, run
-from records import Fault
-from refusing import Refusing
+from lib.histories import Difference, check_printed
+from lib.inputs import Text
+from lib.model import Options, Outcome, expected, failed, open_auction
+from lib.program import BUILT, EXAMPLES, TESTS, Tally, build_shim, described, executable, fault, parser_of, run
+from lib.records import Fault
+from lib.refusing import Refusing
 from worked import examples_of
 
 VASE = b"0,+item,0,0,Vase,10,100,1\n"

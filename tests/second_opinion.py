@@ -22,11 +22,11 @@ from itertools import count
 from pathlib import Path
 from typing import Iterable, Iterator
 
-import histories
-from inputs import Input, random_input
-from model import Options, Outcome, expected, failed, open_auction
-from program import BUILT, EXAMPLES, TESTS, Tally, described, executable, parser_of, run
-from records import Fault
+from lib import histories
+from lib.inputs import Input, random_input
+from lib.model import Options, Outcome, expected, failed, open_auction
+from lib.program import BUILT, EXAMPLES, TESTS, Tally, described, executable, parser_of, run
+from lib.records import Fault
 
 KEPT = TESTS / "out"
 TOLD_EVERY = 20

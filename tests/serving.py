@@ -24,15 +24,15 @@ from dataclasses import replace
 from pathlib import Path
 from types import SimpleNamespace
 
-from checks import Tester, tell_of
+from lib.checks import Tester, tell_of
 from front import Audit
-from front_bounds import bounds
-from front_clients import loads, other_clients, shown
-from fronts import ENDS, FRONT, MEGABYTES, SEEN, UNKNOWN, UNKNOWN_COMMAND, Client, Front, packed
-from misbehaving import hang_up, keep_asking, read_nothing, send_rubbish
-from program import BUILT, EXAMPLES, Tally, built, executable, parser_of, run
-from sessions import SECONDS, wait_until
-from watched import MIX, Outcome, Seen, Start, against_time, judge, judged_by_itself, log_is_exact, mix, referee, seen_otherwise, watched, whole_lines
+from lib.front_bounds import bounds
+from lib.front_clients import loads, other_clients, shown
+from lib.fronts import ENDS, FRONT, MEGABYTES, SEEN, UNKNOWN, UNKNOWN_COMMAND, Client, Front, packed
+from lib.misbehaving import hang_up, keep_asking, read_nothing, send_rubbish
+from lib.program import BUILT, EXAMPLES, Tally, built, executable, parser_of, run
+from lib.sessions import SECONDS, wait_until
+from lib.watched import MIX, Outcome, Seen, Start, against_time, judge, judged_by_itself, log_is_exact, mix, referee, seen_otherwise, watched, whole_lines
 
 
 # Commands and replies.

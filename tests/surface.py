@@ -12,8 +12,8 @@ from functools import cache
 from itertools import groupby, product
 from typing import Iterator
 
-from declarations import Crate, Item, Tokens, crates, items
-from program import DOCUMENTS, TESTS, Tally
+from lib.declarations import Crate, Item, Tokens, crates, items
+from lib.program import DOCUMENTS, ROOT, TESTS, Tally
 
 LIST = TESTS / "surface.txt"
 DECISIONS = DOCUMENTS / "DECISIONS.md"
@@ -238,7 +238,7 @@ def compare(tally: Tally, one: Listed) -> None:
         tally.check(False, f"{one.crate}: `{wanted}` is missing")
     else:
         item, there = found
-        tally.check(any(wanted.is_met_by(each) for each in instances(crates()[one.here_crate], item, there)), f"{item.path.relative_to(TESTS.parent)}: {difference(wanted, there)}")
+        tally.check(any(wanted.is_met_by(each) for each in instances(crates()[one.here_crate], item, there)), f"{item.path.relative_to(ROOT)}: {difference(wanted, there)}")
     if here:
         tally.check(not specified.is_met_by(wanted), f"{one.crate}: `{said.name}` is listed twice in its specified form")
     if one.here:

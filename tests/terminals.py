@@ -22,10 +22,10 @@ from pathlib import Path
 from subprocess import PIPE, Popen
 from typing import Iterable, Iterator
 
-from checks import SEEN, VIEW, tell_of
-from load_model import Plan
-from model import Options, expected
-from program import SECONDS, Tally, build_shim, built, executable, parser_of, run
+from lib.checks import SEEN, VIEW, tell_of
+from lib.load_model import Plan
+from lib.model import Options, expected
+from lib.program import SECONDS, Tally, build_shim, built, executable, parser_of, run
 
 END_OF_INPUT = b"\x04"
 EMPTY_LINE = b"\r\x1b[K"

@@ -17,9 +17,9 @@ from pathlib import Path
 from tempfile import TemporaryDirectory
 from xml.etree import ElementTree
 
-from browser import Browser, Document, Element
-from program import BUILT, EXAMPLES, TESTS, Tally, built, described, executable, parser_of, run
-from themes import contrast, faults
+from lib.browser import Browser, Document, Element
+from lib.program import BUILT, EXAMPLES, TESTS, Tally, built, described, executable, parser_of, run
+from lib.themes import contrast, faults
 
 TIMELINE = EXAMPLES / "timeline.py"
 CONTENDED = (EXAMPLES / "contended.history").read_bytes()

@@ -18,11 +18,11 @@ from subprocess import PIPE, Popen, TimeoutExpired
 from tempfile import TemporaryDirectory
 from typing import BinaryIO
 
-import helps
-from model import Outcome
-from program import BUILT, DOCUMENTS, EXAMPLES, SECONDS, TESTS, Tally, built, described, executable, is_asleep, parser_of, run
+from lib import helps
+from lib.model import Outcome
+from lib.program import BENCH, BUILT, DOCUMENTS, EXAMPLES, SECONDS, TESTS, Tally, built, described, executable, is_asleep, parser_of, run
 
-BENCH, PYTHON = TESTS.parent / "bench", [sys.executable, "-B"]
+PYTHON = [sys.executable, "-B"]
 RUN, TUNE, STARTS, APPLICATIONS = (BENCH / name for name in ("run", "tune", "starts", "applications"))
 THREE, MAN_PAGES = EXAMPLES / "sql" / "three.sh", DOCUMENTS / "man_pages.py"
 SKEWED = EXAMPLES / "skewed.csv"

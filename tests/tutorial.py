@@ -11,7 +11,7 @@ import subprocess
 import tempfile
 from pathlib import Path
 
-from program import CRATES, DOCUMENTS, TESTS, Tally
+from lib.program import CRATES, DOCUMENTS, ROOT, Tally
 
 TUTORIAL = DOCUMENTS / "TUTORIAL.md"
 SECTION = "## The smallest program\n"
@@ -24,7 +24,7 @@ PRINTED = re.compile(r"(?m)^It prints,.*\n\n((?:    .*\n)+)")
 def copy_of_sources(folder: Path) -> None:
     """The crates as a clone has them, with nothing built."""
     shutil.copytree(CRATES, folder / "crates", ignore=shutil.ignore_patterns("out", "must-fail", "proofs"))
-    shutil.copy(TESTS.parent / "crates.txt", folder)
+    shutil.copy(ROOT / "crates.txt", folder)
 
 
 def smallest_program(tally: Tally, folder: Path) -> None:

@@ -13,8 +13,8 @@ import re
 from dataclasses import dataclass, field
 from pathlib import Path
 
-from model import Outcome
-from program import BUILT, TESTS, Tally, described, executable, parser_of, run
+from lib.model import Outcome
+from lib.program import BUILT, TESTS, Tally, described, executable, parser_of, run
 
 
 @dataclass

@@ -9,8 +9,8 @@ from itertools import product, zip_longest
 from pathlib import Path
 from typing import Callable, Iterable, Iterator
 
-from model import Options, Outcome, expected
-from program import BUILT, EXAMPLES, Tally, build_shim, executable, parser_of, run
+from lib.model import Options, Outcome, expected
+from lib.program import BUILT, EXAMPLES, Tally, build_shim, executable, parser_of, run
 
 VASE = b"0,item,0,0,Vase,10,100,1\n"
 VIEW = b"0,viewuser,0\n"

@@ -9,8 +9,8 @@ from collections import Counter
 from itertools import count
 from typing import Iterator
 
-from model import Book, Entry, Options, Run, choose_hot, is_put_off, is_refusal, is_split, quota, report_text, rows_text, views_text
-from records import Asked, Fault, Id, Item, Object, Request, item_object, read_input
+from lib.model import Book, Entry, Options, Run, choose_hot, is_put_off, is_refusal, is_split, quota, report_text, rows_text, views_text
+from lib.records import Asked, Fault, Id, Item, Object, Request, item_object, read_input
 
 MOST_ROWS_LOOKED_AT = 1_000_000
 COUNTS = re.compile("phases ([0-9]+)\nrequests ([0-9]+)\nrefused ([0-9]+)\n")

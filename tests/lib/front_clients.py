@@ -5,10 +5,10 @@ import shlex
 import shutil
 import sys
 
-from checks import Tester
-from fronts import Front
-from program import DOCUMENTS, EXAMPLES, run
-from watched import judged_by_itself, mix
+from lib.checks import Tester
+from lib.fronts import Front
+from lib.program import DOCUMENTS, EXAMPLES, run
+from lib.watched import judged_by_itself, mix
 
 LOAD = [sys.executable, "-B", EXAMPLES / "load.py"]
 TOLD = re.compile(rb"(\d+) replies, 0 errors, (\d+) a second; milliseconds: p50 ([\d.]+), p99 ([\d.]+), p99.9 ([\d.]+), most ([\d.]+)\n")

@@ -4,9 +4,9 @@ import random
 import re
 from dataclasses import dataclass, fields, replace
 
-from model import Book, Options, is_refusal
-from records import BYTE_ORDER_MARK, MAX_32, MAX_64, MAX_QUANTITY
-from records import Bid, BuyNow, Comment, Id, Item, Request, ViewBids, ViewCategory, ViewItem, ViewUser
+from lib.model import Book, Options, is_refusal
+from lib.records import BYTE_ORDER_MARK, MAX_32, MAX_64, MAX_QUANTITY
+from lib.records import Bid, BuyNow, Comment, Id, Item, Request, ViewBids, ViewCategory, ViewItem, ViewUser
 
 KINDS = (Item, Bid, Comment, BuyNow, ViewItem, ViewBids, ViewCategory, ViewUser)
 STORES = KINDS[:4]

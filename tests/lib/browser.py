@@ -8,7 +8,7 @@ from pathlib import Path
 from subprocess import PIPE, Popen
 from typing import Iterator
 
-from program import SECONDS, Tally
+from lib.program import SECONDS, Tally
 
 BROWSERS = ("chromium", "chromium-browser", "google-chrome")
 VOID = {"meta", "input", "br", "img", "link"}

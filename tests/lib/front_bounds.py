@@ -3,9 +3,9 @@
 import threading
 from collections import Counter
 
-from checks import Tester
-from fronts import FULL, MEGABYTES, PROTOCOL, SEEN, Client, Front, packed
-from sessions import SECONDS, wait_until
+from lib.checks import Tester
+from lib.fronts import FULL, MEGABYTES, PROTOCOL, SEEN, Client, Front, packed
+from lib.sessions import SECONDS, wait_until
 
 MOST_CLIENTS, MOST_UNDER_WAY, MOST_OF_A_CLIENT, MOST_BYTES = 512, 16384, 1000, 512
 # A request so long that few more than a client may have under way are read at once.

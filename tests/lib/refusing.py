@@ -6,8 +6,8 @@ from dataclasses import dataclass
 from pathlib import Path
 from typing import Iterator
 
-from model import Outcome
-from program import run
+from lib.model import Outcome
+from lib.program import run
 
 ENDLESS = 2**62
 UNREACHED_IN_A_ROW = 3

@@ -4,7 +4,7 @@ import re
 from pathlib import Path
 from textwrap import indent
 
-from program import DOCUMENTS, Tally, described, run
+from lib.program import DOCUMENTS, Tally, described, run
 
 # An option that takes a number, with its range and what it is without words.
 NUMBER = re.compile(r"(?m)^ +--([\w-]+) <N> +\w.*, (\d+) to (\d+)(?:; .*)? \[default: (\d+)\]$")

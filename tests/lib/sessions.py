@@ -4,19 +4,15 @@ import itertools
 import os
 import random
 import signal
-import sys
 import threading
 import time
 from contextlib import suppress
 from pathlib import Path
 from typing import Callable, Iterable, Iterator
 
-from checks import Tester
-from model import Options, expected
-from program import EXAMPLES
-
-sys.path.append(str(EXAMPLES))
 from client import Auction, Refused
+from lib.checks import Tester
+from lib.model import Options, expected
 
 SECONDS = 60
 STORES = ("item", "bid", "comment", "buynow")

@@ -8,8 +8,8 @@ from collections import Counter
 from dataclasses import dataclass, field, fields
 from typing import Iterable
 
-from records import NOT_PERFORMED, Asked, Bid, BuyNow, Comment, Fault, Id, Item, Object, Request
-from records import ViewBids, ViewCategory, ViewItem, ViewUser, read_input
+from lib.records import NOT_PERFORMED, Asked, Bid, BuyNow, Comment, Fault, Id, Item, Object, Request
+from lib.records import ViewBids, ViewCategory, ViewItem, ViewUser, read_input
 
 LISTED = 10
 MAX_FOR_A_WORKER = 1_000_000

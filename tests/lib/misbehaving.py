@@ -7,8 +7,8 @@ import time
 from contextlib import suppress
 from pathlib import Path
 
-from checks import Tester
-from fronts import Front, packed
+from lib.checks import Tester
+from lib.fronts import Front, packed
 
 VIEWS = b"VIEWBIDS 0.0\n"
 

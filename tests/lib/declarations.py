@@ -7,7 +7,7 @@ from functools import cache
 from pathlib import Path
 from typing import Iterator
 
-from program import CRATES
+from lib.program import CRATES
 
 TOKEN = re.compile(r"""//[^\n]*|b?"(?:\\.|[^"\\])*"|b?'(?:\\[^']+|[^'\\\n])'|'[a-z_]\w*|\w+|->|=>|::|\S""")
 PASSED_OVER = re.compile(r"//.*|'\w+")

@@ -10,15 +10,12 @@ from dataclasses import dataclass
 from pathlib import Path
 from subprocess import PIPE, Popen, TimeoutExpired, check_call
 
-from model import Outcome
-
-TESTS = Path(__file__).resolve().parent
-CRATES = TESTS.parent / "crates"
-EXAMPLES = TESTS.parent / "examples"
-DOCUMENTS = TESTS.parent / "docs"
-
-sys.path.append(str(EXAMPLES))
 from command_line import executable, parser_of
+from lib.model import Outcome
+
+LIB = Path(__file__).resolve().parent
+TESTS, ROOT = LIB.parent, LIB.parents[1]
+BENCH, CRATES, DOCUMENTS, EXAMPLES = (ROOT / name for name in ("bench", "crates", "docs", "examples"))
 
 # What a program may map whose memory does not grow with its input.
 LITTLE_MEMORY = 64 << 20
@@ -94,12 +91,12 @@ def is_asleep(process: int) -> bool:
 
 
 def build_shim(name: str, folder: Path) -> Path | None:
-    """Compiles a shim for LD_PRELOAD from tests/NAME.c, where there is a compiler."""
+    """Compiles a shim for LD_PRELOAD from tests/lib/NAME.c, where there is a compiler."""
     compiler = next(filter(None, map(shutil.which, ("cc", "gcc", "clang"))), None)
     if compiler is None:
         return None
     shim = folder / f"{name}.so"
-    check_call([compiler, "-Wall", "-Wextra", "-Werror", "-shared", "-fPIC", "-O1", "-o", shim, TESTS / f"{name}.c", "-ldl"])
+    check_call([compiler, "-Wall", "-Wextra", "-Werror", "-shared", "-fPIC", "-O1", "-o", shim, LIB / f"{name}.c", "-ldl"])
     return shim
 
 

@@ -9,11 +9,11 @@ from pathlib import Path
 from types import SimpleNamespace
 from typing import Callable
 
-from checks import Tester
-from fronts import WORKERS, Front, load
-from load_model import Market, Plan
-from program import run
-from sessions import SECONDS, is_stored
+from lib.checks import Tester
+from lib.fronts import WORKERS, Front, load
+from lib.load_model import Market, Plan
+from lib.program import run
+from lib.sessions import SECONDS, is_stored
 
 # Clients, how many requests each has under way, and how many replies come between two events.
 CLIENTS, PIPELINE, BETWEEN = 100, 4, 4000

@@ -10,12 +10,10 @@ from contextlib import contextmanager, suppress
 from pathlib import Path
 from typing import Iterator
 
-from checks import Tester
-from program import EXAMPLES
-from sessions import SECONDS, wait_until
-
-sys.path.append(str(EXAMPLES))
 import load
+from lib.checks import Tester
+from lib.program import EXAMPLES
+from lib.sessions import SECONDS, wait_until
 
 FRONT = [sys.executable, "-B", str(EXAMPLES / "front.py")]
 WORKERS, MEGABYTES = 4, 50
