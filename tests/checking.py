@@ -11,14 +11,14 @@ import itertools
 import os
 import random
 import sys
-import tempfile
-from dataclasses import dataclass, replace
+from argparse import Namespace
+from dataclasses import replace
 from pathlib import Path
 from textwrap import indent
 from typing import Iterator
 
 from lib import helps
-from lib.checks import tell_of
+from lib.checks import Tester, make_all
 from lib.inputs import Text, random_options
 from lib.load_model import Plan, load_of
 from lib.model import Options, Outcome, open_auction
@@ -180,12 +180,12 @@ def words_of(options: Options) -> list[str]:
     return [f"--{name}={getattr(options, name)}" for name in ("workers", "users", "categories")]
 
 
-@dataclass
-class Tester:
-    checker: Path
-    program: Path
-    folder: Path
-    tally: Tally
+class CheckerTester(Tester):
+    """Runs the referee, on histories of the program."""
+
+    def __init__(self, asked: Namespace, folder: Path, tally: Tally):
+        super().__init__(folder, tally)
+        self.checker, self.program = asked.checker, asked.program
 
     def history_of(self, scripts: bytes, options: Options) -> bytes:
         """The history that the program writes."""
@@ -203,7 +203,7 @@ class Tester:
         self.tally.same(what, run(self.command(history, options, *asked), scripts), finding(found))
 
 
-def worked_examples(tester: Tester) -> None:
+def worked_examples(tester: CheckerTester) -> None:
     """histories of all worked examples that are answered"""
     for path in sorted((TESTS / "worked").glob("*.txt")):
         for example in examples_of(path):
@@ -219,7 +219,7 @@ def options_of(words: list[str]) -> Options:
     return Options(**{word.removeprefix("--"): int(value) for word, value in named if word.startswith("--") and value.isdecimal()})
 
 
-def by_hand(tester: Tester) -> None:
+def by_hand(tester: CheckerTester) -> None:
     """a history by hand, with each of its replies changed, and other lines in place of some"""
     tester.finds("the right one", SCRIPTS, lines(RIGHT), REPLAYS, FEW, "--strict")
     for number, text, what in OTHER_REPLIES:
@@ -231,7 +231,7 @@ def by_hand(tester: Tester) -> None:
         tester.finds(what, SCRIPTS, lines(changed), found)
 
 
-def malformed_lines(tester: Tester) -> None:
+def malformed_lines(tester: CheckerTester) -> None:
     """lines that can't be read"""
     for line, what in NO_LINES:
         history = lines(RIGHT[:7]) + line + lines(RIGHT[8:])
@@ -245,7 +245,7 @@ def malformed_lines(tester: Tester) -> None:
     tester.finds("a byte after the last line", SCRIPTS, whole + b"0", f"line 21: {UNREADABLE}")
 
 
-def across_reads(tester: Tester) -> None:
+def across_reads(tester: CheckerTester) -> None:
     """lines across the end of what is read at once, right ones and changed ones"""
     views = 4_000
     right = [f"0 0 0 {index} latest" for index in range(views)]
@@ -260,7 +260,7 @@ def across_reads(tester: Tester) -> None:
             tester.finds(f"{before} bytes of a line before the end of a read, {text!r}", scripts, history, found)
 
 
-def orders(tester: Tester) -> None:
+def orders(tester: CheckerTester) -> None:
     """what may stand in any order, with stores first, and in the order of scripts"""
     contended = (EXAMPLES / "contended.csv").read_bytes()
     view_last = (EXAMPLES / "contended.history").read_bytes()
@@ -277,7 +277,7 @@ def orders(tester: Tester) -> None:
         tester.finds(f"a purchase that waited, {asked}", scripts, bought_last, found, FEW, *asked)
 
 
-def opening_rows(tester: Tester) -> None:
+def opening_rows(tester: CheckerTester) -> None:
     """rows that stand before the history"""
     scripts = b"0,+item,0,0,Vase,10,100,1\n0,+bid,1,0.0,20,5\n0,bid,2,0.0,30,6\n1,bid,2,0.0,30,6\n"
     tester.finds("ids go on after the rows", scripts, lines(["0 0 0 0 bid 0.1", "0 0 1 0 bid 1.0"]), REPLAYS)
@@ -286,7 +286,7 @@ def opening_rows(tester: Tester) -> None:
     tester.finds("neither scripts nor history", b"", b"", REPLAYS)
 
 
-def faults(tester: Tester) -> None:
+def faults(tester: CheckerTester) -> None:
     """faults, by their status and text"""
     asked, missing = tester.command(lines(RIGHT), FEW), tester.folder / "none"
     cases = (
@@ -306,7 +306,7 @@ def faults(tester: Tester) -> None:
             tester.tally.same("a full disk", run(asked, SCRIPTS, stdout=full), Outcome(4, b"", b"rubis_check: output cannot be written\n"))
 
 
-def terminals(tester: Tester) -> None:
+def terminals(tester: CheckerTester) -> None:
     """scripts from a terminal: one Ctrl-D at the start of a line ends them, and two behind half a line"""
     asked = tester.command(lines(["0 0 0 0 latest"]), FEW)
     for typed in (b"0,viewcategory,0\n\x04", b"0,viewcategory,0\x04\x04"):
@@ -314,7 +314,7 @@ def terminals(tester: Tester) -> None:
     tester.tally.same("one Ctrl-D alone on a terminal", run_typed(asked, b"\x04"), finding("line 1: 0,0 stands in no script"))
 
 
-def interrupted_calls(tester: Tester) -> None:
+def interrupted_calls(tester: CheckerTester) -> None:
     """reads and writes that a signal interrupts, each second, third or fifth, also in a history of several reads: what is found is the same"""
     shim = build_shim("refused_calls", tester.folder)
     if shim is None:
@@ -333,7 +333,7 @@ def interrupted_calls(tester: Tester) -> None:
         tester.tally.same(f"each {every}th call is interrupted, {most} bytes a call, {len(history)} lines", got, finding(found))
 
 
-def refused_memory(tester: Tester) -> None:
+def refused_memory(tester: CheckerTester) -> None:
     """each allocation refused, alone and with all that come after it"""
     shim = build_shim("refused_memory", tester.folder)
     if shim is None:
@@ -348,7 +348,7 @@ def refused_memory(tester: Tester) -> None:
             tester.tally.check(lawful or refusal.outcome == found, f"{refusal}: got {refusal.outcome}")
 
 
-def changed_at_random(tester: Tester) -> None:
+def changed_at_random(tester: CheckerTester) -> None:
     """histories of random inputs with several workers, and each changed at a random line"""
     rng = random.Random(24)
     for number in range(100):
@@ -379,7 +379,7 @@ def changes(rng: random.Random, history: list[bytes]) -> Iterator[tuple[str, lis
         yield f"{text!r} in place of {due!r}", [*before, changed, *after], f"line {at + 1}: {worker},{index} {text} but {due} was due"
 
 
-def loads(tester: Tester) -> None:
+def loads(tester: CheckerTester) -> None:
     """histories of 16 workers with 1,000,000 requests, on many items and on one, and with a line changed"""
     rng = random.Random(7)
     for what, share in (("many items", 0.0), ("one item", 0.9)):
@@ -414,7 +414,7 @@ def load(rng: random.Random, share: float) -> bytes:
     return lines(records)
 
 
-def small_engine(tester: Tester) -> None:
+def small_engine(tester: CheckerTester) -> None:
     """an engine in another language, without its bug and with it, and what examples/replay.py says of its histories and of altered ones"""
     found_stale = 0
     for workers, scripts, path in small_inputs(tester.folder):
@@ -440,7 +440,7 @@ def altered(history: bytes) -> dict[str, bytes]:
     }
 
 
-def replayed(tester: Tester, what: str, scripts: Path, history: bytes, wanted: Outcome) -> None:
+def replayed(tester: CheckerTester, what: str, scripts: Path, history: bytes, wanted: Outcome) -> None:
     """The unproved referee of the examples gives the verdict that the proved one gave."""
     path = tester.folder / "replayed.history"
     path.write_bytes(history)
@@ -455,7 +455,7 @@ def small_inputs(folder: Path) -> Iterator[tuple[int, bytes, Path]]:
         yield workers, data, folder / name
 
 
-def help_and_version(tester: Tester) -> None:
+def help_and_version(tester: CheckerTester) -> None:
     """help, as docs/CHECKING.md shows it, of which one example reads a pipe, and the version"""
     said = helps.help_and_version(tester.tally, tester.checker, "rubis_check", "CHECKING.md", ("--history=none",))
     scripts = EXAMPLES / "contended.csv"
@@ -464,7 +464,7 @@ def help_and_version(tester: Tester) -> None:
     helps.examples(tester.tally, said, "rubis_check", tester.folder, {"rubis_check": tester.checker, "rubis_auction": tester.program})
 
 
-def shown(tester: Tester) -> None:
+def shown(tester: CheckerTester) -> None:
     """what docs/CHECKING.md shows: the example's history, and the small engine with its bug"""
     page, path, scripts = (DOCUMENTS / "CHECKING.md").read_text(), EXAMPLES / "contended.csv", load_of(WALK)
     got = run(tester.command((EXAMPLES / "contended.history").read_bytes(), FEW, "--order"), path.read_bytes())
@@ -500,15 +500,7 @@ def main() -> None:
     words = parser_of(__doc__)
     words.add_argument("checker", nargs="?", type=executable, default=str(built("rubis_check")))
     words.add_argument("program", nargs="?", type=executable, default=str(BUILT))
-    words.add_argument("--only", choices=[check.__name__ for check in CHECKS], help="only this check")
-    options = words.parse_args()
-    tally = Tally()
-    with tempfile.TemporaryDirectory() as folder:
-        tester = Tester(options.checker, options.program, Path(folder), tally)
-        for check in CHECKS:
-            if options.only in (None, check.__name__):
-                tell_of(check, tester)
-    tally.finish()
+    make_all(words, CHECKS, CheckerTester)
 
 
 if __name__ == "__main__":

@@ -11,7 +11,6 @@ are the same in each run. Each input on which the programs differ is written to 
 import os
 import random
 import re
-import shlex
 import sys
 import tempfile
 from collections import Counter
@@ -20,9 +19,8 @@ from pathlib import Path
 
 from lib.inputs import Input, random_input
 from lib.model import Options, Outcome
-from lib.program import TESTS, Tally, build_shim, described, executable, parser_of, run
+from lib.program import Tally, build_shim, described, executable, parser_of, run
 
-KEPT = TESTS / "out"
 TOLD_EVERY = 100
 ROOM = 65536
 # One thread performs a phase of at most 128 requests of each worker. These are what waits, no more than a split phase had, and what comes: half for each.
@@ -83,7 +81,7 @@ class Session:
         cut = rng.choice((1, 2, 7)) if self.shim and len(given.data) < 5000 and rng.random() < 0.2 else None
         old, new = (self.outcome(program, given, cut) for program in self.programs)
         self.kinds["read" if old.status == 0 else re.sub("[0-9]+", "N", old.stderr.decode("ascii").strip())] += 1
-        again = "" if old == new else self.keep(given, f"compare_{self.seed}_{number}")
+        again = "" if old == new else given.keep(f"compare_{self.seed}_{number}", *self.programs)
         self.tally.check(old == new, f"input {number} of seed {self.seed}: {described(old)}; {described(new)}\n  again: {again}")
 
     def given(self, rng: random.Random) -> Input:
@@ -97,12 +95,6 @@ class Session:
     def outcome(self, program: Path, given: Input, cut: int | None) -> Outcome:
         cuts = {} if cut is None else {"LD_PRELOAD": str(self.shim), "READ_AT_MOST": str(cut)}
         return run([program, *given.options.words()], given.data, env=os.environ | cuts)
-
-    def keep(self, given: Input, name: str) -> str:
-        KEPT.mkdir(exist_ok=True)
-        path = KEPT / f"{name}.csv"
-        path.write_bytes(given.data)
-        return "; ".join(f"{shlex.join([str(program), *given.options.words()])} < {shlex.quote(str(path))}" for program in self.programs)
 
 
 def main() -> None:

@@ -272,9 +272,7 @@ def main() -> None:
     of_names = (names_and_paths, paths_in_commands, links, crates, laws, files_of_specs)
     of_what_is_shown = (blocks_of_code, shown_files, quoted_definitions, tables, figures, pictures, themes, lengths, lines_of_scripts)
     for check in (*of_names, *of_what_is_shown):
-        passed = tally.passed
-        check(tally)
-        print(f"{tally.passed - passed:6} passed: {check.__doc__}")
+        tally.tell(check, tally)
     tally.finish()
 
 

@@ -17,7 +17,7 @@ from dataclasses import replace
 from itertools import product
 from subprocess import SubprocessError
 
-from lib.checks import SEEN, VIEW, Tester, each_output, main, with_shim
+from lib.checks import SEEN, VIEW, AuctionTester, each_output, main, with_shim
 from lib.model import Options, Outcome, expected
 from lib.program import become_nobody, fault, run
 from lib.records import BYTE_ORDER_MARK
@@ -34,7 +34,7 @@ def unwritten(taken: bytes) -> Outcome:
 # What is written.
 
 
-def full_disks(tester: Tester) -> None:
+def full_disks(tester: AuctionTester) -> None:
     """a full disk"""
     if not os.path.exists(FULL):
         return tester.tally.skip(full_disks.__doc__, f"there is no {FULL}")
@@ -45,7 +45,7 @@ def full_disks(tester: Tester) -> None:
         tester.same(f"nothing to {FULL}", tester.run(b"", stdout=full), Outcome(0, b"", b""))
 
 
-def closed_ends(tester: Tester) -> None:
+def closed_ends(tester: AuctionTester) -> None:
     """pipes that nobody reads, with the signal of pipes ignored and not; ends that are closed"""
     for options, restore in product(each_output(), (False, True)):
         reader, writer = os.pipe()
@@ -59,7 +59,7 @@ def closed_ends(tester: Tester) -> None:
     tester.same("a fault and no standard error", tester.run(b"x", preexec_fn=lambda: os.close(2)), Outcome(2, b"", b""))
 
 
-def full_pipes(tester: Tester) -> None:
+def full_pipes(tester: AuctionTester) -> None:
     """a full pipe that does not let its writer wait"""
     data = VIEW * 10_000
     wanted = expected(data, Options()).stdout
@@ -74,7 +74,7 @@ def full_pipes(tester: Tester) -> None:
     tester.tally.check(0 < len(taken) <= room and wanted.startswith(taken), "a full pipe has a front of the text")
 
 
-def file_size_limits(tester: Tester) -> None:
+def file_size_limits(tester: AuctionTester) -> None:
     """a file that may have k bytes, for each k; the signal of this limit ends the program where it is not ignored"""
     options = Options(report=True, categories=2)
     text = expected(tester.example, options).stdout
@@ -94,7 +94,7 @@ def limit_file_size(most: int, handler: signal.Handlers) -> None:
 
 
 @with_shim
-def cut_writes(tester: Tester) -> None:
+def cut_writes(tester: AuctionTester) -> None:
     """writes that take few bytes, none, or fail after k bytes"""
     for options in each_output():
         text = expected(tester.example, options).stdout
@@ -109,7 +109,7 @@ def cut_writes(tester: Tester) -> None:
 # What is read.
 
 
-def unreadable_inputs(tester: Tester) -> None:
+def unreadable_inputs(tester: AuctionTester) -> None:
     """input that is a directory, or only for writing"""
     for path, mode in (("/", os.O_RDONLY), (os.devnull, os.O_WRONLY)):
         unreadable = os.open(path, mode)
@@ -119,7 +119,7 @@ def unreadable_inputs(tester: Tester) -> None:
 
 
 @with_shim
-def cut_reads(tester: Tester) -> None:
+def cut_reads(tester: AuctionTester) -> None:
     """input that fails after k bytes; reads that give few bytes"""
     for given in range(len(tester.example) + 1):
         tester.same(f"input fails after {given} bytes", tester.run_cut("READ_FAILS_AT", given, tester.example), UNREAD)
@@ -129,7 +129,7 @@ def cut_reads(tester: Tester) -> None:
 
 
 @with_shim
-def interrupted_calls(tester: Tester) -> None:
+def interrupted_calls(tester: AuctionTester) -> None:
     """reads and writes that a signal interrupts, each second, third or fifth: they are tried again"""
     for options, every, most in product(each_output(), (2, 3, 5), (1, 7)):
         wanted = expected(tester.example, options)
@@ -159,7 +159,7 @@ def views_seen(count: int) -> Outcome:
 
 
 @with_shim
-def refused_threads(tester: Tester) -> None:
+def refused_threads(tester: AuctionTester) -> None:
     """no more than n threads, for each n: a long phase needs one for each worker but the first; a short one, one on few shards and a long input none"""
     for most in range(NEEDED):
         tester.same(f"{most} threads", tester.run_cut("THREADS_AT_MOST", most, views(OF_EACH_WORKER), LONG_PHASES), UNSTARTED)
@@ -182,7 +182,7 @@ TO_FOUR, TO_EIGHT = (0, 1, 4, 2), (0, 8, 0, 8, 3, 4, 5, 6)
 
 
 @with_shim
-def shards_for_speed(tester: Tester) -> None:
+def shards_for_speed(tester: AuctionTester) -> None:
     """--fast has four shards for each worker, unless they are given: long phases of two workers whose requests meet in one of eight, or of four, and no thread"""
     workers = range(2)
     quotas = ("--workers=2", f"--joined={LONG_PHASES.joined}", f"--split={LONG_PHASES.split}")
@@ -194,7 +194,7 @@ def shards_for_speed(tester: Tester) -> None:
 
 
 @with_shim
-def threads_for_a_hot_item(tester: Tester) -> None:
+def threads_for_a_hot_item(tester: AuctionTester) -> None:
     """bids of all workers on one item and no thread: a long split phase needs one if the item is hot, and none if nothing may be"""
     options = replace(LONG_PHASES, joined=1, threshold=1)
     workers, count = range(options.workers), options.joined + options.split
@@ -204,7 +204,7 @@ def threads_for_a_hot_item(tester: Tester) -> None:
     tester.same("nothing hot", tester.run_cut("THREADS_AT_MOST", 0, bids, replace(options, hot=0)), Outcome(0, replies, b""))
 
 
-def users_without_threads(tester: Tester) -> None:
+def users_without_threads(tester: AuctionTester) -> None:
     """a user who may have no more threads"""
     tester.folder.chmod(0o755)
     command = [shutil.copy(tester.program, tester.folder / "program"), *LONG_PHASES.words()]
@@ -235,7 +235,7 @@ def require_no_fork() -> None:
     raise OSError("the limit does not hold")
 
 
-def small_stacks(tester: Tester) -> None:
+def small_stacks(tester: AuctionTester) -> None:
     """a stack of 128 KB, also live with a log, and with that log again"""
     options, log = Options(workers=2, split=2), tester.folder / "small"
     answered, rows = expected(tester.example, options), expected(tester.example, replace(options, rows=True)).stdout

@@ -165,9 +165,7 @@ def main() -> None:
     rng = random.Random(seed)
     with three_servers() as servers:
         for check in (kept, lost):
-            passed = tally.passed
-            check(servers, program, checker, rng, tally)
-            print(f"{tally.passed - passed:6} passed: {check.__doc__}", flush=True)
+            tally.tell(check, servers, program, checker, rng, tally)
     tally.finish()
 
 

@@ -146,9 +146,7 @@ def main() -> None:
         given = dealt(load_of(replace(LOAD, seed=seed)))
         shares = list(threads.map(trial.execute, range(PROCESSES), given))
         for check in (joined_rows, joined_histories):
-            passed = tally.passed
-            check(trial, shares)
-            print(f"{tally.passed - passed:6} passed: {check.__doc__}", flush=True)
+            tally.tell(check, trial, shares)
     tally.finish()
 
 

@@ -9,7 +9,7 @@ from contextlib import contextmanager
 from pathlib import Path
 from typing import Iterator
 
-from lib.checks import MILLION, Tester, main
+from lib.checks import MILLION, AuctionTester, main
 from lib.program import described, in_little_memory, run
 from lib.sessions import Auction, Refused
 
@@ -29,7 +29,7 @@ def written(path: Path, *parts: bytes) -> Path:
 # The millionth row.
 
 
-def passes_a_million(tester: Tester) -> None:
+def passes_a_million(tester: AuctionTester) -> None:
     """a worker's millionth row: the requests before and behind it are answered, one by one and many at once, and a later start goes on"""
     log = tester.folder / "million"
     before = MILLION - 10
@@ -48,7 +48,7 @@ def passes_a_million(tester: Tester) -> None:
 
 
 @contextmanager
-def session(tester: Tester, log: Path, **how) -> Iterator[Auction]:
+def session(tester: AuctionTester, log: Path, **how) -> Iterator[Auction]:
     """A session of two workers on a log, which is not to end before it is closed."""
     auction = Auction(tester.program, "--workers=2", "--log", str(log), **how)
     try:
@@ -58,7 +58,7 @@ def session(tester: Tester, log: Path, **how) -> Iterator[Auction]:
         tester.tally.check(False, f"a session ended: {refused}")
 
 
-def without_parts(tester: Tester) -> None:
+def without_parts(tester: AuctionTester) -> None:
     """a run without parts has a million rows and requests of a worker, and no more"""
     rows = written(tester.folder / "rows", ITEM, ROW * MILLION)
     with rows.open("rb") as given:
@@ -69,7 +69,7 @@ def without_parts(tester: Tester) -> None:
 # Starts.
 
 
-def flat_logs(tester: Tester) -> None:
+def flat_logs(tester: AuctionTester) -> None:
     """a log of 2,000,000 rows of a worker in little memory, with parts of any length"""
     log = written(tester.folder / "long", ITEM, ROW * MANY)
     for words in (["--live", "1"], ["--live", "1000"], []):
@@ -80,7 +80,7 @@ def flat_logs(tester: Tester) -> None:
             file.truncate(len(ITEM) + len(ROW) * MANY)
 
 
-def flat_rows(tester: Tester) -> None:
+def flat_rows(tester: AuctionTester) -> None:
     """2,000,000 rows of a worker on standard input in little memory, which a log gets, and which are printed with --rows"""
     rows, log = written(tester.folder / "given", ITEM, ROW * MANY, b"0,viewuser,2\n"), tester.folder / "got"
     for words in (["--live", "1"], ["--live", "1000"], ["--live", "10", "--faults", "end"], ["--live", "10", "--log", log], ["--log", log]):
@@ -94,7 +94,7 @@ def flat_rows(tester: Tester) -> None:
     tester.tally.check(got.status == 0 and has_rows(tester.output), f"many rows are printed: {described(got)}")
 
 
-def printed_logs(tester: Tester) -> None:
+def printed_logs(tester: AuctionTester) -> None:
     """a log of 2,000,000 rows is printed with --rows, in little memory"""
     log = written(tester.folder / "printed", ITEM, ROW * MANY)
     for words in (["--live", "10"], []):
@@ -109,7 +109,7 @@ def has_rows(path: Path) -> bool:
         return file.readline() == ITEM and all(line == ROW for line in file) and path.stat().st_size == len(ITEM) + len(ROW) * MANY
 
 
-def late_faults(tester: Tester) -> None:
+def late_faults(tester: AuctionTester) -> None:
     """a row that is refused, and a line that is no row, behind many: a fault with its number, and the log is as it was; on standard input the rows before it are logged"""
     log = tester.folder / "late"
     for line, words in (
@@ -128,7 +128,7 @@ def late_faults(tester: Tester) -> None:
             tester.tally.check(right, f"{words}: {described(got)}")
 
 
-def late_lines(tester: Tester) -> None:
+def late_lines(tester: AuctionTester) -> None:
     """a line with a fault between many rows on standard input is answered, and a row that is refused behind them ends the program; what was logged is a log"""
     log, given = tester.folder / "lines", tester.folder / "given"
     few = 70_000
@@ -151,7 +151,7 @@ def late_lines(tester: Tester) -> None:
         tester.tally.check(again.stdout.decode() == f"0,0,user rating={logged} comments={logged}\n", f"a start behind a refused row, {words}: {described(again)}")
 
 
-def memory_of_starts(tester: Tester) -> None:
+def memory_of_starts(tester: AuctionTester) -> None:
     """what the program has held at most, after 20,000 rows of a log and after 2,000,000"""
     held = []
     for rows in (20_000, MANY):

@@ -13,7 +13,7 @@ from dataclasses import fields, replace
 from itertools import product
 
 from lib import helps
-from lib.checks import FEW, MILLION, SEEN, VASE, VIEW, Tester, main
+from lib.checks import FEW, MILLION, SEEN, VASE, VIEW, AuctionTester, main
 from lib.model import Options, Outcome, expected
 from lib.program import EXAMPLES, described, fault, run
 from lib.records import BYTE_ORDER_MARK
@@ -22,7 +22,7 @@ from lib.records import BYTE_ORDER_MARK
 # Texts.
 
 
-def examples(tester: Tester) -> None:
+def examples(tester: AuctionTester) -> None:
     """the examples of the documents"""
     both = Options(workers=2, joined=2, split=3, threshold=1, users=10, categories=2, history=True)
     contended = (EXAMPLES / "contended.csv").read_bytes()
@@ -34,7 +34,7 @@ def examples(tester: Tester) -> None:
     tester.same("the contended example, with a report", tester.run(contended, replace(both, report=True)), Outcome(0, history + report, b""))
 
 
-def fronts(tester: Tester) -> None:
+def fronts(tester: AuctionTester) -> None:
     """every front of an input"""
     rows = expected(tester.example, replace(FEW, rows=True)).stdout
     for text in (tester.example, rows + tester.example):
@@ -42,7 +42,7 @@ def fronts(tester: Tester) -> None:
             tester.as_model(f"the first {length} bytes of {text!r}", text[:length])
 
 
-def line_ends(tester: Tester) -> None:
+def line_ends(tester: AuctionTester) -> None:
     """line ends, empty lines, and marks of byte order"""
     for end in (b"\n", b"\r\n", b"\r", b"\n\r", b"\n\n\n", b"\r\n\r\n"):
         text = tester.example.replace(b"\n", end)
@@ -55,7 +55,7 @@ def line_ends(tester: Tester) -> None:
     tester.same("half a mark", tester.run(BYTE_ORDER_MARK[:2] + VIEW), fault(2, "record 1: not a number"))
 
 
-def quotes(tester: Tester) -> None:
+def quotes(tester: AuctionTester) -> None:
     """quotes where they open and close a field, and where they do not"""
     for written, name in {
         b"Vase": b"Vase",
@@ -75,7 +75,7 @@ def quotes(tester: Tester) -> None:
     tester.same("a line end in quotes", tester.run(b'0,viewuser,"0\n0,viewuser,0\n'), fault(2, "record 1: not a number"))
 
 
-def million_empty_lines(tester: Tester) -> None:
+def million_empty_lines(tester: AuctionTester) -> None:
     """a million empty lines"""
     for end in (b"\n", b"\r\n", b"\r"):
         tester.same(f"a million {end!r}", tester.run(end * MILLION), Outcome(0, b"", b""))
@@ -83,7 +83,7 @@ def million_empty_lines(tester: Tester) -> None:
         tester.same(f"a million {end!r} before a fault", tester.run(end * MILLION + b"x"), fault(2, "record 1: not a number"))
 
 
-def every_byte(tester: Tester) -> None:
+def every_byte(tester: AuctionTester) -> None:
     """every byte at every kind of place"""
     places = (b"%s", b"%s,viewuser,0", b"0,%s,0", b"0,viewuser,%s", b'0,viewuser,"%s"', b"0,item,0,0,a%sb,1,2,3", b'0,item,0,0,"a%sb",1,2,3', b"0,viewitem,0%s0")
     for place, byte in product(places, range(256)):
@@ -91,7 +91,7 @@ def every_byte(tester: Tester) -> None:
         tester.as_model(f"{text!r}", text)
 
 
-def long_fields(tester: Tester) -> None:
+def long_fields(tester: AuctionTester) -> None:
     """fields of 50,000,000 bytes"""
     for byte in (b"1", b"a", b"\xff", b'""'):
         long = byte * (50_000_000 // len(byte))
@@ -177,7 +177,7 @@ RECORDS = (
 )
 
 
-def worked_faults(tester: Tester) -> None:
+def worked_faults(tester: AuctionTester) -> None:
     """a fault for each check of a record, by hand"""
     for record, text in WORKED.items():
         tester.same(f"{record!r}", tester.run(record), fault(2, f"record 1: {text}"))
@@ -191,7 +191,7 @@ def worked_faults(tester: Tester) -> None:
     tester.same("a refused row", tester.run(b"0,+item,0,0,Vase,10,100,1\n0,+bid,1,0.0,9,5"), fault(3, "row 2: refused"))
 
 
-def numbers_in_fields(tester: Tester) -> None:
+def numbers_in_fields(tester: AuctionTester) -> None:
     """numbers at every limit in every field"""
     row = b"0,+item,0,0,Vase,10,100,1,1000000\n"
     views = b"0,viewitem,0.0\n0,viewitem,0.1\n0,viewbids,0.0\n0,viewcategory,0\n0,viewuser,2\n"
@@ -202,7 +202,7 @@ def numbers_in_fields(tester: Tester) -> None:
             tester.as_model(f"{text!r}", row + text + views, replace(FEW, history=True))
 
 
-def stars(tester: Tester) -> None:
+def stars(tester: AuctionTester) -> None:
     """stars from -5 to 5, and what is none"""
     for number in range(-5, 6):
         got = tester.run(VASE + b"0,comment,0,1,0.0,%d\n0,viewuser,1\n" % number)
@@ -226,7 +226,7 @@ BEYOND_OPTIONS = tuple(str(number) for number in (2**31, 2**32, 2**32 + 4, 2**63
 NO_OPTION_NUMBERS = ("", " 4", "4 ", "-1", "--4", "++4", "4.0", "0x4", "1e1", "four", "4,0", "1_0")
 
 
-def numbers_in_options(tester: Tester) -> None:
+def numbers_in_options(tester: AuctionTester) -> None:
     """numbers at every limit for every option; in options, unlike records, a plus and leading zeros may stand"""
     for option, (least, most) in OPTION_LIMITS.items():
         for number in {least, least + 1, 4, 7, most - 1, most}:
@@ -238,7 +238,7 @@ def numbers_in_options(tester: Tester) -> None:
         options_are_refused(tester, f"--{option}=4", f"--{option}=4")
 
 
-def option_is_taken(tester: Tester, option: str, text: str, number: int) -> None:
+def option_is_taken(tester: AuctionTester, option: str, text: str, number: int) -> None:
     base = replace(FEW, history=True)
     data = VASE * 3 + b"0,bid,1,0.0,10,5\n0,comment,2,3,0.1,4\n0,viewuser,3\n0,viewitem,0.0\n" * 4
     wanted = expected(data, replace(base, **{option: number}))
@@ -247,13 +247,13 @@ def option_is_taken(tester: Tester, option: str, text: str, number: int) -> None
         tester.same(f"{words}", run([tester.program, *others, *words], data), wanted)
 
 
-def options_are_refused(tester: Tester, *words: str | bytes, why: bytes = b"") -> None:
+def options_are_refused(tester: AuctionTester, *words: str | bytes, why: bytes = b"") -> None:
     got = run([tester.program, *words], VIEW)
     right = got.status == 1 and got.stdout == b"" and re.match(rb"error: \S", got.stderr) and why in got.stderr
     tester.tally.check(bool(right), f"options {str(words):.60} are refused: {described(got)}")
 
 
-def numbers_without_words(tester: Tester) -> None:
+def numbers_without_words(tester: AuctionTester) -> None:
     """what each option is without its word"""
     rows = b"".join(b"0,+item,0,0,Vase%d,1,100,1\n" % item for item in range(12))
     bids = b"".join(b"0,bid,0,0.%d,%d,5\n" % (item, bid + 1) for item in range(12) for bid in range(item))
@@ -265,7 +265,7 @@ def numbers_without_words(tester: Tester) -> None:
         tester.same(f"no --{option} beside {words}", run([tester.program, *words], rows + bids + views), wanted)
 
 
-def numbers_for_speed(tester: Tester) -> None:
+def numbers_for_speed(tester: AuctionTester) -> None:
     """the quotas that --fast says, and numbers given beside it, before it and after it"""
     data, fast = VASE + b"0,bid,1,0.0,10,5\n" * 9 + VIEW * 8_500, Options(split=4096, history=True)
     for given in ({}, {"shards": 1}, {"joined": 5}, {"split": 64}, {"shards": 64, "joined": 100, "split": MILLION}):
@@ -274,7 +274,7 @@ def numbers_for_speed(tester: Tester) -> None:
             tester.same(f"{line}", run([tester.program, "--history", *line], data), expected(data, replace(fast, **given)))
 
 
-def words_in_both_forms(tester: Tester) -> None:
+def words_in_both_forms(tester: AuctionTester) -> None:
     """numbers after an equals sign and after a space, a flag, and the name of a log"""
     replies = b"15,0,refused 1 NoSuchUser\n15,1,latest\n"
     report = b"phases 1\nrequests 2\nrefused 1\n" + b"".join(b"category %d latest\n" % number for number in range(10))
@@ -285,7 +285,7 @@ def words_in_both_forms(tester: Tester) -> None:
     tester.tally.check((tester.folder / "rows.csv").read_bytes() == b"", "a log of no rows")
 
 
-def reasons_of_options(tester: Tester) -> None:
+def reasons_of_options(tester: AuctionTester) -> None:
     """why options are refused"""
     options_are_refused(tester, "--workers=17", why=b"17 is not in 1..=16")
     options_are_refused(tester, "--shards=0", why=b"0 is not in 1..=64")
@@ -300,7 +300,7 @@ def reasons_of_options(tester: Tester) -> None:
     options_are_refused(tester, "--live=1", "--faults=end", "--faults=end", why=b"'--faults <HOW>'")
 
 
-def odd_words(tester: Tester) -> None:
+def odd_words(tester: AuctionTester) -> None:
     """words that are no option"""
     for word in ("--worker=2", "workers", "--history=1", "-", "-x", "--=4", "", b"\xff", b"--workers=\xff"):
         options_are_refused(tester, word)
@@ -310,7 +310,7 @@ def odd_words(tester: Tester) -> None:
     tester.same("no environment", tester.run(tester.example, env={}), Outcome(0, tester.replies, b""))
 
 
-def help_and_version(tester: Tester) -> None:
+def help_and_version(tester: AuctionTester) -> None:
     """help, as docs/FORMATS.md shows it, with each option's limits and what it is without words, its examples, and the version"""
     said = helps.help_and_version(tester.tally, tester.program, "rubis_auction", "FORMATS.md")
     numbers = {option: (int(least), int(most), int(usual)) for option, least, most, usual in helps.NUMBER.findall(said)}
@@ -323,7 +323,7 @@ def help_and_version(tester: Tester) -> None:
     helps.examples(tester.tally, said, "rubis_auction", tester.folder, {"rubis_auction": tester.program})
 
 
-def names(tester: Tester) -> None:
+def names(tester: AuctionTester) -> None:
     """names of 0 to 33 bytes"""
     for name in (*(b"~" * length for length in range(34)), b" ", b" a ", b'"a,b"', b'","', b'""""', b'""""""', b'"' + b'""' * 32 + b'"', b'"' + b'""' * 33 + b'"'):
         item = b"0,item,0,0,%s,10,100,1\n0,viewitem,0.0\n" % name
@@ -331,7 +331,7 @@ def names(tester: Tester) -> None:
             tester.as_model(f"name {name!r}", item, replace(FEW, rows=rows))
 
 
-def lists_of_ten(tester: Tester) -> None:
+def lists_of_ten(tester: AuctionTester) -> None:
     """9 to 12 bids on an item, and items of a category"""
     for length in range(9, 13):
         items = b"".join(b"0,item,0,0,Vase,1,100,%d\n" % (item * 7 % 11) for item in range(length))
@@ -339,7 +339,7 @@ def lists_of_ten(tester: Tester) -> None:
         tester.as_model(f"{length} of each", items + bids + b"0,viewbids,0.0\n0,viewitem,0.0\n0,viewcategory,0\n")
 
 
-def hot_objects(tester: Tester) -> None:
+def hot_objects(tester: AuctionTester) -> None:
     """more objects that are hot enough than may be hot"""
     rows = b"".join(b"0,+item,0,0,Vase%d,1,100,%d\n" % (item, item) for item in range(70))
     bids = b"".join(b"0,bid,0,0.%d,%d,5\n" % (item, bid + 1) for item in range(70) for bid in range(1 + item % 3))
@@ -364,7 +364,7 @@ EACH_KIND = (
 OF_EACH_WORKER = 6_250
 
 
-def replies_in_order(tester: Tester) -> None:
+def replies_in_order(tester: AuctionTester) -> None:
     """replies of 16 workers stand in order, though views of what is hot wait, and so do purchases"""
     data = b"".join(b"%d,%s\n" % (worker, EACH_KIND[index % 8]) for index in range(OF_EACH_WORKER) for worker in range(16))
     got = tester.run(data, Options(workers=16, threshold=1, users=10, categories=2))
@@ -374,7 +374,7 @@ def replies_in_order(tester: Tester) -> None:
     tester.tally.check(right and len(lines) == 16 * OF_EACH_WORKER, "requests of all kinds: the order of their replies")
 
 
-def few_shards(tester: Tester) -> None:
+def few_shards(tester: AuctionTester) -> None:
     """16 workers who bid on three items in threads, of which nothing is hot: commits that share a shard have different numbers"""
     bids = b"".join(b"%d,bid,%d,0.%d,10,7\n" % (worker, worker, turn % 3) for worker in range(16) for turn in range(900))
     first = VASE * 3 + b"".join(b"%d,viewuser,0\n" % worker * 3 for worker in range(1, 16))
@@ -389,7 +389,7 @@ def few_shards(tester: Tester) -> None:
         tester.tally.check(lines[item - 3].endswith(seen), f"item {item}: what is seen of its bids")
 
 
-def one_hot_item(tester: Tester) -> None:
+def one_hot_item(tester: AuctionTester) -> None:
     """16 workers who bid on one hot item in threads: each counts its own commits"""
     first = VASE + b"0,bid,0,0.0,10,7\n" + b"".join(b"%d,viewuser,0\n" % worker * 2 for worker in range(1, 16))
     bids = b"".join(b"%d,bid,%d,0.0,10,7\n" % (worker, worker) * 1_000 for worker in range(16))
@@ -406,7 +406,7 @@ def one_hot_item(tester: Tester) -> None:
     tester.tally.check(last == seen, "16,000 bids on a hot item: all of them")
 
 
-def sixty_four_hot_objects(tester: Tester) -> None:
+def sixty_four_hot_objects(tester: AuctionTester) -> None:
     """two workers bid on 63 hot items of a hot category"""
     items = [b"0.%d" % serial for serial in range(63)]
     bids = [b"%d,bid,%d,%s,%d,1\n" % (worker, bidder, item, amount) for worker, bidder, amount in ((0, 0, 10), (0, 1, 20), (1, 2, 15)) for item in items]
@@ -427,7 +427,7 @@ TOO_LONG = fault(3, "more than 1000000 requests for a worker")
 MOST_BYTES = 10**9
 
 
-def requests_of_a_worker(tester: Tester) -> None:
+def requests_of_a_worker(tester: AuctionTester) -> None:
     """1,000,000 rows and requests of a worker, and one more"""
     row, bad = b"0,+item,0,0,Vase,10,100,1\n", b"0,+bid,0,7.7,1,1\n"
     fits = tester.run_large([row, VIEW * (MILLION - 1)])
@@ -442,7 +442,7 @@ def requests_of_a_worker(tester: Tester) -> None:
     tester.same("a refused row, and too many requests with it", tester.run_large([bad, VIEW * MILLION]), fault(3, "row 1: refused"))
 
 
-def million_categories(tester: Tester) -> None:
+def million_categories(tester: AuctionTester) -> None:
     """a report of 1,000,000 categories and users"""
     options = Options(users=MILLION, categories=MILLION, rows=True, report=True)
     data = b"0,+item,999999,999999,Vase,10,100,1\n0,+comment,0,999999,0.0,-5\n"
@@ -450,7 +450,7 @@ def million_categories(tester: Tester) -> None:
     tester.same("1,000,000 categories", tester.run(data, options), wanted)
 
 
-def records_of_an_input(tester: Tester) -> None:
+def records_of_an_input(tester: AuctionTester) -> None:
     """16,000,000 records, and one more"""
     if shutil.disk_usage(tester.folder).free < MOST_BYTES:
         return tester.tally.skip(records_of_an_input.__doc__, "there is too little room for temporary files")

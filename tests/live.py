@@ -16,14 +16,14 @@ import signal
 import socket
 import subprocess
 import sys
-import tempfile
 import threading
 import time
+from argparse import Namespace
 from contextlib import contextmanager, suppress
 from pathlib import Path
 from typing import Callable, Iterator
 
-from lib.checks import Tester, tell_of
+from lib.checks import AuctionTester, make_all
 from lib.model import Outcome
 from lib.program import BUILT, EXAMPLES, Tally, built, described, executable, in_little_memory, is_asleep, parser_of, run, run_typed
 from lib.sessions import FIRST, ITEMS, PLAIN, SECONDS, Auction, Era, Refused, fault_of, in_use, requests, rows_of, wait_until
@@ -47,10 +47,18 @@ FAULTY = (
 LINE_ENDS = ("\n", "\r\n", "\n\n", "\r\n\r\n")
 
 
+class LiveTester(AuctionTester):
+    """Also knows how often the program is to be killed, and by which seed."""
+
+    def __init__(self, asked: Namespace, folder: Path, tally: Tally):
+        super().__init__(asked, folder, tally)
+        self.kills, self.seed = asked.kills, asked.seed
+
+
 # While the input is open.
 
 
-def line_ends(tester: Tester) -> None:
+def line_ends(tester: LiveTester) -> None:
     """replies before the input ends, for each end of a line, blank lines, and a line and a half"""
     for end, words in itertools.product(LINE_ENDS, ((), ENDS)):
         auction = Auction(tester.program, *words, most=10)
@@ -64,7 +72,7 @@ def line_ends(tester: Tester) -> None:
         tester.tally.check(auction.reply() == ((0, 4), SEEN) and auction.process.wait() == 0, f"the reply to a last line without an end, {end!r}")
 
 
-def terminals(tester: Tester) -> None:
+def terminals(tester: LiveTester) -> None:
     """an input from a terminal: one Ctrl-D at the start of a line ends it, and two behind half a line"""
     for words in ((), ("--live", "1"), ("--live", "1", *ENDS)):
         for typed in (b"0,viewuser,0\n\x04", b"0,viewuser,0\x04\x04"):
@@ -72,7 +80,7 @@ def terminals(tester: Tester) -> None:
             tester.tally.same(f"{typed!r} on a terminal, {words}", got, Outcome(0, f"0,0,{SEEN}\n".encode(), b""))
 
 
-def clients(tester: Tester) -> None:
+def clients(tester: LiveTester) -> None:
     """the client of examples/ by itself, one request and many by several workers, a line with a fault, and one that ends the program"""
     got = run([sys.executable, "-B", EXAMPLES / "client.py", tester.program])
     seen = "viewitem seller=0 category=0 start=10 closes=100 highest=700 bidder=2 bids=2 left=1 name=Vase"
@@ -92,7 +100,7 @@ def clients(tester: Tester) -> None:
     tester.tally.check(auction.process.returncode == 2, "the status of a record with a fault")
 
 
-def faulty_lines(tester: Tester) -> None:
+def faulty_lines(tester: LiveTester) -> None:
     """a line with a fault between requests: answered in its place, or told on standard error if it names no worker, or none asks for replies; with --faults end it ends the input"""
     for line, words, is_named in FAULTY:
         data = f"0,viewuser,0\n{line}\n0,viewuser,0\n".encode()
@@ -111,7 +119,7 @@ def faulty_lines(tester: Tester) -> None:
             tester.tally.check((got.status, got.stdout.decode(), got.stderr.decode()) == (2, first, told), f"{line[:40]!r} with {ends}: {described(got)}")
 
 
-def ends_without_live(tester: Tester) -> None:
+def ends_without_live(tester: LiveTester) -> None:
     """--faults end without --live changes nothing: a line with a fault ends the input anyway"""
     for data in (b"", b"0,viewuser,0\n", b"0,viewuser,0\n0,bid\n0,viewuser,0\n"):
         for words in ((), ("--live", "0"), ("--log", str(tester.folder / "unended"))):
@@ -119,7 +127,7 @@ def ends_without_live(tester: Tester) -> None:
             tester.tally.check(got == wanted and got.status == (2 if b"bid" in data else 0), f"{data!r}, {words}: {described(got)}")
 
 
-def faulty_rows(tester: Tester) -> None:
+def faulty_rows(tester: LiveTester) -> None:
     """lines with a fault among the rows, and before anything else: the rows behind them open the auction, and the log has each once"""
     log = tester.folder / "faulty"
     data = b"0,bid\n0,+item,0,0,Vase,10,100,1\n0,+bid,1,0.0,x,5\n0,+bid,1,0.0,50,5\n1,viewuser,0\n0,viewbids,0.0\n0,+bid,1,0.0,60,5\n0,bid,2,0.0,70,6\n"
@@ -130,7 +138,7 @@ def faulty_rows(tester: Tester) -> None:
     tester.tally.check(log.read_bytes() == wanted, f"the log after faults among rows: {log.read_bytes()!r}")
 
 
-def answered_faults(tester: Tester) -> None:
+def answered_faults(tester: LiveTester) -> None:
     """lines with a fault anywhere among rows and requests: each is answered where it stands, and changes no reply"""
     for seed in range(40):
         draw = random.Random(seed)
@@ -151,7 +159,7 @@ def answered_faults(tester: Tester) -> None:
             tester.tally.check(got.status == 0 and got.stdout.decode().splitlines() == wanted, f"seed {seed}, --live {most}: {described(got)}")
 
 
-def open_quotes(tester: Tester) -> None:
+def open_quotes(tester: LiveTester) -> None:
     """lines with quotes, and then one with a quote that stays open: each is answered before more comes"""
     auction = Auction(tester.program, most=1000)
     auction.write('"0",viewuser,0\n0,viewuser,1\n0,item,0,0,"a\n')
@@ -162,7 +170,7 @@ def open_quotes(tester: Tester) -> None:
     auction.close()
 
 
-def other_workers(tester: Tester) -> None:
+def other_workers(tester: LiveTester) -> None:
     """lines of one worker with an open quote, with a record of the other behind a carriage return, and of no kind: faults of that worker alone, and the other's requests keep their replies and places"""
     data = b'0,item,0,0,Vase,10,100,1\n1,item,0,0,"\n1,viewuser,0\r0,bid,5,0.0,999,1\n1,nonsense\n0,bid,1,0.0,20,5\n1,viewuser,0\n0,viewbids,0.0\n'
     faults = (f"1,0,fault record {at}: {words}" for at, words in ((2, "wrong number of fields"), (3, "wrong number of fields"), (4, "unknown kind")))
@@ -172,7 +180,7 @@ def other_workers(tester: Tester) -> None:
         tester.tally.check((got.status, got.stdout.decode().splitlines(), got.stderr) == (0, first + last, b""), f"two workers, --live {most}: {described(got)}")
 
 
-def endless_lines(tester: Tester) -> None:
+def endless_lines(tester: LiveTester) -> None:
     """lines of 70 MB in little memory: a fault, and the request behind each is answered"""
     for byte in (b",", b'"'):
         given = tester.folder / "endless"
@@ -183,7 +191,7 @@ def endless_lines(tester: Tester) -> None:
         tester.tally.check((got.status, got.stdout.decode(), got.stderr) == (0, wanted, b""), f"a line of {byte!r}: {described(got)}")
 
 
-def signals(tester: Tester) -> None:
+def signals(tester: LiveTester) -> None:
     """signals that end no program, among them one that stops it, while it reads, replies and logs: all is answered and logged"""
     log = tester.folder / "signalled"
     auction = Auction(tester.program, *PLAIN, "--log", str(log), most=100)
@@ -209,7 +217,7 @@ def send_each(process: subprocess.Popen, all_signals: tuple, ended: threading.Ev
         time.sleep(0.0005)
 
 
-def sockets(tester: Tester) -> None:
+def sockets(tester: LiveTester) -> None:
     """one client at a time behind socat: each goes on from the log, and a second one meanwhile has no reply"""
     if shutil.which("socat") is None:
         return tester.tally.skip(sockets.__doc__, "socat is not installed")
@@ -245,7 +253,7 @@ def connected(place: Path) -> Iterator[Callable[[str], str]]:
         replies.close()
 
 
-def unread_replies(tester: Tester) -> None:
+def unread_replies(tester: LiveTester) -> None:
     """a client that reads no replies: the program takes more requests than the pipe holds, a thousand at least, and waits; once they are read, all that was sent is answered"""
     process, request = Auction(tester.program).process, b'0,item,0,0,"%s",10,1900000000000,1\n' % (b"x" * 31)
     pipe, left = process.stdin.fileno(), request * 100_000
@@ -267,7 +275,7 @@ def gets_room(process: subprocess.Popen, pipe: int) -> bool:
     return True
 
 
-def short_parts(tester: Tester) -> None:
+def short_parts(tester: LiveTester) -> None:
     """views of what a long part makes hot are deferred, and in parts that are not longer than the joined phase they are not"""
     data = FIRST[0], *(request for number in range(200) for request in (f"bid,1,0.0,{500 + number},5", "viewitem,0.0"))
     for most, is_deferred in ((10, False), (1000, True)):
@@ -276,7 +284,7 @@ def short_parts(tester: Tester) -> None:
         tester.tally.check(sorted(indexes) == [*range(len(data))] and (indexes != sorted(indexes)) == is_deferred, f"parts of {most}: {indexes[60:80]}")
 
 
-def no_report(tester: Tester) -> None:
+def no_report(tester: LiveTester) -> None:
     """no report with --live or --log"""
     for words in (("--live", "1"), ("--log", str(tester.folder / "unmade"))):
         got = run([tester.program, "--report", *words], b"0,viewuser,0\n")
@@ -286,7 +294,7 @@ def no_report(tester: Tester) -> None:
 # Parts change nothing.
 
 
-def same_bytes(tester: Tester) -> None:
+def same_bytes(tester: LiveTester) -> None:
     """replies, rows and history of parts of 1, 7 and 1,000,000 requests, with odd line ends, views and refusals, and with a fault in the middle"""
     for seed in range(60):
         draw = random.Random(seed)
@@ -309,7 +317,7 @@ def printed(text: bytes, how: tuple) -> list[bytes]:
     return [line.split(b" ", 2)[2] if how == ("--history",) else line for line in text.splitlines()]
 
 
-def histories(tester: Tester) -> None:
+def histories(tester: LiveTester) -> None:
     """histories of 1 to 4 workers in parts, some after the rows of a log, which the referee accepts, in session order too"""
     referee = built("rubis_check")
     if not referee.exists():
@@ -333,7 +341,7 @@ def histories(tester: Tester) -> None:
 # Kills.
 
 
-def kills(tester: Tester) -> None:
+def kills(tester: LiveTester) -> None:
     """a program under load that is killed at random moments and started again"""
     draw, era = random.Random(tester.seed), None
     for number in range(tester.kills):
@@ -352,16 +360,7 @@ def main() -> None:
     words.add_argument("program", nargs="?", type=executable, default=str(BUILT))
     words.add_argument("--kills", type=int, default=12)
     words.add_argument("--seed", type=int, default=1)
-    words.add_argument("--only", choices=[check.__name__ for check in CHECKS], help="only this check")
-    options = words.parse_args()
-    tally = Tally()
-    with tempfile.TemporaryDirectory() as folder:
-        tester = Tester(options.program, Path(folder), tally)
-        tester.kills, tester.seed = options.kills, options.seed
-        for check in CHECKS:
-            if options.only in (None, check.__name__):
-                tell_of(check, tester)
-    tally.finish()
+    make_all(words, CHECKS, LiveTester)
 
 
 if __name__ == "__main__":

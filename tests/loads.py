@@ -1,7 +1,7 @@
 #!/usr/bin/env python3
 """Shows that the built generator writes the loads of docs/LOADS.md, and that the auction takes them.
 
-    tests/loads.py [--generator PROGRAM] [--auction PROGRAM]
+    tests/loads.py [--generator PROGRAM] [--auction PROGRAM] [--only CHECK]
 
 Random loads are compared byte by byte with those of a model. Of larger ones the shares of the kinds of requests, and how often items, users and
 categories are named, lie within five standard deviations of what the options and Zipf's law say, which is computed here in floating point.
@@ -11,12 +11,13 @@ import functools
 import os
 import random
 import resource
-import tempfile
+from argparse import Namespace
 from collections import Counter
 from dataclasses import replace
 from pathlib import Path
 
 from lib import helps
+from lib.checks import Tester, make_all
 from lib.load_model import Plan, load_of
 from lib.model import Book, Entry, Options, Outcome, Run, choose_hot, is_put_off, is_split, open_auction, quota, report_text
 from lib.program import EXAMPLES, Tally, build_shim, built, described, executable, parser_of, run
@@ -31,9 +32,12 @@ SKEWED = Plan(requests=240, workers=4, items=12, users=6, categories=3, skew=150
 SKEWED_OPTIONS = Options(workers=4, joined=8, split=24, threshold=3, users=6, categories=3, report=True)
 
 
-class Tester:
-    def __init__(self, generator: Path, auction: Path, folder: Path, tally: Tally):
-        self.generator, self.auction, self.folder, self.tally = generator, auction, folder, tally
+class GeneratorTester(Tester):
+    """Runs the generator, and compares what loads have with what they should have."""
+
+    def __init__(self, asked: Namespace, folder: Path, tally: Tally):
+        super().__init__(folder, tally)
+        self.generator, self.auction = asked.generator, asked.auction
 
     def load(self, plan: Plan) -> bytes:
         got = run([self.generator, *plan.words()])
@@ -56,7 +60,7 @@ class Tester:
         self.tally.check(abs(square - kinds) <= 5 * (2 * kinds) ** 0.5, f"{what}: {square:.0f} where {kinds} is expected")
 
 
-def same_bytes(tester: Tester) -> None:
+def same_bytes(tester: GeneratorTester) -> None:
     """loads beside the model"""
     rng = random.Random(11)
     for plan in [Plan(), *(random_plan(rng) for _ in range(PLANS))]:
@@ -86,7 +90,7 @@ def random_plan(rng: random.Random) -> Plan:
     )
 
 
-def shares(tester: Tester) -> None:
+def shares(tester: GeneratorTester) -> None:
     """shares of the kinds of requests"""
     for plan in (Plan(requests=DRAWN), Plan(requests=DRAWN, workers=3, views=10, comments=25, purchases=30, new_items=15, seed=9)):
         kinds = Counter(fields[1] for fields in tester.requests(plan))
@@ -97,7 +101,7 @@ def shares(tester: Tester) -> None:
             tester.near(f"{kind} of {plan}", kinds[kind], DRAWN, percent / 100)
 
 
-def skews(tester: Tester) -> None:
+def skews(tester: GeneratorTester) -> None:
     """Zipf's law of items, at exponents from 0 to 2"""
     for skew in (0, 50, 99, 100, 150, 200):
         plan = replace(BIDS, requests=DRAWN, workers=4, items=1000, skew=skew)
@@ -110,7 +114,7 @@ def skews(tester: Tester) -> None:
             tester.alike("items without skew", named, plan.items)
 
 
-def named_alike(tester: Tester) -> None:
+def named_alike(tester: GeneratorTester) -> None:
     """users, categories, stars, start prices and amounts"""
     bids = tester.requests(replace(BIDS, requests=DRAWN, users=500))
     tester.alike("bidders", Counter(fields[2] for fields in bids), 500)
@@ -123,7 +127,7 @@ def named_alike(tester: Tester) -> None:
         tester.alike(what, Counter(fields[place] for fields in items), kinds)
 
 
-def taken(tester: Tester) -> None:
+def taken(tester: GeneratorTester) -> None:
     """the auction takes loads, and refuses none of their requests"""
     for workers, skew in ((1, 0), (2, 200), (4, 99), (16, 150)):
         plan = Plan(requests=20_000, workers=workers, items=200, skew=skew, views=40, comments=15, purchases=10, new_items=10)
@@ -134,7 +138,7 @@ def taken(tester: Tester) -> None:
         tester.tally.check(whole, f"{plan}: status {got.status}, {kinds}")
 
 
-def example(tester: Tester) -> None:
+def example(tester: GeneratorTester) -> None:
     """the skewed example and its report"""
     load = (EXAMPLES / "skewed.csv").read_bytes()
     tester.tally.check(load == load_of(SKEWED), "examples/skewed.csv: not the model's load")
@@ -167,7 +171,7 @@ def run_in_turn(book: Book, scripts: list[list]) -> Run:
     return done
 
 
-def help_and_version(tester: Tester) -> None:
+def help_and_version(tester: GeneratorTester) -> None:
     """help, as docs/LOADS.md shows it, and the version"""
     said = helps.help_and_version(tester.tally, tester.generator, "rubis_load", "LOADS.md")
     usual = {f"--{option}={usual}" for option, _, _, usual in helps.NUMBER.findall(said)}
@@ -175,7 +179,7 @@ def help_and_version(tester: Tester) -> None:
     helps.examples(tester.tally, said, "rubis_load", tester.folder, {"rubis_load": tester.generator})
 
 
-def refused_words(tester: Tester) -> None:
+def refused_words(tester: GeneratorTester) -> None:
     """words that are refused, and the longest load"""
     for words in (
         "--requests=16000001", "--workers=0", "--workers=17", "--items=0", "--items=1000001", "--users=0", "--categories=1000001", "--skew=201",
@@ -199,7 +203,7 @@ def refused_words(tester: Tester) -> None:
     tester.tally.check(longest.status == 0 and longest.stdout.count(b"\n") == 1_000_000, "the longest load of a worker")
 
 
-def refused_output(tester: Tester) -> None:
+def refused_output(tester: GeneratorTester) -> None:
     """output that cannot be written"""
     load, words = load_of(SKEWED), [tester.generator, *SKEWED.words()]
     unwritten = Outcome(4, b"", b"rubis_load: output cannot be written\n")
@@ -216,7 +220,7 @@ def refused_output(tester: Tester) -> None:
         tester.tally.check(written == load[:size], f"a file of at most {size} bytes has {len(written)}")
 
 
-def refused_memory(tester: Tester) -> None:
+def refused_memory(tester: GeneratorTester) -> None:
     """each allocation refused in turn, alone and with all after it"""
     shim = build_shim("refused_memory", tester.folder)
     if shim is None:
@@ -234,19 +238,25 @@ def refused_memory(tester: Tester) -> None:
     tester.tally.check(statuses == {0, 1, 3, 4}, f"statuses {statuses} where memory is refused")
 
 
+CHECKS = (
+    same_bytes,
+    shares,
+    skews,
+    named_alike,
+    taken,
+    example,
+    help_and_version,
+    refused_words,
+    refused_output,
+    refused_memory,
+)
+
+
 def main() -> None:
-    parser = parser_of(__doc__)
-    parser.add_argument("--generator", type=executable, default=str(built("rubis_load")))
-    parser.add_argument("--auction", type=executable, default=str(built("rubis_auction")))
-    asked = parser.parse_args()
-    tally = Tally()
-    with tempfile.TemporaryDirectory() as folder:
-        tester = Tester(asked.generator, asked.auction, Path(folder), tally)
-        for part in (same_bytes, shares, skews, named_alike, taken, example, help_and_version, refused_words, refused_output, refused_memory):
-            before = tally.passed
-            part(tester)
-            print(f"{tally.passed - before:6} checks: {part.__doc__}", flush=True)
-    tally.finish()
+    words = parser_of(__doc__)
+    words.add_argument("--generator", type=executable, default=str(built("rubis_load")))
+    words.add_argument("--auction", type=executable, default=str(built("rubis_auction")))
+    make_all(words, CHECKS, GeneratorTester)
 
 
 if __name__ == "__main__":

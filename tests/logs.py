@@ -19,7 +19,7 @@ from functools import partial
 from pathlib import Path
 from typing import Iterable
 
-from lib.checks import Tester, main, with_shim
+from lib.checks import AuctionTester, main, with_shim
 from lib.model import Options, Outcome, expected
 from lib.program import NOBODY, become_nobody, build_shim, described, run
 from lib.refusing import UNREACHED_IN_A_ROW, Refusing
@@ -43,7 +43,7 @@ CHANGED = "changed, moved or removed by another program"
 # How it is opened.
 
 
-def locked_log(tester: Tester) -> None:
+def locked_log(tester: AuctionTester) -> None:
     """a log that another program has"""
     log = tester.folder / "locked"
     first = Auction(tester.program, "--log", str(log))
@@ -56,7 +56,7 @@ def locked_log(tester: Tester) -> None:
 
 
 @with_shim
-def without_locks(tester: Tester) -> None:
+def without_locks(tester: AuctionTester) -> None:
     """a log where the file system has no locks: a fault that says so, and the log is as it was"""
     log = tester.folder / "unlocked"
     log.write_bytes(rows_of(FIRST) + b"0,+bi")
@@ -65,7 +65,7 @@ def without_locks(tester: Tester) -> None:
     tester.tally.check(refused == told_of(log, "cannot be locked", errno.ENOLCK) and log.read_bytes() == text, f"a log without locks: {refused}")
 
 
-def forbidden_logs(tester: Tester) -> None:
+def forbidden_logs(tester: AuctionTester) -> None:
     """a log, also by a link, that this user may not read or write, or whose own folder he may not read: a fault, and the log is as it was; a folder that he may only read"""
     program = shutil.copy(tester.program, tester.folder / "program")
     folder, rows = tester.folder / "forbidden", rows_of(FIRST)
@@ -94,7 +94,7 @@ def forbidden_logs(tester: Tester) -> None:
     tester.tally.check(refused is None, f"a link in a folder that he may not read: {refused}")
 
 
-def append_only_logs(tester: Tester) -> None:
+def append_only_logs(tester: AuctionTester) -> None:
     """a log that can be added to but not cut (`chattr +a`), with a cut row and without: a fault, and the log is as it was"""
     log = tester.folder / "append-only"
     for tail in (b"", b"0,+bi"):
@@ -109,7 +109,7 @@ def append_only_logs(tester: Tester) -> None:
         tester.tally.check(refused == told_of(log, UNWRITTEN, errno.EPERM) and log.read_bytes() == text, f"a log that can only be added to, with {tail!r} behind its rows: {refused}")
 
 
-def cut_logs(tester: Tester) -> None:
+def cut_logs(tester: AuctionTester) -> None:
     """a log that is cut at each byte of its last part: its whole lines are read, and the rest is cut off, kept beside it and told"""
     log, kept_off = tester.folder / "cut", tester.folder / "cut.cut"
     auction = Auction(tester.program, "--log", str(log), *PLAIN)
@@ -130,7 +130,7 @@ def cut_logs(tester: Tester) -> None:
     tester.tally.check(kept_off.read_bytes() == all_kept_off, "what was cut off is kept, a line for each cut")
 
 
-def foreign_files(tester: Tester) -> None:
+def foreign_files(tester: AuctionTester) -> None:
     """a file that is no log, and a log with an end that no crash leaves: a fault that names file and line, and each byte is as it was"""
     file, rows = tester.folder / "foreign", rows_of(FIRST)
     last, tail, long = rows.count(b"\n"), "no line end, and not the beginning of a row", "longer than a row"
@@ -158,7 +158,7 @@ def foreign_files(tester: Tester) -> None:
         tester.tally.check(right and file.read_bytes() == text and not file.with_name("foreign.cut").exists(), f"{text[:40]!r} as a log: {refused}, {described(garbage)}")
 
 
-def repaired_logs(tester: Tester) -> None:
+def repaired_logs(tester: AuctionTester) -> None:
     """a log with NUL bytes at its end, in its last row or before more lines: refused, and accepted once it is repaired as docs/SERVING.md says"""
     log, rows = tester.folder / "repaired", rows_of(FIRST)
     for end in (bytes(5000), b"0,+bid,1,0.0,5" + bytes(2), bytes(20) + rows, b"0,+bid,1" + bytes(3) + b"0.0,5\n" + rows):
@@ -170,7 +170,7 @@ def repaired_logs(tester: Tester) -> None:
         tester.tally.check(fault_of(tester.program, log) is None and log.read_bytes() == rows, f"a repaired log, {end[:20]!r}")
 
 
-def special_files(tester: Tester) -> None:
+def special_files(tester: AuctionTester) -> None:
     """a pipe, a device or a folder as a log: a fault at once; a cut row that cannot be kept: a fault, and the log is as it was"""
     pipe, log = tester.folder / "pipe", tester.folder / "uncut"
     os.mkfifo(pipe)
@@ -189,7 +189,7 @@ def special_files(tester: Tester) -> None:
     tester.tally.check(fault_of(tester.program, link) is None and (far / "log").read_bytes() == b"", "a link to a log that is missing")
 
 
-def closed_places(tester: Tester) -> None:
+def closed_places(tester: AuctionTester) -> None:
     """standard input, output or error closed: the log has the rows and what was asked for, and nothing else, and the next start accepts it"""
     rows, row, log = rows_of(FIRST), b"0,+bid,1,0.0,20,5\n", tester.folder / "places"
     replies = f"0,0,bid 0.0\n0,1,{SEEN}\n".encode()
@@ -202,7 +202,7 @@ def closed_places(tester: Tester) -> None:
         tester.tally.check(right and fault_of(tester.program, log) is None, f"with {closed}: {described(got)}, {log.read_bytes()[len(rows):]!r}")
 
 
-def bad_logs(tester: Tester) -> None:
+def bad_logs(tester: AuctionTester) -> None:
     """a log with a line that is no row, or a row that is refused: a fault that names file, place and reason, and the file is as it was"""
     log, good = tester.folder / "bad", rows_of(FIRST).decode()
     for line, words in (("0,+bid,no row", "record 9: wrong number of fields"), ("0,+bid,1,0.0,x,1", "record 9: not a number"), ("7,+comment,1,2,0.0,1", "record 9: no such worker"),
@@ -214,7 +214,7 @@ def bad_logs(tester: Tester) -> None:
             tester.tally.check(refused == told_of(log, words) and log.read_bytes() == text, f"a log with {line!r} and {rest!r}: {refused}")
 
 
-def read_back(tester: Tester) -> None:
+def read_back(tester: AuctionTester) -> None:
     """a log is a script of rows: it is what `--rows` prints of its replies' requests, before and after a second session"""
     log = tester.folder / "rows"
     sent = []
@@ -231,7 +231,7 @@ def read_back(tester: Tester) -> None:
     tester.tally.check(got.stdout == log.read_bytes(), "a log is read as input, and printed again")
 
 
-def quick_starts(tester: Tester) -> None:
+def quick_starts(tester: AuctionTester) -> None:
     """a start right after a kill: it goes on from the log if the killed program was waited for; if not, the log may be in use for a moment"""
     log = tester.folder / "quick"
     for number in range(100):
@@ -252,7 +252,7 @@ def quick_starts(tester: Tester) -> None:
 
 
 @with_shim
-def failing_logs(tester: Tester) -> None:
+def failing_logs(tester: AuctionTester) -> None:
     """a write, a sync, or one of them and its cut of the log that fails, at each place: the fault with the system's words, no reply of that part, and nothing answered is lost"""
     causes = {
         "write": (UNWRITTEN, errno.ENOSPC, "LOG_WRITE_FAILS"),
@@ -274,7 +274,7 @@ def failing_logs(tester: Tester) -> None:
 
 
 @with_shim
-def interrupted_logs(tester: Tester) -> None:
+def interrupted_logs(tester: AuctionTester) -> None:
     """reads, writes, syncs and cuts that a signal interrupts, each second, third or seventh: they are tried again, and all is answered and logged"""
     for every in (2, 3, 7):
         log = tester.folder / f"interrupted-{every}"
@@ -285,7 +285,7 @@ def interrupted_logs(tester: Tester) -> None:
         tester.tally.check(log.read_bytes() == rows_of([*FIRST, *(f"comment,{at},{at},0.0,1" for at in range(40))]), f"the log, each {every}th call interrupted")
 
 
-def changed_logs(tester: Tester) -> None:
+def changed_logs(tester: AuctionTester) -> None:
     """a log that another program cuts or adds to while it is in use: the next row is a fault, and the file is left as it is"""
     rows = rows_of(FIRST)
     foreign = b"0,+comment,5,6,0.0,1\n"
@@ -326,7 +326,7 @@ def turned(log: Path, other: Path) -> None:
     log.symlink_to(other)
 
 
-def moved_logs(tester: Tester) -> None:
+def moved_logs(tester: AuctionTester) -> None:
     """a log that is moved, removed or replaced, or whose link is turned, while it is in use: the next row is a fault, and no file has it; a link to the log in its place, or another name of it, changes nothing"""
     row = "comment,1,2,0.0,1"
     for number, (what, move, words, why) in enumerate((
@@ -374,7 +374,7 @@ def until_refused(auction: Auction, asked: Iterable[str]) -> tuple[list[str], tu
     return answered, None
 
 
-def lost_nothing(tester: Tester, what: str, log: Path, answered: list[str], at_most: int) -> None:
+def lost_nothing(tester: AuctionTester, what: str, log: Path, answered: list[str], at_most: int) -> None:
     """The log's whole lines are the rows of the replies, or some more, and a later run goes on from them."""
     rows = whole_lines(log).count(b"\n")
     tester.tally.check(len(answered) <= rows <= at_most, f"{what}: {len(answered)} answered, {rows} rows kept")
@@ -384,7 +384,7 @@ def lost_nothing(tester: Tester, what: str, log: Path, answered: list[str], at_m
     auction.close()
 
 
-def full_disks(tester: Tester) -> None:
+def full_disks(tester: AuctionTester) -> None:
     """a log that may have k bytes, and one on a small disk that is full"""
     asked = [FIRST[0], *(f"comment,{at},{at},0.0,1" for at in range(99))]
     for size in range(0, 200, 7):
@@ -415,7 +415,7 @@ def limited_to(size: int) -> None:
     resource.setrlimit(resource.RLIMIT_FSIZE, (size, size))
 
 
-def refused_memory(tester: Tester) -> None:
+def refused_memory(tester: AuctionTester) -> None:
     """no memory at each place, once and from then on: a fault, the replies of whole parts, and a log that has their rows"""
     shim = build_shim("refused_memory", tester.folder)
     if shim is None:
@@ -444,7 +444,7 @@ def is_front(got: Outcome, whole: Outcome, log: bytes, rows: bytes) -> bool:
     return ended and told and rows.startswith(log) and logged <= log.count(b"\n") <= logged + 2
 
 
-def refused_memory_of_a_cut_row(tester: Tester) -> None:
+def refused_memory_of_a_cut_row(tester: AuctionTester) -> None:
     """no memory at each place, once and from then on, while a cut row is taken off a log: a fault that says so, and the row is in the log or beside it"""
     shim = build_shim("refused_memory", tester.folder)
     if shim is None:

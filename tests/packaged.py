@@ -232,9 +232,7 @@ def main() -> None:
     with tempfile.TemporaryDirectory() as folder:
         clone = Clone(Path(folder) / "clone")
         for check in (make_archive, files, programs, same_bytes, manifests, logs, states):
-            passed = tally.passed
-            check(tally, clone)
-            print(f"{tally.passed - passed:6} passed: {check.__doc__}", flush=True)
+            tally.tell(check, tally, clone)
     tally.finish()
 
 

@@ -279,9 +279,7 @@ def main() -> None:
     checks = ((closing_views, (program, rng)), (histories, (program, checker, rng)), (broken_connections, (program, checker, rng)), (last_pieces, (checker,)))
     with Server(tools()) as server:
         for check, given in checks:
-            passed = tally.passed
-            check(server, *given, tally)
-            print(f"{tally.passed - passed:6} passed: {check.__doc__}", flush=True)
+            tally.tell(check, server, *given, tally)
     tally.finish()
 
 

@@ -20,8 +20,7 @@ from pathlib import Path
 from types import SimpleNamespace
 from typing import Callable
 
-from lib.checks import Tester, tell_of
-from lib.fronts import ENDS, UNKNOWN, WORKERS, Front, load
+from lib.fronts import ENDS, UNKNOWN, WORKERS, Front, FrontTester, load
 from lib.program import BUILT, EXAMPLES, Tally, built, executable, parser_of, run, servers_folder
 from lib.sessions import SECONDS, wait_until
 from lib.watched import PIPELINE, Outcome, Watcher, against_time, judge, judged_by_itself, mix, whole_lines
@@ -133,7 +132,7 @@ class Cluster:
 
     is_over = threading.Event()
 
-    def __init__(self, tester: Tester, network: Network):
+    def __init__(self, tester: FrontTester, network: Network):
         self.tester, self.network, self.folder = tester, network, tester.folder / "machines"
         self.audit = self.folder / "audit"
         self.folder.mkdir()
@@ -339,7 +338,7 @@ def keeps_rows(cluster: Cluster) -> None:
     cluster.etcdctl("del", "leader")
 
 
-def failures(tester: Tester) -> None:
+def failures(tester: FrontTester) -> None:
     """50 clients of three machines while programs, a leader and a server of etcd are killed, leaders are frozen, cut off and stopped; judged over all leaders"""
     check, cluster = tester.tally.check, Cluster(tester, Network())
     keeps_rows(cluster)
@@ -363,20 +362,18 @@ def main() -> None:
     words = parser_of(__doc__)
     words.add_argument("program", nargs="?", type=executable, default=str(BUILT))
     words.add_argument("--check", type=executable, default=str(built("rubis_check")), help="the referee")
-    options = words.parse_args()
+    asked = words.parse_args()
     tally = Tally()
     if not (shutil.which("etcd") and shutil.which("etcdctl")):
         tally.skip("several machines", "etcd is not installed")
         tally.finish()
     with servers_folder() as folder:
-        tester = Tester(options.program, Path(folder), tally)
-        tester.referee = options.check
+        tester = FrontTester(asked, Path(folder), tally)
         try:
-            tell_of(failures, tester)
+            tally.tell(failures, tester)
         finally:
             Cluster.is_over.set()
-            for process in Front.started:
-                process.kill()
+            tester.close()
     tally.finish()
 
 

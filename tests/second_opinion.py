@@ -13,7 +13,6 @@ dropped, doubled or moved, and with any digit changed.
 
 import random
 import re
-import shlex
 import sys
 import time
 from collections import Counter
@@ -25,10 +24,9 @@ from typing import Iterable, Iterator
 from lib import histories
 from lib.inputs import Input, random_input
 from lib.model import Options, Outcome, expected, failed, open_auction
-from lib.program import BUILT, EXAMPLES, TESTS, Tally, described, executable, parser_of, run
+from lib.program import BUILT, EXAMPLES, Tally, described, executable, parser_of, run
 from lib.records import Fault
 
-KEPT = TESTS / "out"
 TOLD_EVERY = 20
 
 
@@ -88,14 +86,6 @@ def what_is_printed(given: Input) -> str:
 
 def unlike(got: Outcome, wanted: Outcome) -> str | None:
     return None if got == wanted else f"wanted {described(wanted)}; got {described(got)}"
-
-
-def keep(given: Input, program: Path, name: str) -> str:
-    """Writes the input to a file, and answers the command line that shows it again."""
-    KEPT.mkdir(exist_ok=True)
-    path = KEPT / f"{name}.csv"
-    path.write_bytes(given.data)
-    return f"{shlex.join([str(program), *given.options.words()])} < {shlex.quote(str(path))}"
 
 
 EXAMPLE = Options(workers=2, joined=2, split=3, threshold=1, users=10, categories=2)
@@ -193,7 +183,7 @@ class Session:
         except histories.Undecided:
             self.undecided += 1
             return
-        again = keep(given, self.program, f"second_opinion_{self.seed}_{number}") if wrong else ""
+        again = given.keep(f"second_opinion_{self.seed}_{number}", self.program) if wrong else ""
         self.tally.check(wrong is None, f"input {number} of seed {self.seed}: {wrong}\n  again: {again}")
 
     def tell_kinds(self) -> None:

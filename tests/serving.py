@@ -18,21 +18,30 @@ import sys
 import tempfile
 import threading
 import time
+from argparse import Namespace
 from collections import Counter
 from contextlib import suppress
 from dataclasses import replace
 from pathlib import Path
 from types import SimpleNamespace
 
-from lib.checks import Tester, tell_of
+from lib.checks import make_all
 from front import Audit
 from lib.front_bounds import bounds
 from lib.front_clients import loads, other_clients, shown
-from lib.fronts import ENDS, FRONT, MEGABYTES, SEEN, UNKNOWN, UNKNOWN_COMMAND, Client, Front, packed
+from lib.fronts import ENDS, FRONT, MEGABYTES, SEEN, UNKNOWN, UNKNOWN_COMMAND, Client, Front, FrontTester, packed
 from lib.misbehaving import hang_up, keep_asking, read_nothing, send_rubbish
 from lib.program import BUILT, EXAMPLES, Tally, built, executable, parser_of, run
 from lib.sessions import SECONDS, wait_until
 from lib.watched import MIX, Outcome, Seen, Start, against_time, judge, judged_by_itself, log_is_exact, mix, referee, seen_otherwise, watched, whole_lines
+
+
+class ServingTester(FrontTester):
+    """Also knows how often programs and fronts are to be killed."""
+
+    def __init__(self, asked: Namespace, folder: Path, tally: Tally):
+        super().__init__(asked, folder, tally)
+        self.kills = asked.kills
 
 
 # Commands and replies.
@@ -74,7 +83,7 @@ ASKED = (
 )
 
 
-def commands(tester: Tester) -> None:
+def commands(tester: FrontTester) -> None:
     """each kind of request, as a line and as an array, names with commas and quotes, faults in their places, and the other commands"""
     front = Front(tester, "commands")
     with front.client() as client:
@@ -100,7 +109,7 @@ def commands(tester: Tester) -> None:
     judged_by_itself(tester, front)
 
 
-def pipelines(tester: Tester) -> None:
+def pipelines(tester: FrontTester) -> None:
     """pipelines of thousands of commands on one connection, cut anywhere: each reply in its place"""
     front, draw = Front(tester, "pipelines", rows=mix()[0]), random.Random(1)
     with front.client() as client:
@@ -129,7 +138,7 @@ def in_pieces(client: Client, data: bytes, draw: random.Random) -> None:
 # Clients that misbehave.
 
 
-def misbehaving(tester: Tester) -> None:
+def misbehaving(tester: FrontTester) -> None:
     """readers that do not read, clients that hang up, and rubbish: another client waits less than a second, and the front stays small"""
     front, draw = Front(tester, "misbehaving", rows=mix()[0]), random.Random(2)
     waits, over = [], threading.Event()
@@ -154,7 +163,7 @@ def misbehaving(tester: Tester) -> None:
 # One wait for the disk; and ends.
 
 
-def group_commit(tester: Tester) -> None:
+def group_commit(tester: FrontTester) -> None:
     """what 100 clients ask for while the program is busy is one part, or two"""
     front = Front(tester, "groups", rows=mix()[0])
     clients = [front.client() for _ in range(100)]
@@ -172,7 +181,7 @@ def group_commit(tester: Tester) -> None:
     front.close()
 
 
-def outcomes(tester: Tester) -> None:
+def outcomes(tester: FrontTester) -> None:
     """a program that is killed: its writes are unknown, its views are asked again, in the order of their requests; and nothing else is disturbed"""
     front = Front(tester, "outcomes", rows=b"0,+bi")
     with front.client() as client, front.client() as other:
@@ -204,7 +213,7 @@ sys.stdin.read()
 """
 
 
-def cut_parts(tester: Tester) -> None:
+def cut_parts(tester: FrontTester) -> None:
     """a program that ends in the middle of its replies: none that has an unanswered request before it is released, what is kept is a history, and views are asked anew"""
     program = script(tester.folder / "cut_off", CUT_OFF)
     for request, reply in ((b"BID 1 0.0 500 5", UNKNOWN), (b"VIEWUSER 1", SEEN)):
@@ -237,7 +246,7 @@ for line in sys.stdin:
 """
 
 
-def full_workers(tester: Tester) -> None:
+def full_workers(tester: FrontTester) -> None:
     """a write past a worker's limit: an error, and the next request is answered"""
     front = Front(tester, "full_workers", program=script(tester.folder / "full", IS_FULL))
     with front.client() as client:
@@ -245,7 +254,7 @@ def full_workers(tester: Tester) -> None:
     tester.tally.check(got == [b"-ERR more than 2147483648 requests for a worker", SEEN] and front.close() == 0, f"a worker that is full: {got}")
 
 
-def waits_for_the_log(tester: Tester) -> None:
+def waits_for_the_log(tester: FrontTester) -> None:
     """a log that another program still has, as that of a front that was killed: what is kept begins with all of its rows"""
     log, row = tester.folder / "waited", mix()[0].splitlines(True)[0]
     log.write_bytes(row)
@@ -268,7 +277,7 @@ def kept_rows(front: Front) -> list[bytes]:
     return [path.read_bytes() for path in front.audit.glob("*.csv")]
 
 
-def terminated(tester: Tester) -> None:
+def terminated(tester: FrontTester) -> None:
     """SIGTERM: what was asked is answered, nothing more is taken, and the status is 0; by itself and under load"""
     front = Front(tester, "terminated")
     with front.client() as client, front.client() as other:
@@ -292,7 +301,7 @@ def terminated(tester: Tester) -> None:
     judged_by_itself(tester, front)
 
 
-def kept_in_order(tester: Tester) -> None:
+def kept_in_order(tester: FrontTester) -> None:
     """a history that cannot be written: the requests of its lines are kept already, so a front that is killed in between keeps no reply without its request"""
     audit, client = Audit(tester.folder / "in_order", 1, None), SimpleNamespace(worker=0)
     with open("/dev/full", "wb", buffering=0) as audit.history, suppress(OSError):
@@ -304,7 +313,7 @@ def kept_in_order(tester: Tester) -> None:
 UNIT = EXAMPLES / "front.service"
 
 
-def service(tester: Tester) -> None:
+def service(tester: FrontTester) -> None:
     """front.service: systemd takes it, and its command, with a socket of the file system, serves by its own clock and ends with status 0"""
     text = UNIT.read_text().replace("/usr/local/lib/fundreivo", str(EXAMPLES)).replace("/usr/local/bin/rubis_auction", str(tester.program))
     unit, place, state = tester.folder / "auction.service", tester.folder / "socket", tester.folder / "state"
@@ -340,7 +349,7 @@ def first_client(place: Path) -> Client:
     return connected[0]
 
 
-def without_a_way_on(tester: Tester) -> None:
+def without_a_way_on(tester: FrontTester) -> None:
     """ends with status 1: a program that dies without a log, a log that cannot be opened, no program, a port in use, an audit that cannot be kept"""
     free = Front(tester, "unlogged")
     words = [word for word in free.words if word not in ("--log", str(free.log))]
@@ -379,7 +388,7 @@ def is_served(port: int) -> bool:
 # Kills, judged; and whether the judge sees errors.
 
 
-def engine_kills(tester: Tester) -> None:
+def engine_kills(tester: ServingTester) -> None:
     """100 clients while the program is killed and started again; and errors planted in what was kept and seen, which are found"""
     front = Front(tester, "engine_kills", rows=mix()[0])
     outcome = watched(front, *[front.kill_engine] * tester.kills)
@@ -391,7 +400,7 @@ def engine_kills(tester: Tester) -> None:
     planted(tester, starts, outcome, whole_lines(front.log))
 
 
-def planted(tester: Tester, starts: list[Start], outcome: Outcome, log: list[str]) -> None:
+def planted(tester: FrontTester, starts: list[Start], outcome: Outcome, log: list[str]) -> None:
     start = max(starts, key=lambda start: len(start.history))
     of_bids = [at for at, (_, _, text) in enumerate(start.history) if text.startswith("bid ")]
     swapped = start.history.copy()
@@ -411,7 +420,7 @@ def planted(tester: Tester, starts: list[Start], outcome: Outcome, log: list[str
         tester.tally.check(wanted in found, f"{what}: {found!r}")
 
 
-def front_kills(tester: Tester) -> None:
+def front_kills(tester: ServingTester) -> None:
     """100 clients while the front is killed and started again"""
     front = Front(tester, "front_kills", rows=mix()[0])
     outcome = watched(front, *[front.kill] * tester.kills)
@@ -428,20 +437,7 @@ def main() -> None:
     words.add_argument("program", nargs="?", type=executable, default=str(BUILT))
     words.add_argument("--check", type=executable, default=str(built("rubis_check")), help="the referee")
     words.add_argument("--kills", type=int, default=5, help="of the program, and of the front")
-    words.add_argument("--only", choices=[check.__name__ for check in CHECKS], help="only this check")
-    options = words.parse_args()
-    tally = Tally()
-    with tempfile.TemporaryDirectory() as folder:
-        tester = Tester(options.program, Path(folder), tally)
-        tester.referee, tester.kills = options.check, options.kills
-        try:
-            for check in CHECKS:
-                if options.only in (None, check.__name__):
-                    tell_of(check, tester)
-        finally:
-            for process in Front.started:
-                process.kill()
-    tally.finish()
+    make_all(words, CHECKS, ServingTester)
 
 
 if __name__ == "__main__":

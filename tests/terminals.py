@@ -12,17 +12,17 @@ import re
 import select
 import stat
 import sys
-import tempfile
 import termios
 import threading
 import time
+from argparse import Namespace
 from contextlib import contextmanager, suppress
 from dataclasses import dataclass, field
 from pathlib import Path
 from subprocess import PIPE, Popen
 from typing import Iterable, Iterator
 
-from lib.checks import SEEN, VIEW, tell_of
+from lib.checks import SEEN, VIEW, Tester, make_all
 from lib.load_model import Plan
 from lib.model import Options, expected
 from lib.program import SECONDS, Tally, build_shim, built, executable, parser_of, run
@@ -64,10 +64,12 @@ class Ended:
     screen: Screen
 
 
-class Tester:
-    def __init__(self, programs: list[Path], folder: Path, tally: Tally):
-        self.auction, self.checker, self.generator = programs
-        self.folder, self.tally = folder, tally
+class TerminalTester(Tester):
+    """Judges what the three programs say on a terminal."""
+
+    def __init__(self, asked: Namespace, folder: Path, tally: Tally):
+        super().__init__(folder, tally)
+        self.auction, self.checker, self.generator = asked.program, asked.checker, asked.generator
         self.history = folder / "history"
         self.history.write_bytes(b"0 0 0 0 " + SEEN)
 
@@ -188,7 +190,7 @@ def slowly(parts: Iterable[bytes]) -> Iterator[bytes]:
 # What they wait for.
 
 
-def awaited(tester: Tester) -> None:
+def awaited(tester: TerminalTester) -> None:
     """rows and scripts from a terminal: one line says what is read, before anything is typed"""
     log = tester.folder / "log"
     for words in ([], ["--live", "1"], ["--log", log], ["--live", "1", "--log", log]):
@@ -215,7 +217,7 @@ def once_told(line: bytes, screen: Screen, told: list[bytes], parts: Iterable[by
     yield from parts
 
 
-def unawaited(tester: Tester) -> None:
+def unawaited(tester: TerminalTester) -> None:
     """nothing is said if standard input is a pipe, the words have a fault, help is asked for, or nobody sees it"""
     for command, text in (([tester.auction], b"0,0," + SEEN), (tester.checking(), b"the history replays\n")):
         tester.shows(f"{command[0].name} with a pipe", perform(command, [VIEW]), 0, text, b"")
@@ -240,7 +242,7 @@ def unawaited(tester: Tester) -> None:
 # How far they are.
 
 
-def slow_inputs(tester: Tester) -> None:
+def slow_inputs(tester: TerminalTester) -> None:
     """slow input: notes of the bytes read, at most once a second, and none is left; a short input has none"""
     data = VIEW * 100
     replies = expected(data * PARTS, Options()).stdout
@@ -256,7 +258,7 @@ def slow_inputs(tester: Tester) -> None:
     tester.shows("a short input", perform([tester.auction], [data]), 0, expected(data, Options()).stdout, b"")
 
 
-def slow_histories(tester: Tester) -> None:
+def slow_histories(tester: TerminalTester) -> None:
     """a slow input and a slow history of rubis_check: notes of both, and the verdict on the same terminal after them"""
     views = PARTS * 100
     scripts, history = [VIEW * 100] * PARTS, [b"".join(b"0 0 0 %d %s" % (part * 100 + at, SEEN) for at in range(100)) for part in range(PARTS)]
@@ -289,7 +291,7 @@ def give_slowly(path: Path, parts: list[bytes], first: threading.Event) -> None:
     os.close(file)
 
 
-def slow_readers(tester: Tester) -> None:
+def slow_readers(tester: TerminalTester) -> None:
     """output that is read slowly: notes of the bytes written, and the same bytes, also where a long text is made before it is written"""
     plan = Plan(requests=60_000)
     load = run([tester.generator, *plan.words()]).stdout
@@ -307,7 +309,7 @@ def slow_readers(tester: Tester) -> None:
         tester.tally.check(ended.screen.text().endswith(EMPTY_LINE), f"{options.words()}: a note is left")
 
 
-def shared_terminals(tester: Tester) -> None:
+def shared_terminals(tester: TerminalTester) -> None:
     """output on the terminal of the notes: they end before its first byte, and so does the note before a fault"""
     data = VIEW * PARTS
     ended = perform([tester.auction], slowly([VIEW] * PARTS), shared=True)
@@ -321,13 +323,13 @@ def shared_terminals(tester: Tester) -> None:
     tester.tally.check(EMPTY_LINE not in ended.screen.text(), "notes between the lines of a load")
 
 
-def live_replies(tester: Tester) -> None:
+def live_replies(tester: TerminalTester) -> None:
     """no notes with --live"""
     ended = perform([tester.auction, "--live", "1"], slowly([VIEW] * PARTS))
     tester.shows("slow input with --live", ended, 0, b"".join(b"0,%d,%s" % (at, SEEN) for at in range(PARTS)), b"")
 
 
-def clocks(tester: Tester) -> None:
+def clocks(tester: TerminalTester) -> None:
     """a clock that cannot be read: no notes; and it is not read if standard error is no terminal"""
     shim = build_shim("refused_calls", tester.folder)
     if shim is None:
@@ -347,17 +349,9 @@ CHECKS = (awaited, unawaited, slow_inputs, slow_histories, slow_readers, shared_
 
 def main() -> None:
     words = parser_of(__doc__)
-    for name in ("rubis_auction", "rubis_check", "rubis_load"):
-        words.add_argument({"rubis_auction": "program", "rubis_check": "checker", "rubis_load": "generator"}[name], nargs="?", type=executable, default=str(built(name)))
-    words.add_argument("--only", choices=[check.__name__ for check in CHECKS], help="only this check")
-    asked = words.parse_args()
-    tally = Tally()
-    with tempfile.TemporaryDirectory() as folder:
-        tester = Tester([asked.program, asked.checker, asked.generator], Path(folder), tally)
-        for check in CHECKS:
-            if asked.only in (None, check.__name__):
-                tell_of(check, tester)
-    tally.finish()
+    for word, name in (("program", "rubis_auction"), ("checker", "rubis_check"), ("generator", "rubis_load")):
+        words.add_argument(word, nargs="?", type=executable, default=str(built(name)))
+    make_all(words, CHECKS, TerminalTester)
 
 
 if __name__ == "__main__":

@@ -12,12 +12,11 @@ import os
 import re
 import resource
 import sys
-import time
 from pathlib import Path
 from tempfile import TemporaryDirectory
 from xml.etree import ElementTree
 
-from lib.browser import Browser, Document, Element
+from lib.browser import Browser, Document
 from lib.program import BUILT, EXAMPLES, TESTS, Tally, built, described, executable, parser_of, run
 from lib.themes import contrast, faults
 
@@ -399,9 +398,7 @@ def main() -> None:
     with TemporaryDirectory(ignore_cleanup_errors=True) as folder:
         make = Maker(tally, options.checker, Path(folder))
         for check in (pictures, whole_pages, readable_by_all, verdicts, refused, hostile_pages, large_pages, in_a_browser):
-            passed, started = tally.passed, time.monotonic()
-            check(make, options.program)
-            print(f"{tally.passed - passed:6} passed in {time.monotonic() - started:5.1f} s: {check.__doc__}", flush=True)
+            tally.tell(check, make, options.program)
     tally.finish()
 
 

@@ -304,9 +304,7 @@ def main() -> None:
     tally = Tally()
     of_programs = (tuned, starts, helps_of_windows, loads_of_applications, man_pages)
     for check in (*of_programs, figures_of_applications, claims_of_figures, answers, interruptions, builds):
-        passed = tally.passed
-        check(tally, program)
-        print(f"{tally.passed - passed:6} passed: {check.__doc__}")
+        tally.tell(check, tally, program)
     tally.finish()
 
 

@@ -3,11 +3,11 @@
 import functools
 import os
 import tempfile
-import time
+from argparse import ArgumentParser, Namespace
 from dataclasses import replace
 from itertools import product, zip_longest
 from pathlib import Path
-from typing import Callable, Iterable, Iterator
+from typing import Callable, Iterable, Iterator, TypeVar
 
 from lib.model import Options, Outcome, expected
 from lib.program import BUILT, EXAMPLES, Tally, build_shim, executable, parser_of, run
@@ -20,13 +20,25 @@ FEW = Options(joined=3, split=4, threshold=1, users=5, categories=2)
 
 
 class Tester:
-    def __init__(self, program: Path, folder: Path, tally: Tally):
-        self.program = program
+    """What the checks of a script are given: a folder for files, and the count of what passed and failed."""
+
+    def __init__(self, folder: Path, tally: Tally):
         self.folder = folder
+        self.tally = tally
+
+    def close(self) -> None:
+        """Ends what may be left running after the last check."""
+
+
+class AuctionTester(Tester):
+    """Runs the auction's program, that of the words of a script."""
+
+    def __init__(self, asked: Namespace, folder: Path, tally: Tally):
+        super().__init__(folder, tally)
+        self.program = asked.program
         self.input = folder / "input"
         self.output = folder / "output"
         self.shim = build_shim("refused_calls", folder)
-        self.tally = tally
         self.example = (EXAMPLES / "first_example.csv").read_bytes()
         self.replies = (EXAMPLES / "first_example.replies").read_bytes()
 
@@ -69,7 +81,8 @@ class Tester:
         self.tally.check(right, f"{what}: the output")
 
 
-Check = Callable[[Tester], None]
+T = TypeVar("T", bound=Tester)
+Check = Callable[[AuctionTester], None]
 
 
 def each_output() -> Iterator[Options]:
@@ -81,7 +94,7 @@ def with_shim(check: Check) -> Check:
     """A check that is made where the shim could be built."""
 
     @functools.wraps(check)
-    def checked(tester: Tester) -> None:
+    def checked(tester: AuctionTester) -> None:
         if tester.shim is None:
             tester.tally.skip(check.__doc__, "there is no C compiler")
         else:
@@ -91,20 +104,23 @@ def with_shim(check: Check) -> Check:
 
 
 def main(description: str, checks: tuple[Check, ...]) -> None:
+    """What a script does whose checks need no more than the auction's program."""
     words = parser_of(description)
     words.add_argument("program", nargs="?", type=executable, default=str(BUILT))
+    make_all(words, checks, AuctionTester)
+
+
+def make_all(words: ArgumentParser, checks: tuple[Callable[[T], None], ...], tester_of: Callable[[Namespace, Path, Tally], T]) -> None:
+    """Makes the checks of a script, or the one that is asked for: with a tester of its words, of a folder and of a tally."""
     words.add_argument("--only", choices=[check.__name__ for check in checks], help="only this check")
-    options = words.parse_args()
+    asked = words.parse_args()
     tally = Tally()
     with tempfile.TemporaryDirectory() as folder:
-        tester = Tester(options.program, Path(folder), tally)
-        for check in checks:
-            if options.only in (None, check.__name__):
-                tell_of(check, tester)
+        tester = tester_of(asked, Path(folder), tally)
+        try:
+            for check in checks:
+                if asked.only in (None, check.__name__):
+                    tally.tell(check, tester)
+        finally:
+            tester.close()
     tally.finish()
-
-
-def tell_of(check: Check, tester: Tester) -> None:
-    started, passed = time.monotonic(), tester.tally.passed
-    check(tester)
-    print(f"{tester.tally.passed - passed:6} passed in {time.monotonic() - started:5.1f} s: {check.__doc__}", flush=True)

@@ -3,8 +3,7 @@
 import threading
 from collections import Counter
 
-from lib.checks import Tester
-from lib.fronts import FULL, MEGABYTES, PROTOCOL, SEEN, Client, Front, packed
+from lib.fronts import FULL, MEGABYTES, PROTOCOL, SEEN, Client, Front, FrontTester, packed
 from lib.sessions import SECONDS, wait_until
 
 MOST_CLIENTS, MOST_UNDER_WAY, MOST_OF_A_CLIENT, MOST_BYTES = 512, 16384, 1000, 512
@@ -14,7 +13,7 @@ LONG_VIEW = b"VIEWUSER" + b" " * 300 + b"0\n"
 TURNS = 200
 
 
-def bounds(tester: Tester) -> None:
+def bounds(tester: FrontTester) -> None:
     """the length of a command, connections, and requests under way, of one client, of many and of all"""
     front = Front(tester, "bounds")
     for command in (b"A" * (MOST_BYTES + 1), packed(b"PING", b"A" * (MOST_BYTES + 1)) + b"\n", b"*2\r\n$3\r\nBID\r\n$9\r\n1\r\n", b"*x\r\n",
@@ -46,7 +45,7 @@ def bounds(tester: Tester) -> None:
     tester.tally.check(front.info()["starts"] == 1 and front.close() == 0, "the front after all")
 
 
-def under_way(tester: Tester, front: Front, clients: list[Client], share: int) -> None:
+def under_way(tester: FrontTester, front: Front, clients: list[Client], share: int) -> None:
     """Clients that each send more than may be under way, while nothing is answered."""
     least, most = share * len(clients), (share + 32 * share // len(LONG_VIEW) + 1) * len(clients)
     # More than may be under way; what is over fits into the client's socket, so that its sender ends.
@@ -66,7 +65,7 @@ def under_way(tester: Tester, front: Front, clients: list[Client], share: int) -
     tester.tally.check(got == {SEEN: each * len(clients)}, f"replies to {len(clients)} clients: {got}")
 
 
-def crowd(tester: Tester, front: Front) -> None:
+def crowd(tester: FrontTester, front: Front) -> None:
     """Clients that come one after the other, each with more than it may have under way, while nothing is answered: at last none is taken."""
     clients, each = [], 2 * MOST_OF_A_CLIENT
     with front.held(), front.client() as client:

@@ -5,8 +5,7 @@ import shlex
 import shutil
 import sys
 
-from lib.checks import Tester
-from lib.fronts import Front
+from lib.fronts import Front, FrontTester
 from lib.program import DOCUMENTS, EXAMPLES, run
 from lib.watched import judged_by_itself, mix
 
@@ -14,7 +13,7 @@ LOAD = [sys.executable, "-B", EXAMPLES / "load.py"]
 TOLD = re.compile(rb"(\d+) replies, 0 errors, (\d+) a second; milliseconds: p50 ([\d.]+), p99 ([\d.]+), p99.9 ([\d.]+), most ([\d.]+)\n")
 
 
-def other_clients(tester: Tester) -> None:
+def other_clients(tester: FrontTester) -> None:
     """redis-cli, redis-benchmark, nc, python3-redis and examples/load.py"""
     front = Front(tester, "others", rows=b'0,+item,1,2,"Vase",10,100,1,1\n')
     port = str(front.port)
@@ -38,7 +37,7 @@ def other_clients(tester: Tester) -> None:
     judged_by_itself(tester, front)
 
 
-def loads(tester: Tester) -> None:
+def loads(tester: FrontTester) -> None:
     """examples/load.py: a file of requests, as many replies as the front counts, times in order; and no front"""
     front, file = Front(tester, "loads", rows=mix()[0]), tester.folder / "load.csv"
     file.write_text(mix()[0].decode() + "".join(mix()[1]))
@@ -52,7 +51,7 @@ def loads(tester: Tester) -> None:
     tester.tally.check(got.status == 1 and got.stderr.startswith(b"load.py: "), f"a load of no front: {got}")
 
 
-def shown(tester: Tester) -> None:
+def shown(tester: FrontTester) -> None:
     """the commands that docs/SERVING.md shows, of redis-cli and of the referee"""
     page, front = (DOCUMENTS / "SERVING.md").read_text(), Front(tester, "shown")
     if shutil.which("redis-cli"):
@@ -82,7 +81,7 @@ except redis.ResponseError as error:
 """
 
 
-def of_python(tester: Tester, port: int) -> None:
+def of_python(tester: FrontTester, port: int) -> None:
     """By the first Python that has it: Debian's is in its own."""
     python = next((python for python in (sys.executable, "/usr/bin/python3") if run([python, "-c", "import redis"]).status == 0), None)
     if python is None:

@@ -6,13 +6,14 @@ import signal
 import socket
 import subprocess
 import sys
+from argparse import Namespace
 from contextlib import contextmanager, suppress
 from pathlib import Path
 from typing import Iterator
 
 import load
-from lib.checks import Tester
-from lib.program import EXAMPLES
+from lib.checks import AuctionTester
+from lib.program import EXAMPLES, Tally
 from lib.sessions import SECONDS, wait_until
 
 FRONT = [sys.executable, "-B", str(EXAMPLES / "front.py")]
@@ -23,12 +24,24 @@ UNKNOWN = b"-UNKNOWN whether this was done: the auction ended before its reply"
 SEEN = b"+user rating=0 comments=0"
 
 
+class FrontTester(AuctionTester):
+    """Also knows the referee. Fronts that were started end with it."""
+
+    def __init__(self, asked: Namespace, folder: Path, tally: Tally):
+        super().__init__(asked, folder, tally)
+        self.referee = asked.check
+
+    def close(self) -> None:
+        for process in Front.started:
+            process.kill()
+
+
 class Front:
     """A front over the program, with a log and with what the referee judges of it."""
 
     started: list[subprocess.Popen] = []
 
-    def __init__(self, tester: Tester, name: str, *words: str, rows=b"", log=None, waits=True, program=None, **how):
+    def __init__(self, tester: FrontTester, name: str, *words: str, rows=b"", log=None, waits=True, program=None, **how):
         self.folder = tester.folder / name
         self.folder.mkdir()
         self.log, self.audit, self.said = log or self.folder / "rows", self.folder / "audit", self.folder / "said"

@@ -2,12 +2,16 @@
 
 import random
 import re
+import shlex
 from dataclasses import dataclass, fields, replace
+from pathlib import Path
 
 from lib.model import Book, Options, is_refusal
+from lib.program import TESTS
 from lib.records import BYTE_ORDER_MARK, MAX_32, MAX_64, MAX_QUANTITY
 from lib.records import Bid, BuyNow, Comment, Id, Item, Request, ViewBids, ViewCategory, ViewItem, ViewUser
 
+KEPT = TESTS / "out"
 KINDS = (Item, Bid, Comment, BuyNow, ViewItem, ViewBids, ViewCategory, ViewUser)
 STORES = KINDS[:4]
 PROFILES = {
@@ -28,6 +32,14 @@ ODD_BYTES = b',,"""\r\n0+-. ;#\t\x00\xff\xef~'
 class Input:
     data: bytes
     options: Options
+
+    def keep(self, name: str, *programs: Path) -> str:
+        """Writes it to a file in tests/out, and answers the command lines that show it again."""
+        KEPT.mkdir(exist_ok=True)
+        path = KEPT / f"{name}.csv"
+        path.write_bytes(self.data)
+        words = self.options.words()
+        return "; ".join(f"{shlex.join([str(program), *words])} < {shlex.quote(str(path))}" for program in programs)
 
 
 def random_input(rng: random.Random) -> Input:

@@ -7,8 +7,7 @@ import time
 from contextlib import suppress
 from pathlib import Path
 
-from lib.checks import Tester
-from lib.fronts import Front, packed
+from lib.fronts import Front, FrontTester, packed
 
 VIEWS = b"VIEWBIDS 0.0\n"
 
@@ -31,7 +30,7 @@ def without_processor(threads: list[str]) -> float:
     return 0
 
 
-def read_nothing(tester: Tester, front: Front, _) -> None:
+def read_nothing(tester: FrontTester, front: Front, _) -> None:
     """Each sends what has 15 MB of replies, and waits until the front takes no more: it leaves many requests to the system."""
     left, before = {front.client(receive=4096): VIEWS * 40_000 for _ in range(5)}, front.info()["requests"]
     for client in left:

@@ -6,9 +6,11 @@ import shutil
 import signal
 import sys
 import tempfile
+import time
 from dataclasses import dataclass
 from pathlib import Path
 from subprocess import PIPE, Popen, TimeoutExpired, check_call
+from typing import Callable
 
 from command_line import executable, parser_of
 from lib.model import Outcome
@@ -150,6 +152,12 @@ class Tally:
 
     def skip(self, what: str, why: str) -> None:
         print(f"SKIPPED {what}: {why}", flush=True)
+
+    def tell(self, check: Callable[..., None], *given: object) -> None:
+        """Makes a check of what is given, and tells how many tests passed in it, and how long it took."""
+        started, passed = time.monotonic(), self.passed
+        check(*given)
+        print(f"{self.passed - passed:6} passed in {time.monotonic() - started:5.1f} s: {check.__doc__}", flush=True)
 
     def finish(self) -> None:
         print(f"{self.passed} passed, {self.failed} failed", flush=True)

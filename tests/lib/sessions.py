@@ -11,7 +11,7 @@ from pathlib import Path
 from typing import Callable, Iterable, Iterator
 
 from client import Auction, Refused
-from lib.checks import Tester
+from lib.checks import AuctionTester
 from lib.model import Options, expected
 
 SECONDS = 60
@@ -106,7 +106,7 @@ class Era:
 
     MOST_OF_THE_MODEL = 250
 
-    def __init__(self, tester: Tester, draw: random.Random):
+    def __init__(self, tester: AuctionTester, draw: random.Random):
         self.tester, self.draw = tester, draw
         self.log = tester.folder / "killed"
         self.log.unlink(missing_ok=True)

@@ -9,8 +9,7 @@ from pathlib import Path
 from types import SimpleNamespace
 from typing import Callable
 
-from lib.checks import Tester
-from lib.fronts import WORKERS, Front, load
+from lib.fronts import WORKERS, Front, FrontTester, load
 from lib.load_model import Market, Plan
 from lib.program import run
 from lib.sessions import SECONDS, is_stored
@@ -146,7 +145,7 @@ def starts_of(audit: Path) -> list[Start]:
 
 
 @cache
-def referee(tester: Tester, start: Start) -> str:
+def referee(tester: FrontTester, start: Start) -> str:
     """What the referee says of a history, if that is not right."""
     history = tester.folder / "judged"
     history.write_text("".join(f"0 0 {worker} {index} {text}\n" for worker, index, text in start.history))
@@ -191,7 +190,7 @@ def fields(record: str) -> list[str]:
     return [worker, kind, *rest, *(["1"] if kind == "item" and len(rest) == 6 else [])]
 
 
-def judge(tester: Tester, front: Front, outcome: Outcome) -> list[Start]:
+def judge(tester: FrontTester, front: Front, outcome: Outcome) -> list[Start]:
     """Whether a served auction is strictly serializable and its log exact. Gives what was kept of it."""
     starts, log = starts_of(front.audit), whole_lines(front.log)
     found = [*(referee(tester, start) for start in starts), seen_otherwise(starts, outcome), against_time(starts, outcome), log_is_exact(starts, log)]
@@ -199,7 +198,7 @@ def judge(tester: Tester, front: Front, outcome: Outcome) -> list[Start]:
     return starts
 
 
-def judged_by_itself(tester: Tester, front: Front, starts: str = "*") -> None:
+def judged_by_itself(tester: FrontTester, front: Front, starts: str = "*") -> None:
     """The referee takes the files as they are, if the front was not killed."""
     for path in front.audit.glob(f"{starts}.csv"):
         got = run([tester.referee, "--workers", str(WORKERS), "--order", "--history", path.with_suffix(".history")], path.read_bytes())
