@@ -15,7 +15,7 @@ from argparse import Namespace
 from dataclasses import replace
 from pathlib import Path
 from textwrap import indent
-from typing import Iterator
+from typing import Iterable, Iterator
 
 from lib import helps
 from lib.checks import Tester, make_all
@@ -162,7 +162,7 @@ NO_LINES = (
 )
 
 
-def lines(texts) -> bytes:
+def lines(texts: Iterable[str]) -> bytes:
     return b"".join(text.encode() + b"\n" for text in texts)
 
 
@@ -199,7 +199,7 @@ class CheckerTester(Tester):
         file.write_bytes(history)
         return [self.checker, *words_of(options), *asked, "--history", file]
 
-    def finds(self, what: str, scripts: bytes, history: bytes, found: str, options=FEW, *asked: str) -> None:
+    def finds(self, what: str, scripts: bytes, history: bytes, found: str, options: Options = FEW, *asked: str) -> None:
         self.tally.same(what, run(self.command(history, options, *asked), scripts), finding(found))
 
 

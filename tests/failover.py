@@ -74,7 +74,7 @@ class Servers:
             self.three("rejoin")
         return clients.result()
 
-    def kill(self, _) -> None:
+    def kill(self, _: Future) -> None:
         """Kills the primary, at once."""
         os.kill(self.primary, signal.SIGKILL)
 

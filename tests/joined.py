@@ -71,7 +71,7 @@ class Trial:
         self.tally.check((got.status, got.stderr) == (0, b""), f"process {process}: {described(got)}")
         return Share(given, log.read_bytes(), got.stdout.decode().splitlines())
 
-    def auction(self, data: bytes, *words) -> Outcome:
+    def auction(self, data: bytes, *words: str | Path) -> Outcome:
         return run([self.program, "--workers", str(WORKERS), "--shards", "64", "--split", "4096", *words], data)
 
     def verdict(self, records: list[str], history: list[str]) -> Outcome:

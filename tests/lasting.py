@@ -7,7 +7,7 @@ little memory, however many rows it has.
 
 from contextlib import contextmanager
 from pathlib import Path
-from typing import Iterator
+from typing import Any, Iterator
 
 from lib.checks import MILLION, AuctionTester, main
 from lib.program import described, in_little_memory, run
@@ -48,7 +48,7 @@ def passes_a_million(tester: AuctionTester) -> None:
 
 
 @contextmanager
-def session(tester: AuctionTester, log: Path, **how) -> Iterator[Auction]:
+def session(tester: AuctionTester, log: Path, **how: Any) -> Iterator[Auction]:
     """A session of two workers on a log, which is not to end before it is closed."""
     auction = Auction(tester.program, "--workers=2", "--log", str(log), **how)
     try:

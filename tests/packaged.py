@@ -10,6 +10,7 @@ import tarfile
 import tempfile
 from hashlib import sha256
 from pathlib import Path
+from typing import Any
 
 from lib.model import Outcome
 from lib.program import CRATES, ROOT, Tally, built, described, run
@@ -91,14 +92,14 @@ class Clone:
             shutil.copy(built(name), out / name)
             shutil.copy(CRATES / name / "stdout", out)
 
-    def log(self, old="", new="") -> Path:
+    def log(self, old: str = "", new: str = "") -> Path:
         """A log of this clone, in which one text is replaced."""
         log = self.folder.with_name("log")
         sums = "\n".join(f"{sum_of(name)}  crates/{name}/out/{name}" for name in PROGRAMS)
         log.write_text(LOG.format(commit=self.git("rev-parse", "HEAD"), AT=AT, sums=sums).replace(old, new, 1))
         return log
 
-    def package(self, *words, **how) -> Outcome:
+    def package(self, *words: str | Path, **how: Any) -> Outcome:
         how = {"cwd": self.folder.parent} | how
         return run([self.folder / "tests" / "package.sh", *words], env=os.environ | SETTINGS | how.pop("env", {}), **how)
 
@@ -215,7 +216,7 @@ def states(tally: Tally, clone: Clone) -> None:
         refused(tally, clone, "there is no log" if words == ["--log"] else "it takes [--log FILE] [FOLDER]", *words)
 
 
-def refused(tally: Tally, clone: Clone, why: str, *words) -> None:
+def refused(tally: Tally, clone: Clone, why: str, *words: str | Path) -> None:
     """package.sh says in one line why it makes nothing."""
     shutil.rmtree(clone.into, ignore_errors=True)
     got = clone.package(*words)

@@ -24,7 +24,7 @@ from concurrent.futures import Future, ThreadPoolExecutor
 from dataclasses import replace
 from pathlib import Path
 from subprocess import PIPE, run as run_tool
-from typing import Iterator, NamedTuple
+from typing import Any, Iterator, NamedTuple, Protocol
 
 from lib.inputs import PROFILES, Text
 from lib.load_model import Plan, load_of
@@ -68,6 +68,12 @@ SELECT application_name, state, sync_state, flush_lsn, pg_current_wal_lsn() FROM
 HAVE_NUMBERS, IS_HELD = "pg_sequences WHERE sequencename = 'commits' AND last_value >= {}", "pg_stat_activity WHERE wait_event = 'SyncRep'"
 
 
+class Answers(Protocol):
+    """What answers SQL in lines: a server, or those of failover.py."""
+
+    def ask(self, text: str) -> list[str]: ...
+
+
 class Server:
     """A PostgreSQL server that lives as long as a `with` over it. It does not run as root: then it is Debian's user for it."""
 
@@ -85,11 +91,11 @@ class Server:
         self.call("pg_ctl", "-D", data, "-w", "-l", self.folder / "log", "-o", settings, "start")
         return self
 
-    def __exit__(self, *_) -> None:
+    def __exit__(self, *_: object) -> None:
         self.call("pg_ctl", "-D", self.folder / "data", "-m", "immediate", "stop")
         shutil.rmtree(self.folder)
 
-    def call(self, tool: str, *words, text: str = "") -> str:
+    def call(self, tool: str, *words: str | Path, text: str = "") -> str:
         path = self.tools / tool if (self.tools / tool).exists() else tool
         return said_by(f"{tool}, given {text!r}", [*self.leave, path, *words], text, cwd="/")
 
@@ -117,7 +123,7 @@ class Server:
         return run([sys.executable, "-B", SQL / "perform.py", *MARKET, *asked], data, env=os.environ | place)
 
 
-def said_by(what: str, command: list, text: str = "", **how) -> str:
+def said_by(what: str, command: list, text: str = "", **how: Any) -> str:
     """What a tool prints. One that fails or hangs ends the script, which says which one it was."""
     got = run(command, text.encode(), **how)
     if got.status:
@@ -224,7 +230,7 @@ def histories(server: Server, program: Path, checker: Path, rng: random.Random, 
         tally.check(*compared(f"input {number}", program_views(program, rows_after(data, got.stdout)), server.views()))
 
 
-def wait_for(server, moment: int, performed: Future) -> None:
+def wait_for(server: Answers, moment: int, performed: Future) -> None:
     """Waits until so many requests have numbers, or perform.py has ended. If they have none for too long, the script ends, and says what is waited for."""
     awaited, end = AWAITED.format(HAVE_NUMBERS.format(moment)), time.monotonic() + SECONDS / 2
     while not performed.done() and (count := int(server.ask(awaited + NUMBERED)[0])) < moment:

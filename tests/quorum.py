@@ -163,7 +163,7 @@ class Cluster:
                 if machine.process.poll() is not None:
                     machine.start()
 
-    def etcdctl(self, *words: str, at=None, stdin=b"") -> bytes:
+    def etcdctl(self, *words: str, at: str | None = None, stdin: bytes = b"") -> bytes:
         return run(["etcdctl", "--endpoints", at or self.etcd, *words], stdin).stdout
 
     def leader(self) -> Machine:
@@ -211,7 +211,7 @@ class Follower(Watcher):
 
     sent = ()
 
-    async def run(self, places) -> None:
+    async def run(self, places: list[tuple[str, int]]) -> None:
         loop = asyncio.get_running_loop()
         while load.CLOCK() < self.asked.until:
             for place in places:

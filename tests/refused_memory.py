@@ -20,7 +20,7 @@ from pathlib import Path
 from lib.histories import Difference, check_printed
 from lib.inputs import Text
 from lib.model import Options, Outcome, expected, failed, open_auction
-from lib.program import BUILT, EXAMPLES, TESTS, Tally, build_shim, described, executable, fault, parser_of, run
+from lib.program import BUILT, EXAMPLES, TESTS, Given, Tally, build_shim, described, executable, fault, parser_of, run
 from lib.records import Fault
 from lib.refusing import Refusing
 from worked import examples_of
@@ -181,7 +181,7 @@ def kind_of(outcome: Outcome) -> str:
     return f"{outcome.status} ({text or 'answered'})"
 
 
-def run_granted(megabytes: int, command: list, stdin=b"") -> Outcome:
+def run_granted(megabytes: int, command: list, stdin: Given = b"") -> Outcome:
     """A run to which the system grants so much memory at most."""
     most = megabytes * 2**20
     return run(command, stdin, preexec_fn=lambda: resource.setrlimit(resource.RLIMIT_AS, (most, most)))

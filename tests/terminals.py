@@ -20,7 +20,7 @@ from contextlib import contextmanager, suppress
 from dataclasses import dataclass, field
 from pathlib import Path
 from subprocess import PIPE, Popen
-from typing import Iterable, Iterator
+from typing import Any, Iterable, Iterator
 
 from lib.checks import SEEN, VIEW, Tester, make_all
 from lib.load_model import Plan
@@ -116,7 +116,15 @@ def terminal() -> Iterator[tuple[int, int]]:
         os.close(user)
 
 
-def perform(command: list, parts: Iterable[bytes], typed=False, shared=False, slow_reader=False, screen=None, **how) -> Ended:
+def perform(
+    command: list,
+    parts: Iterable[bytes],
+    typed: bool = False,
+    shared: bool = False,
+    slow_reader: bool = False,
+    screen: Screen | None = None,
+    **how: Any,
+) -> Ended:
     """Runs a command with a terminal as standard error, and also as standard input, where the parts are `typed`, and as output, if it is `shared`."""
     with terminal() as (user, program):
         screen = screen or Screen()

@@ -14,6 +14,7 @@ import resource
 import sys
 from pathlib import Path
 from tempfile import TemporaryDirectory
+from typing import Sequence
 from xml.etree import ElementTree
 
 from lib.browser import Browser, Document
@@ -77,7 +78,7 @@ class Maker:
     def __init__(self, tally: Tally, checker: Path, folder: Path):
         self.tally, self.checker, self.folder = tally, checker, folder
 
-    def page(self, history: bytes, verdict=b"", report=b"", words=(), name="history") -> str:
+    def page(self, history: bytes, verdict: bytes = b"", report: bytes = b"", words: Sequence[str] = (), name: str = "history") -> str:
         paths = [self.folder / name, self.folder / "verdict", self.folder / "report"]
         for path, content in zip(paths, (history, verdict, report)):
             path.write_bytes(content)
@@ -85,7 +86,7 @@ class Maker:
         self.tally.check(got.status == 0 and not got.stderr and got.stdout.isascii(), f"timeline.py --html: {described(got)}")
         return got.stdout.decode()
 
-    def verdict(self, given: bytes, history: bytes, words=REFEREE) -> bytes:
+    def verdict(self, given: bytes, history: bytes, words: Sequence[str] = REFEREE) -> bytes:
         path = self.folder / "judged"
         path.write_bytes(history)
         return run([self.checker, *words, "--history", path], given).stdout
@@ -184,7 +185,7 @@ def whole_pages(make: Maker, program: Path) -> None:
     check({element.tag for element in document.root.all()}.isdisjoint({"link", "img", "iframe", "object", "embed", "base"}), "no element that loads")
 
 
-def readable_by_all(make: Maker, _) -> None:
+def readable_by_all(make: Maker, _: Path) -> None:
     """names and labels for those who listen, and contrast in the light and the dark theme"""
     page = make.page(CONTENDED)
     root = Document(page).root
@@ -212,7 +213,7 @@ def changed(number: int, old: str, new: str) -> list[str]:
     return lines
 
 
-def verdicts(make: Maker, _) -> None:
+def verdicts(make: Maker, _: Path) -> None:
     """verdicts of rubis_check on changed histories: the wrong line, the one it contradicts, and the fields that differ"""
     given = (EXAMPLES / "contended.csv").read_bytes()
     right, copied = CONTENDED.decode().splitlines(), changed(4, "0 2 1 1", "0 2 1 0")
@@ -241,7 +242,7 @@ def verdicts(make: Maker, _) -> None:
             make.tally.check(shown == lines[line - 1].split(" ", 4)[4], f"the whole reply: {shown}")
 
 
-def refused(make: Maker, _) -> None:
+def refused(make: Maker, _: Path) -> None:
     """what is no history, or not the verdict's"""
     of_another = make.verdict((EXAMPLES / "contended.csv").read_bytes(), "\n".join(changed(8, "highest=30", "highest=31")).encode() + b"\n")
     cases = [[b""], [b"0,0,item 0.0\n"], [b"the history replays\n"], [CONTENDED, of_another], [CONTENDED, b"line 9: 0,0 stands in no script\n"]]
@@ -252,7 +253,7 @@ def refused(make: Maker, _) -> None:
     make.tally.check(got.status == 1 and got.stderr.endswith(b"none: No such file or directory\n"), f"no file: {described(got)}")
 
 
-def hostile_pages(make: Maker, _) -> None:
+def hostile_pages(make: Maker, _: Path) -> None:
     """lines and a file name with tags, templates, controls and bytes that are no text"""
     page = hostile(make)
     document = Document(page)

@@ -48,19 +48,19 @@ class Document(HTMLParser):
         self.close()
         self.faults += [element.tag for element in self.open[1:]]
 
-    def handle_starttag(self, tag, attributes):
+    def handle_starttag(self, tag: str, attributes: list[tuple[str, str | None]]) -> None:
         element = Element(tag, dict(attributes))
         self.open[-1].parts.append(element)
         if tag not in VOID:
             self.open.append(element)
 
-    def handle_endtag(self, tag):
+    def handle_endtag(self, tag: str) -> None:
         if self.open[-1].tag == tag:
             self.open.pop()
         else:
             self.faults.append(f"/{tag}")
 
-    def handle_data(self, data):
+    def handle_data(self, data: str) -> None:
         self.open[-1].parts.append(data)
 
 
@@ -71,7 +71,7 @@ class Browser:
         self.tally, self.folder = tally, folder
         self.command = next(filter(None, map(shutil.which, BROWSERS)), None)
 
-    def opened(self, page: str, acts="", width=1280) -> Element:
+    def opened(self, page: str, acts: str = "", width: int = 1280) -> Element:
         """The elements of a page after some acts, a script of its own. The console is to be silent."""
         path = self.folder / "page.html"
         path.write_text(page.replace("</body>", f"<script>{acts}</script></body>"))

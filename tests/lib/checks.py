@@ -7,10 +7,10 @@ from argparse import ArgumentParser, Namespace
 from dataclasses import replace
 from itertools import product, zip_longest
 from pathlib import Path
-from typing import Callable, Iterable, Iterator, TypeVar
+from typing import Any, Callable, Iterable, Iterator, TypeVar
 
 from lib.model import Options, Outcome, expected
-from lib.program import BUILT, EXAMPLES, Tally, build_shim, executable, parser_of, run
+from lib.program import BUILT, EXAMPLES, Given, Tally, build_shim, executable, parser_of, run
 
 VASE = b"0,item,0,0,Vase,10,100,1\n"
 VIEW = b"0,viewuser,0\n"
@@ -42,10 +42,10 @@ class AuctionTester(Tester):
         self.example = (EXAMPLES / "first_example.csv").read_bytes()
         self.replies = (EXAMPLES / "first_example.replies").read_bytes()
 
-    def run(self, data=b"", options=Options(), **how) -> Outcome:
+    def run(self, data: Given = b"", options: Options = Options(), **how: Any) -> Outcome:
         return run([self.program, *options.words()], data, **how)
 
-    def run_cut(self, limit: str, number: int, data=b"", options=Options(), **limits: int) -> Outcome:
+    def run_cut(self, limit: str, number: int, data: bytes = b"", options: Options = Options(), **limits: int) -> Outcome:
         """A run in which the shim sets a limit, or more."""
         return self.run(data, options, env=self.limited({limit: number} | limits))
 
@@ -56,11 +56,11 @@ class AuctionTester(Tester):
     def same(self, what: str, got: Outcome, wanted: Outcome) -> None:
         self.tally.same(what, got, wanted)
 
-    def as_model(self, what: str, data: bytes, options=FEW) -> None:
+    def as_model(self, what: str, data: bytes, options: Options = FEW) -> None:
         """One worker's outcome is the model's."""
         self.same(what, self.run(data, options), expected(data, options))
 
-    def run_large(self, parts: Iterable[bytes], options=Options()) -> Outcome:
+    def run_large(self, parts: Iterable[bytes], options: Options = Options()) -> Outcome:
         """A run whose input and output are files. Of the output, the outcome has the first bytes."""
         with self.input.open("wb") as file:
             file.writelines(parts)

@@ -9,7 +9,7 @@ import sys
 from argparse import Namespace
 from contextlib import contextmanager, suppress
 from pathlib import Path
-from typing import Iterator
+from typing import Any, Iterator
 
 import load
 from lib.checks import AuctionTester
@@ -41,7 +41,7 @@ class Front:
 
     started: list[subprocess.Popen] = []
 
-    def __init__(self, tester: FrontTester, name: str, *words: str, rows=b"", log=None, waits=True, program=None, **how):
+    def __init__(self, tester: FrontTester, name: str, *words: str, rows: bytes = b"", log: Path | None = None, waits: bool = True, program: Path | None = None, **how: Any):
         self.folder = tester.folder / name
         self.folder.mkdir()
         self.log, self.audit, self.said = log or self.folder / "rows", self.folder / "audit", self.folder / "said"
@@ -103,7 +103,7 @@ class Front:
     def most_megabytes(self) -> float:
         return int(re.search(r"VmHWM:\s+(\d+)", Path(f"/proc/{self.process.pid}/status").read_text())[1]) * 1024 / 1e6
 
-    def client(self, **how) -> "Client":
+    def client(self, **how: Any) -> "Client":
         return Client(self.port, **how)
 
     def info(self) -> dict[str, int | str]:
@@ -114,7 +114,7 @@ class Front:
 class Client:
     """A client that waits for its replies."""
 
-    def __init__(self, place: int | Path, receive=0):
+    def __init__(self, place: int | Path, receive: int = 0):
         self.socket = socket.socket(socket.AF_UNIX if isinstance(place, Path) else socket.AF_INET)
         self.socket.settimeout(SECONDS)
         if receive:
@@ -125,7 +125,7 @@ class Client:
     def __enter__(self) -> "Client":
         return self
 
-    def __exit__(self, *_) -> None:
+    def __exit__(self, *_: object) -> None:
         self.replies.close()
         self.socket.close()
 

@@ -114,7 +114,7 @@ class Text:
         self.rng.shuffle(asked)
         return asked
 
-    def request(self, kinds, weights) -> Request:
+    def request(self, kinds: tuple[type[Request], ...], weights: tuple[int, ...]) -> Request:
         makers = {
             Item: lambda: Item(self.user(), self.category(), self.name(), self.number(3), self.closing(), self.time(), self.quantity()),
             Bid: lambda: Bid(self.user(), self.item(), self.number(8), self.time()),

@@ -30,7 +30,7 @@ def without_processor(threads: list[str]) -> float:
     return 0
 
 
-def read_nothing(tester: FrontTester, front: Front, _) -> None:
+def read_nothing(tester: FrontTester, front: Front, _: random.Random) -> None:
     """Each sends what has 15 MB of replies, and waits until the front takes no more: it leaves many requests to the system."""
     left, before = {front.client(receive=4096): VIEWS * 40_000 for _ in range(5)}, front.info()["requests"]
     for client in left:
@@ -51,7 +51,7 @@ def read_nothing(tester: FrontTester, front: Front, _) -> None:
     tester.tally.check(taken < 5 * 40_000, f"the front takes {taken} requests of clients that read nothing")
 
 
-def hang_up(_, front: Front, draw: random.Random) -> None:
+def hang_up(_: FrontTester, front: Front, draw: random.Random) -> None:
     for _ in range(150):
         with front.client() as client:
             client.send(b"BID 1 0.0 500 5\r\n" * draw.randrange(200) + b"*5\r\n$3\r\nBI"[: draw.randrange(10)])
@@ -61,7 +61,7 @@ RUBBISH = (b"BID", b"ITEM", b"1", b"0.0", b"-1", b"007", b"\xff", b'"', b"'", b"
            b"18446744073709551616", b"+bid", b"\0", b"\x0b", b"0,bid,1,0.0,10,5\n", b"\xe2\x80\xa8", b"\xc2\x85", packed(b"BID", b"1", b"0.0", b"5\r", b'"') + b"\n", b"BID 1 0.0 500 5\n")
 
 
-def send_rubbish(_, front: Front, draw: random.Random) -> None:
+def send_rubbish(_: FrontTester, front: Front, draw: random.Random) -> None:
     for _ in range(400):
         with front.client() as client, suppress(ConnectionError):
             client.send(b"".join(draw.choices(RUBBISH, k=draw.randrange(1, 30))))

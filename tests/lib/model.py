@@ -6,7 +6,7 @@ Written from docs/FORMATS.md and docs/DEFINITIONS.md alone. The auction is one l
 
 from collections import Counter
 from dataclasses import dataclass, field, fields
-from typing import Iterable
+from typing import Callable, Iterable
 
 from lib.records import NOT_PERFORMED, Asked, Bid, BuyNow, Comment, Fault, Id, Item, Object, Request
 from lib.records import ViewBids, ViewCategory, ViewItem, ViewUser, read_input
@@ -75,7 +75,7 @@ def item_order(item: Row) -> tuple:
     return (item.request.time, item.id)
 
 
-def top(rows: Iterable[Row], order) -> list[Row]:
+def top(rows: Iterable[Row], order: Callable[[Row], tuple]) -> list[Row]:
     return sorted(rows, key=order, reverse=True)[:LISTED]
 
 

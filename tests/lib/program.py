@@ -10,7 +10,7 @@ import time
 from dataclasses import dataclass
 from pathlib import Path
 from subprocess import PIPE, Popen, TimeoutExpired, check_call
-from typing import Callable
+from typing import Any, Callable, IO
 
 from command_line import executable, parser_of
 from lib.model import Outcome
@@ -18,6 +18,9 @@ from lib.model import Outcome
 LIB = Path(__file__).resolve().parent
 TESTS, ROOT = LIB.parent, LIB.parents[1]
 BENCH, CRATES, DOCUMENTS, EXAMPLES = (ROOT / name for name in ("bench", "crates", "docs", "examples"))
+
+# What a program reads: these bytes, or a file.
+Given = bytes | int | IO[bytes]
 
 # What a program may map whose memory does not grow with its input.
 LITTLE_MEMORY = 64 << 20
@@ -52,7 +55,7 @@ def two_programs(text: str) -> tuple[Path, Path]:
     return asked.program, asked.checker
 
 
-def run(command: list, stdin=b"", **how) -> Outcome:
+def run(command: list, stdin: Given = b"", **how: Any) -> Outcome:
     """Runs a command in a session of its own. The status is negative where a signal ended it."""
     given = stdin if isinstance(stdin, bytes) else None
     how = {"stdin": stdin if given is None else PIPE, "stdout": PIPE, "stderr": PIPE} | how
@@ -67,7 +70,7 @@ def run(command: list, stdin=b"", **how) -> Outcome:
     return Outcome(process.returncode, stdout or b"", stderr or b"")
 
 
-def run_typed(command: list, typed: bytes, **how) -> Outcome:
+def run_typed(command: list, typed: bytes, **how: Any) -> Outcome:
     """Runs a command whose standard input is a terminal, on which this is typed."""
     keyboard, terminal = os.openpty()
     try:

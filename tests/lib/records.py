@@ -6,7 +6,7 @@ a quote inside an unquoted field stands for itself, what follows a closing quote
 
 import re
 from dataclasses import dataclass, field
-from typing import ClassVar, Iterator
+from typing import ClassVar, Iterator, TypeVar
 
 MAX_32 = 2**32 - 1
 MAX_64 = 2**64 - 1
@@ -19,6 +19,8 @@ NAME = re.compile(rb"[ -~]{1,32}")
 STARS = {str(stars).encode(): stars for stars in range(-5, 6)}
 
 UNREADABLE, NOT_PERFORMED = 2, 3
+
+T = TypeVar("T")
 
 
 class Fault(Exception):
@@ -109,16 +111,16 @@ class Item(Request):
     time: int
     quantity: int = 1
 
-    def named_users(self):
+    def named_users(self) -> tuple[int, ...]:
         return (self.seller,)
 
-    def named_categories(self):
+    def named_categories(self) -> tuple[int, ...]:
         return (self.category,)
 
-    def touches(self):
+    def touches(self) -> tuple[Object, ...]:
         return (category_object(self.category),)
 
-    def writes(self):
+    def writes(self) -> Object:
         return category_object(self.category)
 
 
@@ -131,7 +133,7 @@ class Bid(OfAnItem):
     amount: int
     time: int
 
-    def named_users(self):
+    def named_users(self) -> tuple[int, ...]:
         return (self.bidder,)
 
 
@@ -144,13 +146,13 @@ class Comment(OfAnItem):
     item: Id
     stars: int
 
-    def named_users(self):
+    def named_users(self) -> tuple[int, ...]:
         return (self.author, self.about)
 
-    def touches(self):
+    def touches(self) -> tuple[Object, ...]:
         return (item_object(self.item), user_object(self.about))
 
-    def writes(self):
+    def writes(self) -> Object:
         return user_object(self.about)
 
 
@@ -163,7 +165,7 @@ class BuyNow(OfAnItem):
     quantity: int
     time: int
 
-    def named_users(self):
+    def named_users(self) -> tuple[int, ...]:
         return (self.buyer,)
 
 
@@ -184,10 +186,10 @@ class ViewCategory(Request):
     word = "viewcategory"
     category: int
 
-    def named_categories(self):
+    def named_categories(self) -> tuple[int, ...]:
         return (self.category,)
 
-    def touches(self):
+    def touches(self) -> tuple[Object, ...]:
         return (category_object(self.category),)
 
 
@@ -196,10 +198,10 @@ class ViewUser(Request):
     word = "viewuser"
     user: int
 
-    def named_users(self):
+    def named_users(self) -> tuple[int, ...]:
         return (self.user,)
 
-    def touches(self):
+    def touches(self) -> tuple[Object, ...]:
         return (user_object(self.user),)
 
 
@@ -209,7 +211,7 @@ def number_of(text: bytes, limit: int) -> int | None:
     return int(text)
 
 
-def required(value, complaint: str):
+def required(value: T | None, complaint: str) -> T:
     if value is None:
         raise Malformed(complaint)
     return value

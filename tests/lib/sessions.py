@@ -8,7 +8,7 @@ import threading
 import time
 from contextlib import suppress
 from pathlib import Path
-from typing import Callable, Iterable, Iterator
+from typing import Any, Callable, Iterable, Iterator
 
 from client import Auction, Refused
 from lib.checks import AuctionTester
@@ -45,7 +45,7 @@ def whole_lines(log: Path) -> bytes:
     return text[: text.rfind(b"\n") + 1]
 
 
-def fault_of(program, log: Path, *words: str, **how) -> tuple | None:
+def fault_of(program: Path, log: Path, *words: str, **how: Any) -> tuple | None:
     """The fault and status of a program with this log that has one request, or nothing if it is answered."""
     try:
         auction = Auction(program, *words, "--log", str(log), **how)
@@ -83,19 +83,19 @@ def wait_until(holds: Callable[[], bool]) -> None:
 class Told(Auction):
     """A client that notes what it sends and what is replied, up to the moment at which the program is no more."""
 
-    def __init__(self, *words, **how):
+    def __init__(self, *words: str | Path, **how: Any):
         self.asked: dict[tuple[int, int], str] = {}
         self.replied: dict[tuple[int, int], str] = {}
         super().__init__(*words, **how)
 
-    def block(self, asked):
+    def block(self, asked: list[tuple[int, str]]) -> list[str]:
         at = self.sent.copy()
         for worker, request in asked:
             self.asked[worker, at[worker]] = request
             at[worker] += 1
         return super().block(asked)
 
-    def reply(self):
+    def reply(self) -> tuple[tuple[int, int], str]:
         place, text = super().reply()
         self.replied[place] = text
         return place, text

@@ -7,7 +7,7 @@ from dataclasses import dataclass, field
 from functools import cache
 from pathlib import Path
 from types import SimpleNamespace
-from typing import Callable
+from typing import Any, Callable
 
 from lib.fronts import WORKERS, Front, FrontTester, load
 from lib.load_model import Market, Plan
@@ -31,25 +31,25 @@ class Seen:
 class Watcher(load.Client):
     """A client of a load that notes what it sees, and connects again if it is cut off."""
 
-    def __init__(self, *words):
+    def __init__(self, *words: Any):
         super().__init__(*words)
         self.seen: dict[tuple[int, int, int], Seen] = {}
         self.refused: Counter[bytes] = Counter()
         self.lost = 0
 
-    async def run(self, **place) -> None:
+    async def run(self, **place: Any) -> None:
         while load.CLOCK() < self.asked.until:
             try:
                 await super().run(**place)
             except OSError:
                 await asyncio.sleep(0.02)
 
-    def connection_made(self, transport) -> None:
+    def connection_made(self, transport: asyncio.Transport) -> None:
         transport.write(b"PLACES ON\n")
         super().connection_made(transport)
         self.sent.appendleft(0)
 
-    def connection_lost(self, fault) -> None:
+    def connection_lost(self, fault: Exception | None) -> None:
         self.lost += len(self.sent)
         super().connection_lost(fault)
 
