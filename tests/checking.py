@@ -1,10 +1,12 @@
 #!/usr/bin/env python3
-"""Shows what the built referee (crates/rubis_check) finds of histories: right ones, changed ones, malformed ones, and those of an engine with a bug.
+"""Shows what the built referee (crates/rubis_check) finds of histories: right ones, changed ones, malformed ones, and
+those of an engine with a bug.
 
     tests/checking.py [CHECKER [PROGRAM]]
 
-Right histories are those of the worked examples, one written by hand, and those that the program writes of random inputs and of loads, with several workers.
-What is to be found of a changed one follows from the change: the history written by hand says which reply was due.
+Right histories are those of the worked examples, one written by hand, and those that the program writes of random
+inputs and of loads, with several workers. What is to be found of a changed one follows from the change: the history
+written by hand says which reply was due.
 """
 
 import itertools
@@ -22,7 +24,19 @@ from lib.checks import Tester, make_all
 from lib.inputs import Text, random_options
 from lib.load_model import Plan, load_of
 from lib.model import Options, Outcome, open_auction
-from lib.program import BUILT, DOCUMENTS, EXAMPLES, TESTS, Tally, build_shim, built, executable, parser_of, run, run_typed
+from lib.program import (
+    BUILT,
+    DOCUMENTS,
+    EXAMPLES,
+    TESTS,
+    Tally,
+    build_shim,
+    built,
+    executable,
+    parser_of,
+    run,
+    run_typed,
+)
 from lib.records import Fault
 from lib.refusing import Refusing
 from worked import examples_of
@@ -58,7 +72,10 @@ SCRIPTS = b"""\
 1,bid,5,0.0,50,7
 1,viewcategory,9
 """
-SEEN = "viewitem seller=0 category=0 start=10 closes=100 highest={highest} bidder={bidder} bids={bids} left={left} name={name}"
+SEEN = (
+    "viewitem seller=0 category=0 start=10 closes=100"
+    " highest={highest} bidder={bidder} bids={bids} left={left} name={name}"
+)
 VASE = dict(highest=20, bidder=5, bids=2, left=3, name="Vase")
 RIGHT = [
     "0 1 0 0 item 0.0",
@@ -123,10 +140,34 @@ OTHER_REPLIES = (
 OTHER_LINES = (
     (3, 2, [RIGHT[3], RIGHT[2]], REPLAYS, "two bids that commute, swapped"),
     (8, 1, ["7 7 1 3 comment 1.0"], REPLAYS, "another phase and number"),
-    (11, 2, [RIGHT[11], RIGHT[10]], "line 11: 1,4 refused 7 NotEnough but buynow 1.0 was due", "a purchase and a refused one, swapped"),
-    (18, 2, [RIGHT[18], RIGHT[17]], "line 18: 1,9 refused 6 SoldOut but bid 1.1 was due", "a bid before the purchase of the last one"),
-    (1, 2, [RIGHT[0], "0 3 0 1 bid 0.0", "0 2 1 0 item 1.0"], "line 4: 0,1 stands in an earlier line", "a line moved, and left in its place"),
-    (4, 1, [], f"line 4: 0,2 {SEEN.format(**VASE)} but {SEEN.format(**VASE | dict(bidder=1, bids=1))} was due", "a bid left out"),
+    (
+        11,
+        2,
+        [RIGHT[11], RIGHT[10]],
+        "line 11: 1,4 refused 7 NotEnough but buynow 1.0 was due",
+        "a purchase and a refused one, swapped",
+    ),
+    (
+        18,
+        2,
+        [RIGHT[18], RIGHT[17]],
+        "line 18: 1,9 refused 6 SoldOut but bid 1.1 was due",
+        "a bid before the purchase of the last one",
+    ),
+    (
+        1,
+        2,
+        [RIGHT[0], "0 3 0 1 bid 0.0", "0 2 1 0 item 1.0"],
+        "line 4: 0,1 stands in an earlier line",
+        "a line moved, and left in its place",
+    ),
+    (
+        4,
+        1,
+        [],
+        f"line 4: 0,2 {SEEN.format(**VASE)} but {SEEN.format(**VASE | dict(bidder=1, bids=1))} was due",
+        "a bid left out",
+    ),
     (8, 1, [], "line 9: 0,5 user rating=2 comments=2 but user rating=-3 comments=1 was due", "a comment left out"),
     (20, 1, [], "1,10 stands in no line", "the last line left out"),
     (1, 20, [], "0,0 stands in no line", "no line at all"),
@@ -135,7 +176,13 @@ OTHER_LINES = (
     (20, 1, ["0 20 2 0 latest"], "line 20: 2,0 stands in no script", "a worker too many"),
     (20, 1, ["0 20 1 11 latest"], "line 20: 1,11 stands in no script", "an index too high"),
     (20, 1, ["0 20 16 0 latest"], "line 20: 16,0 stands in no script", "a worker past all"),
-    (20, 1, ["0 20 4294967295 4294967295 latest"], "line 20: 4294967295,4294967295 stands in no script", "the greatest numbers"),
+    (
+        20,
+        1,
+        ["0 20 4294967295 4294967295 latest"],
+        "line 20: 4294967295,4294967295 stands in no script",
+        "the greatest numbers",
+    ),
 )
 
 # Lines that can't be read, in the place of line 8.
@@ -168,7 +215,15 @@ def lines(texts: Iterable[str]) -> bytes:
 
 def status_of(found: str) -> int:
     """The exit status that docs/CHECKING.md has for what is found."""
-    by_end = {REPLAYS: 0, "was due": 5, "in no script": 6, "in an earlier line": 6, "in no line": 6, "of its script": 7, UNREADABLE: 8}
+    by_end = {
+        REPLAYS: 0,
+        "was due": 5,
+        "in no script": 6,
+        "in an earlier line": 6,
+        "in no line": 6,
+        "of its script": 7,
+        UNREADABLE: 8,
+    }
     return next(status for end, status in by_end.items() if found.endswith(end))
 
 
@@ -216,7 +271,9 @@ def worked_examples(tester: CheckerTester) -> None:
 
 def options_of(words: list[str]) -> Options:
     named = itertools.pairwise([*words, "--"])
-    return Options(**{word.removeprefix("--"): int(value) for word, value in named if word.startswith("--") and value.isdecimal()})
+    return Options(
+        **{word.removeprefix("--"): int(value) for word, value in named if word.startswith("--") and value.isdecimal()}
+    )
 
 
 def by_hand(tester: CheckerTester) -> None:
@@ -236,7 +293,11 @@ def malformed_lines(tester: CheckerTester) -> None:
     for line, what in NO_LINES:
         history = lines(RIGHT[:7]) + line + lines(RIGHT[8:])
         # A line that ends too early is read with the next one, and then another text than the due one.
-        found = f"line 8: {UNREADABLE}" if line.endswith(b"\n") else f"line 8: 1,3 comment 1.0{RIGHT[8]} but comment 1.0 was due"
+        found = (
+            f"line 8: {UNREADABLE}"
+            if line.endswith(b"\n")
+            else f"line 8: 1,3 comment 1.0{RIGHT[8]} but comment 1.0 was due"
+        )
         tester.finds(what, SCRIPTS, history, found)
     whole = lines(RIGHT)
     start = len(whole) - len(RIGHT[-1]) - 1
@@ -255,7 +316,10 @@ def across_reads(tester: CheckerTester) -> None:
         # Longer numbers in the line before this one let it begin so many bytes before the end.
         more = READ_AT_ONCE - before - start
         longer = f"{10 ** min(more, 19)} {10 ** max(more - 19, 0)} 0 {at - 1} latest"
-        for text, found in ((line, REPLAYS), (line + " 1:0.0", f"line {at + 1}: 0,{at} latest 1:0.0 but latest was due")):
+        for text, found in (
+            (line, REPLAYS),
+            (line + " 1:0.0", f"line {at + 1}: 0,{at} latest 1:0.0 but latest was due"),
+        ):
             history = lines([*right[: at - 1], longer, text, *right[at + 1 :]])
             tester.finds(f"{before} bytes of a line before the end of a read, {text!r}", scripts, history, found)
 
@@ -265,15 +329,31 @@ def orders(tester: CheckerTester) -> None:
     contended = (EXAMPLES / "contended.csv").read_bytes()
     view_last = (EXAMPLES / "contended.history").read_bytes()
     late = "line 8: 0,3 stands after a later request of its script"
-    for asked, found in (((), REPLAYS), (("--order",), REPLAYS), (("--strict",), late), (("--order", "--strict"), late)):
+    for asked, found in (
+        ((), REPLAYS),
+        (("--order",), REPLAYS),
+        (("--strict",), late),
+        (("--order", "--strict"), late),
+    ):
         tester.finds(f"a view that waited, {asked}", contended, view_last, found, FEW, *asked)
     item_last = lines(["0 0 0 1 latest", "0 0 0 0 item 0.0"])
     late = "line 2: 0,0 stands after a later request of its script"
     for asked, found in (((), REPLAYS), (("--order",), late), (("--strict",), late)):
-        tester.finds(f"an item that waited, {asked}", b"0,item,0,0,Vase,10,100,1\n0,viewcategory,0\n", item_last, found, FEW, *asked)
+        tester.finds(
+            f"an item that waited, {asked}",
+            b"0,item,0,0,Vase,10,100,1\n0,viewcategory,0\n",
+            item_last,
+            found,
+            FEW,
+            *asked,
+        )
     bought_last = lines(["0 0 0 0 item 0.0", "0 0 0 2 bid 0.0", "0 0 0 1 buynow 0.0"])
     scripts = b"0,item,0,0,Vase,10,100,1\n0,buynow,1,0.0,1,2\n0,bid,1,0.0,20,3\n"
-    for asked, found in (((), REPLAYS), (("--order",), REPLAYS), (("--strict",), "line 3: 0,1 stands after a later request of its script")):
+    for asked, found in (
+        ((), REPLAYS),
+        (("--order",), REPLAYS),
+        (("--strict",), "line 3: 0,1 stands after a later request of its script"),
+    ):
         tester.finds(f"a purchase that waited, {asked}", scripts, bought_last, found, FEW, *asked)
 
 
@@ -293,8 +373,20 @@ def faults(tester: CheckerTester) -> None:
         ("a record with a fault", asked, b"0,bid\n", 2, "record 1: wrong number of fields"),
         ("a worker too many", asked, b"2,viewuser,0\n", 2, "record 1: no such worker"),
         ("a row that is none", asked, b"0,+bid,1,0.0,20,5\n", 3, "row 1: refused"),
-        ("no such file", [tester.checker, "--history", missing], b"", 2, f"{missing}: cannot be read: No such file or directory (os error 2)"),
-        ("a folder", [tester.checker, "--history", tester.folder], b"", 2, f"{tester.folder}: cannot be read: Is a directory (os error 21)"),
+        (
+            "no such file",
+            [tester.checker, "--history", missing],
+            b"",
+            2,
+            f"{missing}: cannot be read: No such file or directory (os error 2)",
+        ),
+        (
+            "a folder",
+            [tester.checker, "--history", tester.folder],
+            b"",
+            2,
+            f"{tester.folder}: cannot be read: Is a directory (os error 21)",
+        ),
     )
     for what, command, scripts, status, text in cases:
         tester.tally.same(what, run(command, scripts), Outcome(status, b"", f"rubis_check: {text}\n".encode()))
@@ -303,7 +395,11 @@ def faults(tester: CheckerTester) -> None:
         tester.tally.check((got.status, got.stdout) == (1, b"") and got.stderr, f"{words}: got {got}")
     if Path("/dev/full").exists():
         with open("/dev/full", "wb") as full:
-            tester.tally.same("a full disk", run(asked, SCRIPTS, stdout=full), Outcome(4, b"", b"rubis_check: output cannot be written\n"))
+            tester.tally.same(
+                "a full disk",
+                run(asked, SCRIPTS, stdout=full),
+                Outcome(4, b"", b"rubis_check: output cannot be written\n"),
+            )
 
 
 def terminals(tester: CheckerTester) -> None:
@@ -311,11 +407,14 @@ def terminals(tester: CheckerTester) -> None:
     asked = tester.command(lines(["0 0 0 0 latest"]), FEW)
     for typed in (b"0,viewcategory,0\n\x04", b"0,viewcategory,0\x04\x04"):
         tester.tally.same(f"{typed!r} on a terminal", run_typed(asked, typed), finding(REPLAYS))
-    tester.tally.same("one Ctrl-D alone on a terminal", run_typed(asked, b"\x04"), finding("line 1: 0,0 stands in no script"))
+    tester.tally.same(
+        "one Ctrl-D alone on a terminal", run_typed(asked, b"\x04"), finding("line 1: 0,0 stands in no script")
+    )
 
 
 def interrupted_calls(tester: CheckerTester) -> None:
-    """reads and writes that a signal interrupts, each second, third or fifth, also in a history of several reads: what is found is the same"""
+    """reads and writes that a signal interrupts, each second, third or fifth, also in a history of several
+    reads: what is found is the same"""
     shim = build_shim("refused_calls", tester.folder)
     if shim is None:
         return tester.tally.skip(interrupted_calls.__doc__, "there is no C compiler")
@@ -328,9 +427,16 @@ def interrupted_calls(tester: CheckerTester) -> None:
         (b"0,viewcategory,0\n" * (views - 1), long, f"line {views}: 0,{views - 1} stands in no script"),
     )
     for (scripts, history, found), every, most in itertools.product(cases, (2, 3, 5), (7, READ_AT_ONCE)):
-        limits = {"LD_PRELOAD": str(shim), "INTERRUPTED": str(every), "READ_AT_MOST": str(most), "WRITE_AT_MOST": str(most)}
+        limits = {
+            "LD_PRELOAD": str(shim),
+            "INTERRUPTED": str(every),
+            "READ_AT_MOST": str(most),
+            "WRITE_AT_MOST": str(most),
+        }
         got = run(tester.command(lines(history), FEW), scripts, env=os.environ | limits)
-        tester.tally.same(f"each {every}th call is interrupted, {most} bytes a call, {len(history)} lines", got, finding(found))
+        tester.tally.same(
+            f"each {every}th call is interrupted, {most} bytes a call, {len(history)} lines", got, finding(found)
+        )
 
 
 def refused_memory(tester: CheckerTester) -> None:
@@ -373,10 +479,19 @@ def changes(rng: random.Random, history: list[bytes]) -> Iterator[tuple[str, lis
     worker, index = place[2:]
     yield "a line twice", [*before, line, line, *after], f"line {at + 2}: {worker},{index} stands in an earlier line"
     yield "a line cut off", [*before, line[:-1]], f"line {at + 1}: {UNREADABLE}"
-    yield "a line of no script", [*before, b"0 0 16 0 latest\n", line, *after], f"line {at + 1}: 16,0 stands in no script"
+    yield "a line of no script", [
+        *before,
+        b"0 0 16 0 latest\n",
+        line,
+        *after,
+    ], f"line {at + 1}: 16,0 stands in no script"
     for text in (due + "0", due[:-1], due.replace(".", ".1", 1) if "." in due else due.upper(), "refused 8 Other"):
         changed = f"{' '.join(place)} {text}\n".encode()
-        yield f"{text!r} in place of {due!r}", [*before, changed, *after], f"line {at + 1}: {worker},{index} {text} but {due} was due"
+        yield f"{text!r} in place of {due!r}", [
+            *before,
+            changed,
+            *after,
+        ], f"line {at + 1}: {worker},{index} {text} but {due} was due"
 
 
 def loads(tester: CheckerTester) -> None:
@@ -388,7 +503,9 @@ def loads(tester: CheckerTester) -> None:
         tester.finds(what, scripts, history, REPLAYS, LARGE, "--order")
         place = history.rindex(b" bid ", 0, len(history) * 9 // 10)
         number = history.count(b"\n", 0, place) + 1
-        worker, index, due = history[:place].rsplit(b"\n", 1)[-1].split()[2:] + [history[place + 1 :].split(b"\n", 1)[0]]
+        worker, index, due = history[:place].rsplit(b"\n", 1)[-1].split()[2:] + [
+            history[place + 1 :].split(b"\n", 1)[0]
+        ]
         changed = history[:place] + b" bid 3.999999" + history[place + 1 + len(due) :]
         found = f"line {number}: {worker.decode()},{index.decode()} bid 3.999999 but {due.decode()} was due"
         tester.finds(f"{what}, with a line changed", scripts, changed, found, LARGE)
@@ -397,7 +514,11 @@ def loads(tester: CheckerTester) -> None:
 def load(rng: random.Random, share: float) -> bytes:
     """1,000,000 requests of 16 workers, such a share of them on one item."""
     workers, users = range(LARGE.workers), LARGE.users
-    records = [f"{worker},item,{worker},{serial % 10},Item {serial},1,1000,{serial},1000000" for serial in range(100) for worker in workers]
+    records = [
+        f"{worker},item,{worker},{serial % 10},Item {serial},1,1000,{serial},1000000"
+        for serial in range(100)
+        for worker in workers
+    ]
     for worker in itertools.islice(itertools.cycle(workers), 1_000_000 - len(records)):
         item = "0.0" if rng.random() < share else f"{rng.randrange(16)}.{rng.randrange(100)}"
         kind, user = rng.random(), rng.randrange(users)
@@ -415,7 +536,8 @@ def load(rng: random.Random, share: float) -> bytes:
 
 
 def small_engine(tester: CheckerTester) -> None:
-    """an engine in another language, without its bug and with it, and what examples/replay.py says of its histories and of altered ones"""
+    """an engine in another language, without its bug and with it, and what examples/replay.py says of its
+    histories and of altered ones"""
     found_stale = 0
     for workers, scripts, path in small_inputs(tester.folder):
         for seed in map(str, range(10)):
@@ -425,7 +547,13 @@ def small_engine(tester: CheckerTester) -> None:
             tester.tally.check(got.status == (0 if stale == right else 5), f"the stale engine at {seed}: got {got}")
             found_stale += stale != right
         for what, history in {"right": right, "stale": stale, **altered(right)}.items():
-            replayed(tester, f"a history that is {what}", path, history, run(tester.command(history, Options(workers=workers)), scripts))
+            replayed(
+                tester,
+                f"a history that is {what}",
+                path,
+                history,
+                run(tester.command(history, Options(workers=workers)), scripts),
+            )
     tester.tally.check(found_stale > 0, "the stale engine answers as the right one does")
 
 
@@ -445,12 +573,17 @@ def replayed(tester: CheckerTester, what: str, scripts: Path, history: bytes, wa
     path = tester.folder / "replayed.history"
     path.write_bytes(history)
     got = run([*REPLAY, scripts, path])
-    tester.tally.check((got.status, got.stdout) == (wanted.status, wanted.stdout), f"examples/replay.py of {what}: {got}, not {wanted}")
+    tester.tally.check(
+        (got.status, got.stdout) == (wanted.status, wanted.stdout), f"examples/replay.py of {what}: {got}, not {wanted}"
+    )
 
 
 def small_inputs(folder: Path) -> Iterator[tuple[int, bytes, Path]]:
     """Inputs of the small engine: workers, bytes and file. The load has rows."""
-    for workers, data, name in ((2, (EXAMPLES / "contended.csv").read_bytes(), "contended.csv"), (WALK.workers, load_of(WALK), "load.csv")):
+    for workers, data, name in (
+        (2, (EXAMPLES / "contended.csv").read_bytes(), "contended.csv"),
+        (WALK.workers, load_of(WALK), "load.csv"),
+    ):
         (folder / name).write_bytes(data)
         yield workers, data, folder / name
 
@@ -461,7 +594,13 @@ def help_and_version(tester: CheckerTester) -> None:
     scripts = EXAMPLES / "contended.csv"
     (tester.folder / "scripts.csv").write_bytes(scripts.read_bytes())
     (tester.folder / "engine.history").write_bytes(run([*SMALL_ENGINE, scripts, "3"]).stdout)
-    helps.examples(tester.tally, said, "rubis_check", tester.folder, {"rubis_check": tester.checker, "rubis_auction": tester.program})
+    helps.examples(
+        tester.tally,
+        said,
+        "rubis_check",
+        tester.folder,
+        {"rubis_check": tester.checker, "rubis_auction": tester.program},
+    )
 
 
 def shown(tester: CheckerTester) -> None:

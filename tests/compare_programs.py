@@ -1,11 +1,14 @@
 #!/usr/bin/env python3
-"""Compares two builds of the auction program on random inputs: after a change by which nothing is to be printed otherwise.
+"""Compares two builds of the auction program on random inputs: after a change by which
+nothing is to be printed otherwise.
 
     tests/compare_programs.py OLD NEW [--inputs 1000] [--seed N]
 
-Output, standard error and status have to be the same, byte for byte. The inputs are those of second_opinion.py, with lines that end otherwise, records that lie across
-the end of what is read at a time, rows after requests, and reads that give a byte. Phases are so short that no thread is started, so that several workers' replies
-are the same in each run. Each input on which the programs differ is written to a file in tests/out, and the command lines that show it again are printed.
+Output, standard error and status have to be the same, byte for byte. The inputs are those of second_opinion.py,
+with lines that end otherwise, records that lie across the end of what is read at a time, rows after requests, and
+reads that give a byte. Phases are so short that no thread is started, so that several workers' replies are the
+same in each run. Each input on which the programs differ is written to a file in tests/out, and the command lines
+that show it again are printed.
 """
 
 import os
@@ -23,7 +26,8 @@ from lib.program import Tally, build_shim, described, executable, parser_of, run
 
 TOLD_EVERY = 100
 ROOM = 65536
-# One thread performs a phase of at most 128 requests of each worker. These are what waits, no more than a split phase had, and what comes: half for each.
+# One thread performs a phase of at most 128 requests of each worker. These are what waits, no more than a split phase
+# had, and what comes: half for each.
 MOST_OF_A_PHASE = 128
 LINE_ENDS = (b"\r\n", b"\r", b"\n\n", b"\n\r\n", b"\r\r\n")
 FILLERS = (
@@ -44,7 +48,9 @@ def with_other_ends(rng: random.Random, data: bytes) -> bytes:
     """Some lines, or all, end otherwise."""
     share = rng.choice((0.05, 0.5, 1))
     end = rng.choice(LINE_ENDS)
-    return b"".join(line.rstrip(b"\r\n") + end if rng.random() < share else line for line in data.splitlines(keepends=True))
+    return b"".join(
+        line.rstrip(b"\r\n") + end if rng.random() < share else line for line in data.splitlines(keepends=True)
+    )
 
 
 def across_room(rng: random.Random, data: bytes) -> bytes:
@@ -62,7 +68,11 @@ def with_long_line(rng: random.Random, data: bytes) -> bytes:
 
 def with_late_row(rng: random.Random, data: bytes) -> bytes:
     place = data.rfind(b"\n", 0, rng.randint(0, len(data))) + 1
-    return data[:place] + rng.choice((b"0,+item,0,0,Vase,1,2,3,1\n", b"0,+bid,0,0.0,1,1\r\n", b"0,+comment,0,1,0.0,-5\n")) + data[place:]
+    return (
+        data[:place]
+        + rng.choice((b"0,+item,0,0,Vase,1,2,3,1\n", b"0,+bid,0,0.0,1,1\r\n", b"0,+comment,0,1,0.0,-5\n"))
+        + data[place:]
+    )
 
 
 class Session:
@@ -82,12 +92,19 @@ class Session:
         old, new = (self.outcome(program, given, cut) for program in self.programs)
         self.kinds["read" if old.status == 0 else re.sub("[0-9]+", "N", old.stderr.decode("ascii").strip())] += 1
         again = "" if old == new else given.keep(f"compare_{self.seed}_{number}", *self.programs)
-        self.tally.check(old == new, f"input {number} of seed {self.seed}: {described(old)}; {described(new)}\n  again: {again}")
+        self.tally.check(
+            old == new, f"input {number} of seed {self.seed}: {described(old)}; {described(new)}\n  again: {again}"
+        )
 
     def given(self, rng: random.Random) -> Input:
         given = random_input(rng)
         data = given.data
-        for changed, share in ((with_other_ends, 0.2), (with_late_row, 0.1), (across_room, 0.2), (with_long_line, 0.02)):
+        for changed, share in (
+            (with_other_ends, 0.2),
+            (with_late_row, 0.1),
+            (across_room, 0.2),
+            (with_long_line, 0.02),
+        ):
             if rng.random() < share:
                 data = changed(rng, data)
         return Input(data, without_threads(given.options))

@@ -1,9 +1,11 @@
 #!/usr/bin/env python3
-"""Shows that the documents speak of what there is: a name in backticks is in the code, a path and a link lead to a file, in commands too, each block of code of
-docs/TUTORIAL.md and docs/APPLICATIONS.md is in the file named above it, each definition that the pages of definitions (docs/DEFINITIONS.md,
-docs/ENGINE_DEFINITIONS.md) quote is, except for layout, that of the file named above it, each name in a table with a column of files is in a file beside it, each
-crate and each law has its place, what bench/run and bench/applications wrote has the figures of their tables, each picture is what its script draws and can be
-seen in a light and a dark theme, and the pages of users and the front are not too long.
+"""Shows that the documents speak of what there is: a name in backticks is in the code, a path and a link lead to a
+file, in commands too, each block of code of docs/TUTORIAL.md and docs/APPLICATIONS.md is in the file named above
+it, each definition that the pages of definitions (docs/DEFINITIONS.md, docs/ENGINE_DEFINITIONS.md) quote is,
+except for layout, that of the file named above it, each name in a table with a column of files is in a file beside
+it, each crate and each law has its place, what bench/run and bench/applications wrote has the figures of their
+tables, each picture is what its script draws and can be seen in a light and a dark theme, and the pages of users, the
+front and the lines of scripts are not too long.
 
     tests/documents.py
 """
@@ -40,12 +42,27 @@ WIDE = {"crates.svg", "contended.svg"}
 # Pictures that are drawn of examples.
 DRAWN = {"contended.svg": ("examples/timeline.py", "examples/contended.history", "examples/contended.report")}
 # The pages of users, and how many words they and the first of them may have.
-OF_USERS = ("README", "docs/GUARANTEES", "docs/EXAMPLE", "docs/PERFORMANCE", "docs/FORMATS", "docs/TUTORIAL", "docs/WINDOWS", "docs/CHECKING", "docs/LOADS",
-            "docs/OUTGROWING", "docs/SERVING", "docs/APPLICATIONS")
+OF_USERS = (
+    "README",
+    "docs/GUARANTEES",
+    "docs/EXAMPLE",
+    "docs/PERFORMANCE",
+    "docs/FORMATS",
+    "docs/TUTORIAL",
+    "docs/WINDOWS",
+    "docs/CHECKING",
+    "docs/LOADS",
+    "docs/OUTGROWING",
+    "docs/SERVING",
+    "docs/APPLICATIONS",
+)
 MOST_WORDS, MOST_OF_THE_FIRST = 16_000, 1_200
 # A page tells how many lines of code a script has: those with more than a comment, a docstring or what lays code out.
 LINES = (DOCUMENTS / "SERVING.md", re.compile(r"(\d+) lines of Python code"), ROOT / "examples" / "front.py")
 NO_CODE = {tokenize.COMMENT, tokenize.NL, tokenize.NEWLINE, tokenize.INDENT, tokenize.DEDENT, tokenize.ENDMARKER}
+
+# How many columns a line of Python may have, and in which folders.
+MOST_COLUMNS, OF_LINES = 120, ("tests",)
 
 NAME = re.compile(r"[A-Za-z_]\w*(::[A-Za-z_]\w*)*(\(\))?|--[a-z]+")
 # A path from the top, perhaps after steps up.
@@ -60,7 +77,9 @@ def documents() -> list[Path]:
 
 
 def files() -> Iterator[Path]:
-    return (path for path in ROOT.rglob("*") if path.is_file() and not {MADE, ".git"} & set(path.relative_to(ROOT).parts))
+    return (
+        path for path in ROOT.rglob("*") if path.is_file() and not {MADE, ".git"} & set(path.relative_to(ROOT).parts)
+    )
 
 
 @cache
@@ -166,7 +185,9 @@ def shown_files(tally: Tally) -> None:
     """inputs and outputs that pages show whole"""
     for document, paths in SHOWN.items():
         for path in paths:
-            tally.check(indent((ROOT / path).read_text(), "    ") in document.read_text(), f"{document.name} shows {path}")
+            tally.check(
+                indent((ROOT / path).read_text(), "    ") in document.read_text(), f"{document.name} shows {path}"
+            )
 
 
 def quoted_definitions(tally: Tally) -> None:
@@ -229,7 +250,10 @@ def pictures(tally: Tally) -> None:
     drawn |= {script.with_suffix(".svg").name: [script, "--print"] for script in PICTURES.glob("*.py")}
     for name, words in drawn.items():
         got = run([sys.executable, "-B", *words])
-        tally.check(got.status == 0 and got.stdout == (PICTURES / name).read_bytes(), f"{words[0].name} draws {name}: {got.stderr!r}")
+        tally.check(
+            got.status == 0 and got.stdout == (PICTURES / name).read_bytes(),
+            f"{words[0].name} draws {name}: {got.stderr!r}",
+        )
     for path in PICTURES.glob("*.svg"):
         tally.check(path.name in drawn, f"{path.name} has a script")
 
@@ -240,37 +264,78 @@ def themes(tally: Tally) -> None:
         picture = path.read_text()
         wrong = list(faults(picture))
         tally.check(not wrong, f"{path.name}: {'; '.join(wrong)}")
-        tally.check(path.name in WIDE or smallest(picture) >= LEAST, f"{path.name}: the smallest words have {smallest(picture):.1f} pixels, and need {LEAST}")
+        tally.check(
+            path.name in WIDE or smallest(picture) >= LEAST,
+            f"{path.name}: the smallest words have {smallest(picture):.1f} pixels, and need {LEAST}",
+        )
 
 
 def lengths(tally: Tally) -> None:
     """lengths of the pages of users"""
     # Marks of tables and lists are no words.
     words = {page: len(re.findall(r"\S*\w\S*", (ROOT / f"{page}.md").read_text())) for page in OF_USERS}
-    tally.check(words[OF_USERS[0]] <= MOST_OF_THE_FIRST, f"{OF_USERS[0]} has {words[OF_USERS[0]]} words, of at most {MOST_OF_THE_FIRST}")
-    tally.check(sum(words.values()) <= MOST_WORDS, f"the pages of users have {sum(words.values())} words, of at most {MOST_WORDS}")
+    tally.check(
+        words[OF_USERS[0]] <= MOST_OF_THE_FIRST,
+        f"{OF_USERS[0]} has {words[OF_USERS[0]]} words, of at most {MOST_OF_THE_FIRST}",
+    )
+    tally.check(
+        sum(words.values()) <= MOST_WORDS,
+        f"the pages of users have {sum(words.values())} words, of at most {MOST_WORDS}",
+    )
 
 
 def lines_of_scripts(tally: Tally) -> None:
     """lines of examples/front.py, at most as many as docs/SERVING.md tells"""
     page, told, script = LINES
     most, count = told.search(page.read_text()), lines_of_code(script)
-    tally.check(most is not None and count <= int(most[1]), f"{script.name} has {count} lines of code, and {page.name} tells {most}")
+    tally.check(
+        most is not None and count <= int(most[1]),
+        f"{script.name} has {count} lines of code, and {page.name} tells {most}",
+    )
 
 
 def lines_of_code(script: Path) -> int:
     """How many lines of a script have code: without empty lines, comments and docstrings."""
-    docs = [node for node in ast.walk(ast.parse(script.read_text())) if isinstance(node, ast.Expr) and isinstance(node.value, ast.Constant)]
+    docs = [
+        node
+        for node in ast.walk(ast.parse(script.read_text()))
+        if isinstance(node, ast.Expr) and isinstance(node.value, ast.Constant)
+    ]
     with script.open("rb") as text:
         _, *tokens = tokenize.tokenize(text.readline)
     lines = {line for token in tokens if token.type not in NO_CODE for line in range(token.start[0], token.end[0] + 1)}
     return len(lines - {line for doc in docs for line in range(doc.lineno, doc.end_lineno + 1)})
 
 
+def lengths_of_lines(tally: Tally) -> None:
+    """lines of scripts in Python, at most 120 columns"""
+    for path in sorted(filter(is_python, files())):
+        name = path.relative_to(ROOT)
+        if name.parts[0] in OF_LINES:
+            lines = enumerate(path.read_text().splitlines(), 1)
+            long = [f"{name}:{number} has {len(line)} columns" for number, line in lines if len(line) > MOST_COLUMNS]
+            tally.check(not long, f"a line has at most {MOST_COLUMNS} columns: {'; '.join(long)}")
+
+
+def is_python(path: Path) -> bool:
+    return path.suffix == ".py" or not path.suffix and path.read_bytes().startswith(b"#!/usr/bin/env python3\n")
+
+
 def main() -> None:
     tally = Tally()
     of_names = (names_and_paths, paths_in_commands, links, crates, laws, files_of_specs)
-    of_what_is_shown = (blocks_of_code, shown_files, quoted_definitions, tables, figures, pictures, themes, lengths, lines_of_scripts)
+    of_what_is_shown = (
+        blocks_of_code,
+        shown_files,
+        quoted_definitions,
+        tables,
+        figures,
+        pictures,
+        themes,
+        lengths,
+        lines_of_scripts,
+        lengths_of_lines,
+    )
     for check in (*of_names, *of_what_is_shown):
         tally.tell(check, tally)
     tally.finish()

@@ -1,6 +1,6 @@
 #!/usr/bin/env python3
-"""Shows what the built program does where its ends fail, as docs/FORMATS.md says: output that cannot be written, input that cannot be read, threads
-that do not start, a small stack.
+"""Shows what the built program does where its ends fail, as docs/FORMATS.md says: output that cannot be written, input
+that cannot be read, threads that do not start, a small stack.
 
     tests/ends.py [PROGRAM]
 
@@ -40,7 +40,9 @@ def full_disks(tester: AuctionTester) -> None:
         return tester.tally.skip(full_disks.__doc__, f"there is no {FULL}")
     with open(FULL, "wb") as full:
         for options in each_output():
-            tester.same(f"to {FULL} with {options.words()}", tester.run(tester.example, options, stdout=full), unwritten(b""))
+            tester.same(
+                f"to {FULL} with {options.words()}", tester.run(tester.example, options, stdout=full), unwritten(b"")
+            )
         tester.same(f"errors to {FULL}", tester.run(b"x", stderr=full), Outcome(2, b"", b""))
         tester.same(f"nothing to {FULL}", tester.run(b"", stdout=full), Outcome(0, b"", b""))
 
@@ -84,7 +86,11 @@ def file_size_limits(tester: AuctionTester) -> None:
             got = tester.run(tester.example, options, stdout=limited, preexec_fn=lambda: limit_file_size(most, handler))
         cut = unwritten(b"") if handler == signal.SIG_IGN else signalled
         wanted = cut if most < len(text) else Outcome(0, b"", b"")
-        tester.same(f"to a file of {most} bytes, {handler.name}", replace(got, stdout=tester.output.read_bytes()), replace(wanted, stdout=text[:most]))
+        tester.same(
+            f"to a file of {most} bytes, {handler.name}",
+            replace(got, stdout=tester.output.read_bytes()),
+            replace(wanted, stdout=text[:most]),
+        )
 
 
 def limit_file_size(most: int, handler: signal.Handlers) -> None:
@@ -150,7 +156,9 @@ SHORT_PHASES = replace(LONG_PHASES, joined=64, split=64)
 
 def views(count: int, users: int = LONG_PHASES.shards) -> bytes:
     """So many views of each worker, of so many users: each is in a shard of its own, if there are as many."""
-    return b"".join(b"%d,viewuser,%d\n" % (worker, index % users) for worker in range(LONG_PHASES.workers) for index in range(count))
+    return b"".join(
+        b"%d,viewuser,%d\n" % (worker, index % users) for worker in range(LONG_PHASES.workers) for index in range(count)
+    )
 
 
 def views_seen(count: int) -> Outcome:
@@ -160,48 +168,79 @@ def views_seen(count: int) -> Outcome:
 
 @with_shim
 def refused_threads(tester: AuctionTester) -> None:
-    """no more than n threads, for each n: a long phase needs one for each worker but the first; a short one, one on few shards and a long input none"""
+    """no more than n threads, for each n: a long phase needs one for each worker but the first; a short one, one on few
+    shards and a long input none"""
     for most in range(NEEDED):
-        tester.same(f"{most} threads", tester.run_cut("THREADS_AT_MOST", most, views(OF_EACH_WORKER), LONG_PHASES), UNSTARTED)
+        tester.same(
+            f"{most} threads", tester.run_cut("THREADS_AT_MOST", most, views(OF_EACH_WORKER), LONG_PHASES), UNSTARTED
+        )
     got = tester.run_cut("THREADS_AT_MOST", NEEDED, views(OF_EACH_WORKER), LONG_PHASES)
     tester.same(f"{NEEDED} threads", got, views_seen(OF_EACH_WORKER))
     for count in (0, 1, SHORT):
-        tester.same(f"{count} requests of each", tester.run_cut("THREADS_AT_MOST", 0, views(count), LONG_PHASES), views_seen(count))
-    tester.same(f"{SHORT + 1} requests of each", tester.run_cut("THREADS_AT_MOST", 0, views(SHORT + 1), LONG_PHASES), UNSTARTED)
+        tester.same(
+            f"{count} requests of each",
+            tester.run_cut("THREADS_AT_MOST", 0, views(count), LONG_PHASES),
+            views_seen(count),
+        )
+    tester.same(
+        f"{SHORT + 1} requests of each", tester.run_cut("THREADS_AT_MOST", 0, views(SHORT + 1), LONG_PHASES), UNSTARTED
+    )
     for users in (1, 2):
         got = tester.run_cut("THREADS_AT_MOST", 0, views(OF_EACH_WORKER, users), LONG_PHASES)
         tester.same(f"long phases on {users} shards", got, views_seen(OF_EACH_WORKER))
-    tester.same("long phases on 3 shards", tester.run_cut("THREADS_AT_MOST", 0, views(OF_EACH_WORKER, 3), LONG_PHASES), UNSTARTED)
+    tester.same(
+        "long phases on 3 shards",
+        tester.run_cut("THREADS_AT_MOST", 0, views(OF_EACH_WORKER, 3), LONG_PHASES),
+        UNSTARTED,
+    )
     for most in range(NEEDED):
         got = tester.run_cut("THREADS_AT_MOST", most, views(OF_EACH_WORKER), SHORT_PHASES)
         tester.same(f"short phases of a long input, and {most} threads", got, views_seen(OF_EACH_WORKER))
 
 
-# Views of these users in turn, half of which are in one shard of at most 4, and of 1, 2, 4 or 8: a user's shard is the remainder of its number.
+# Views of these users in turn, half of which are in one shard of at most 4, and of 1, 2, 4 or 8: a user's shard is
+# the remainder of its number.
 TO_FOUR, TO_EIGHT = (0, 1, 4, 2), (0, 8, 0, 8, 3, 4, 5, 6)
 
 
 @with_shim
 def shards_for_speed(tester: AuctionTester) -> None:
-    """--fast has four shards for each worker, unless they are given: long phases of two workers whose requests meet in one of eight, or of four, and no thread"""
+    """--fast has four shards for each worker, unless they are given: long phases of two workers whose requests meet in
+    one of eight, or of four, and no thread"""
     workers = range(2)
     quotas = ("--workers=2", f"--joined={LONG_PHASES.joined}", f"--split={LONG_PHASES.split}")
-    seen = Outcome(0, b"".join(b"%d,%d,%s" % (worker, index, SEEN) for worker in workers for index in range(OF_EACH_WORKER)), b"")
-    for users, shards, wanted in ((TO_FOUR, (), UNSTARTED), (TO_EIGHT, (), seen), (TO_FOUR, ("--shards=4",), seen), (TO_EIGHT, ("--shards=5",), UNSTARTED)):
-        data = b"".join(b"%d,viewuser,%d\n" % (worker, users[index % len(users)]) for worker in workers for index in range(OF_EACH_WORKER))
+    seen = Outcome(
+        0, b"".join(b"%d,%d,%s" % (worker, index, SEEN) for worker in workers for index in range(OF_EACH_WORKER)), b""
+    )
+    for users, shards, wanted in (
+        (TO_FOUR, (), UNSTARTED),
+        (TO_EIGHT, (), seen),
+        (TO_FOUR, ("--shards=4",), seen),
+        (TO_EIGHT, ("--shards=5",), UNSTARTED),
+    ):
+        data = b"".join(
+            b"%d,viewuser,%d\n" % (worker, users[index % len(users)])
+            for worker in workers
+            for index in range(OF_EACH_WORKER)
+        )
         got = run([tester.program, "--fast", *quotas, *shards], data, env=tester.limited({"THREADS_AT_MOST": 0}))
         tester.same(f"--fast {shards} and views of users {users}", got, wanted)
 
 
 @with_shim
 def threads_for_a_hot_item(tester: AuctionTester) -> None:
-    """bids of all workers on one item and no thread: a long split phase needs one if the item is hot, and none if nothing may be"""
+    """bids of all workers on one item and no thread: a long split phase needs one if the item is
+    hot, and none if nothing may be"""
     options = replace(LONG_PHASES, joined=1, threshold=1)
     workers, count = range(options.workers), options.joined + options.split
     bids = b"0,+item,0,0,Vase,10,100,1\n" + b"".join(b"%d,bid,1,0.0,10,5\n" % worker * count for worker in workers)
-    replies = b"".join(b"%d,%d,bid %d.%d\n" % (worker, index, worker, index) for worker in workers for index in range(count))
+    replies = b"".join(
+        b"%d,%d,bid %d.%d\n" % (worker, index, worker, index) for worker in workers for index in range(count)
+    )
     tester.same("a hot item", tester.run_cut("THREADS_AT_MOST", 0, bids, options), UNSTARTED)
-    tester.same("nothing hot", tester.run_cut("THREADS_AT_MOST", 0, bids, replace(options, hot=0)), Outcome(0, replies, b""))
+    tester.same(
+        "nothing hot", tester.run_cut("THREADS_AT_MOST", 0, bids, replace(options, hot=0)), Outcome(0, replies, b"")
+    )
 
 
 def users_without_threads(tester: AuctionTester) -> None:
@@ -240,13 +279,18 @@ def small_stacks(tester: AuctionTester) -> None:
     options, log = Options(workers=2, split=2), tester.folder / "small"
     answered, rows = expected(tester.example, options), expected(tester.example, replace(options, rows=True)).stdout
     logged = ("--live", "1", "--log", log)
-    for words, data, wanted in (((), tester.example, answered), (logged, tester.example, answered), (logged, VIEW, Outcome(0, b"0,0," + SEEN, b""))):
+    for words, data, wanted in (
+        ((), tester.example, answered),
+        (logged, tester.example, answered),
+        (logged, VIEW, Outcome(0, b"0,0," + SEEN, b"")),
+    ):
         got = run([tester.program, *options.words(), *words], data, env={}, preexec_fn=limit_stack)
         tester.same(f"a stack of 128 KB, {words}", got, wanted)
     tester.tally.check(log.read_bytes() == rows, "the log of a small stack")
 
 
-# Linux leaves up to 8 KB of a stack free, at random in each run, unless addresses are fixed. An environment is on the stack, too.
+# Linux leaves up to 8 KB of a stack free, at random in each run, unless addresses are fixed. An
+# environment is on the stack, too.
 FIXED_ADDRESSES, LEFT_FREE = 0x0040000, 8 << 10
 
 

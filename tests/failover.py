@@ -1,12 +1,13 @@
 #!/usr/bin/env python3
-"""Shows that the auction of examples/sql on three PostgreSQL servers keeps what it has acknowledged over a failover, and that the referee sees what is lost
-otherwise.
+"""Shows that the auction of examples/sql on three PostgreSQL servers keeps what it has acknowledged over a failover,
+and that the referee sees what is lost otherwise.
 
     tests/failover.py [PROGRAM [CHECKER]]
 
-Clients (examples/sql/perform.py --keep) execute a load while one standby falls behind, the primary is killed with signal 9, and the other takes over
-(examples/sql/three.sh). If commits wait for a standby, five failovers lose nothing that was acknowledged, the referee accepts each history, and the tables have
-the views of the program that is opened with the rows of the history. If they do not wait, and both standbys fall behind, the referee names a request that was
+Clients (examples/sql/perform.py --keep) execute a load while one standby falls behind, the primary is killed with
+signal 9, and the other takes over (examples/sql/three.sh). If commits wait for a standby, five failovers lose nothing
+that was acknowledged, the referee accepts each history, and the tables have the views of the program that is opened
+with the rows of the history. If they do not wait, and both standbys fall behind, the referee names a request that was
 acknowledged and is lost. Without PostgreSQL nothing is tried.
 """
 
@@ -25,7 +26,20 @@ from typing import Callable, Iterator
 import postgres
 from lib.load_model import Plan, load_of
 from lib.model import Outcome
-from postgres import ACCEPTED, HOLD, MARKET, NUMBERED, SQL, Kept, compared, found, program_views, rows_after, said_by, wait_for
+from postgres import (
+    ACCEPTED,
+    HOLD,
+    MARKET,
+    NUMBERED,
+    SQL,
+    Kept,
+    compared,
+    found,
+    program_views,
+    rows_after,
+    said_by,
+    wait_for,
+)
 from lib.program import Tally, described, run, servers_folder, two_programs
 
 FAILOVERS = 5
@@ -35,7 +49,10 @@ LONG = replace(LOAD, requests=3 * REQUESTS)
 VIEWS = SQL / "lines.sql"
 HEAR_NOTHING = "ALTER SYSTEM SET primary_conninfo = ''; SELECT pg_reload_conf();"
 # The process that a primary began with, and those that send to its standbys.
-PRIMARY, SENDERS = "SELECT split_part(pg_read_file('postmaster.pid'), chr(10), 1);", "SELECT pid FROM pg_stat_replication;"
+PRIMARY, SENDERS = (
+    "SELECT split_part(pg_read_file('postmaster.pid'), chr(10), 1);",
+    "SELECT pid FROM pg_stat_replication;",
+)
 # On a busy machine a load may end before the primary dies: so often another is tried.
 TRIES = 20
 LOST = re.compile(rb"[0-7],[0-9]+ stands in no line\n")
@@ -60,7 +77,8 @@ class Servers:
         return said_by(f"psql, asked {text!r}", words, text).splitlines()
 
     def fail_over(self, data: bytes, moment: int, kill: Callable[[Future], None]) -> Outcome:
-        """The history of an input that a new auction executes. The primary is killed after so many requests; from half of them on one standby hears nothing."""
+        """The history of an input that a new auction executes. The primary is killed after so many requests; from half
+        of them on one standby hears nothing."""
         self.ask("SET client_min_messages = warning; DROP SCHEMA public CASCADE; CREATE SCHEMA public;")
         self.primary = int(self.ask(PRIMARY)[0])
         words = [sys.executable, "-B", SQL / "perform.py", *MARKET, "--keep", "--database", self.address]
@@ -79,7 +97,8 @@ class Servers:
         os.kill(self.primary, signal.SIGKILL)
 
     def kill_behind(self, clients: Future) -> None:
-        """Kills the primary while no standby hears. Of WORKERS + 1 requests begun meanwhile one worker has two, so the first of these was acknowledged."""
+        """Kills the primary while no standby hears. Of WORKERS + 1 requests begun meanwhile one worker has two, so the
+        first of these was acknowledged."""
         senders = [int(pid) for pid in self.ask(SENDERS)]
         for sender in senders:
             os.kill(sender, signal.SIGSTOP)
@@ -126,11 +145,21 @@ def kept(servers: Servers, program: Path, checker: Path, rng: random.Random, tal
     for _, (data, moment) in zip(range(TRIES), inputs(rng, LOAD)):
         got = servers.fail_over(data, moment, servers.kill)
         told = Kept.of(got)
-        tally.check(got.status == 0 and told.acknowledged == REQUESTS and told.lost == 0, f"failover {number}: {described(got)}")
+        tally.check(
+            got.status == 0 and told.acknowledged == REQUESTS and told.lost == 0, f"failover {number}: {described(got)}"
+        )
         if got.status:
             break
-        tally.same(f"the history of failover {number}", found(checker, servers.folder, WORKERS, data, got.stdout), ACCEPTED)
-        tally.check(*compared(f"failover {number}", program_views(program, rows_after(data, got.stdout)), servers.ask(VIEWS.read_text())))
+        tally.same(
+            f"the history of failover {number}", found(checker, servers.folder, WORKERS, data, got.stdout), ACCEPTED
+        )
+        tally.check(
+            *compared(
+                f"failover {number}",
+                program_views(program, rows_after(data, got.stdout)),
+                servers.ask(VIEWS.read_text()),
+            )
+        )
         number += told.broken > 0
         if number == FAILOVERS:
             break
@@ -143,15 +172,21 @@ def lost(servers: Servers, _program: Path, checker: Path, rng: random.Random, ta
     for _, (data, moment) in zip(range(TRIES), inputs(rng, LONG)):
         got = servers.fail_over(data, moment, servers.kill_behind)
         verdict = found(checker, servers.folder, WORKERS, data, got.stdout)
-        tally.check((verdict == ACCEPTED) == (Kept.of(got).lost == 0), f"asynchronous: {described(got)}, {described(verdict)}")
+        tally.check(
+            (verdict == ACCEPTED) == (Kept.of(got).lost == 0), f"asynchronous: {described(got)}, {described(verdict)}"
+        )
         if verdict != ACCEPTED:
             break
-    tally.check(verdict.status == 6 and LOST.fullmatch(verdict.stdout) is not None, f"asynchronous: {described(verdict)}")
+    tally.check(
+        verdict.status == 6 and LOST.fullmatch(verdict.stdout) is not None, f"asynchronous: {described(verdict)}"
+    )
     servers.three("sync")
     data, moment = next(inputs(rng, LOAD))
     got = servers.fail_over(data, moment, servers.kill)
     tally.check(Kept.of(got).lost == 0, f"synchronous again: {described(got)}")
-    tally.same("the history of synchronous servers", found(checker, servers.folder, WORKERS, data, got.stdout), ACCEPTED)
+    tally.same(
+        "the history of synchronous servers", found(checker, servers.folder, WORKERS, data, got.stdout), ACCEPTED
+    )
 
 
 def main() -> None:

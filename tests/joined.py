@@ -1,11 +1,13 @@
 #!/usr/bin/env python3
-"""Shows that the logs of several processes, joined by `cat`, are the log of one auction, if each process has its own workers and items.
+"""Shows that the logs of several processes, joined by `cat`, are the log of one auction, if each process
+has its own workers and items.
 
     tests/joined.py [PROGRAM [CHECKER]]
 
-A load is dealt to four processes: each executes the requests on the items of four workers, as these workers. Their rows, joined, open an auction with the same
-rows, byte for byte. Joined in another order they open one with the same categories, users and items, and so do the rows of one process that executes all.
-The referee accepts their joined histories but for views of categories and users, of which each process knows only its own part; there it names the line.
+A load is dealt to four processes: each executes the requests on the items of four workers, as these workers. Their
+rows, joined, open an auction with the same rows, byte for byte. Joined in another order they open one with the same
+categories, users and items, and so do the rows of one process that executes all. The referee accepts their joined
+histories but for views of categories and users, of which each process knows only its own part; there it names the line.
 """
 
 import random
@@ -95,17 +97,29 @@ def joined_rows(trial: Trial, shares: list[Share]) -> None:
     views = views_of_items(whole)
     wanted = trial.closing(whole, views)
     for order in ((3, 2, 1, 0), (2, 0, 3, 1)):
-        trial.tally.check(trial.closing(b"".join(rows[process] for process in order), views) == wanted, f"rows in the order {order}")
+        trial.tally.check(
+            trial.closing(b"".join(rows[process] for process in order), views) == wanted, f"rows in the order {order}"
+        )
     of_one = trial.auction(text_of(joined(share.given for share in shares)), "--rows").stdout
-    trial.tally.check(len(of_one.splitlines()) == len(whole.splitlines()) and trial.closing(of_one, views) == wanted, "rows of one process")
+    trial.tally.check(
+        len(of_one.splitlines()) == len(whole.splitlines()) and trial.closing(of_one, views) == wanted,
+        "rows of one process",
+    )
     log = trial.folder / "joined"
     log.write_bytes(whole)
-    trial.tally.same("the rows as a log", trial.auction(views, "--log", log), Outcome(0, wanted[: wanted.index(b"phases ")], b""))
+    trial.tally.same(
+        "the rows as a log", trial.auction(views, "--log", log), Outcome(0, wanted[: wanted.index(b"phases ")], b"")
+    )
 
 
 def views_of_items(rows: bytes) -> bytes:
     owners = Counter(line.split(b",")[0].decode() for line in rows.splitlines() if b",+item," in line)
-    return text_of(f"0,{kind},{worker}.{serial}" for worker, count in owners.items() for serial in range(count) for kind in ("viewitem", "viewbids"))
+    return text_of(
+        f"0,{kind},{worker}.{serial}"
+        for worker, count in owners.items()
+        for serial in range(count)
+        for kind in ("viewitem", "viewbids")
+    )
 
 
 def joined_histories(trial: Trial, shares: list[Share]) -> None:
@@ -117,12 +131,16 @@ def joined_histories(trial: Trial, shares: list[Share]) -> None:
     got = trial.verdict(records, history)
     trial.tally.check(got.status == 5 and PART.fullmatch(got.stdout) is not None, f"all together: {described(got)}")
     kept_records, kept_history = without_views_of_all(records, history)
-    trial.tally.check(len(records) // 2 < len(kept_history) < len(history), f"{len(kept_history)} requests without views of categories and users")
+    trial.tally.check(
+        len(records) // 2 < len(kept_history) < len(history),
+        f"{len(kept_history)} requests without views of categories and users",
+    )
     trial.tally.same("without views of categories and users", trial.verdict(kept_records, kept_history), ACCEPTED)
 
 
 def without_views_of_all(records: list[str], history: list[str]) -> tuple[list[str], list[str]]:
-    """Records and history without views of categories and users, and with the indexes that the other requests then have."""
+    """Records and history without views of categories and users, and with the indexes that
+    the other requests then have."""
     places: dict[tuple[str, int], int] = {}
     asked, kept = Counter(), Counter()
     for worker, kind in (record.split(",", 2)[:2] for record in records if ",+" not in record):
@@ -131,7 +149,10 @@ def without_views_of_all(records: list[str], history: list[str]) -> tuple[list[s
             kept[worker] += 1
         asked[worker] += 1
     lines = (line.split(" ", 4) for line in history)
-    moved = [(phase, number, worker, places.get((worker, int(index))), reply) for phase, number, worker, index, reply in lines]
+    moved = [
+        (phase, number, worker, places.get((worker, int(index))), reply)
+        for phase, number, worker, index, reply in lines
+    ]
     rest = [record for record in records if record.split(",", 2)[1] not in OF_ALL]
     return rest, [" ".join(map(str, line)) for line in moved if line[3] is not None]
 

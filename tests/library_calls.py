@@ -1,13 +1,16 @@
 #!/usr/bin/env python3
-"""Shows what calls of the library answer where memory is refused: a fault that is named for it, or what they answer with ample memory.
+"""Shows what calls of the library answer where memory is refused: a fault that is named for it, or what
+they answer with ample memory.
 
     tests/library_calls.py [TESTS ..]
 
-The tests `calls` of the crates engine_tests, phase_tests, application_tests and example_ledger make the calls and print a line `CALL: ANSWER` for each;
-tests/library_calls.txt has their lines with ample memory. Each of their allocations is refused in turn, alone and with all that come after it. A begin and a store that were refused are
-asked once more, and go on with memory as if they had not been: the first store of a permit has number 1. Any other call that is refused ends its test,
-which tells the fault. A refused close leaves the history of the phases before. A refused publish is refused for good, and the window shows what it
-showed. Between two looks for memory a view of an unknown user is answered, as the first request of a permit and as a later one.
+The tests `calls` of the crates engine_tests, phase_tests, application_tests and example_ledger make the calls and print
+a line `CALL: ANSWER` for each; tests/library_calls.txt has their lines with ample memory. Each of their allocations is
+refused in turn, alone and with all that come after it. A begin and a store that were refused are asked once more, and
+go on with memory as if they had not been: the first store of a permit has number 1. Any other call that is refused ends
+its test, which tells the fault. A refused close leaves the history of the phases before. A refused publish is refused
+for good, and the window shows what it showed. Between two looks for memory a view of an unknown user is answered, as
+the first request of a permit and as a later one.
 """
 
 import tempfile
@@ -116,7 +119,11 @@ def refused_calls(told: list[Line], ample: list[Line]) -> list[str]:
         if line == wanted:
             continue
         require(line.call == wanted.call and line.is_fault(), f"wanted {wanted}: {line}")
-        left = left_after_the_end(left, told[:place]) if has_ended else left_after_refusal(wanted, left, told[:place], line.call in refused)
+        left = (
+            left_after_the_end(left, told[:place])
+            if has_ended
+            else left_after_refusal(wanted, left, told[:place], line.call in refused)
+        )
         refused.append(line.call)
     require(not left, f"the lines end before {left[:1]}")
     return refused
@@ -168,8 +175,13 @@ class Sweep:
         for call in FAULTS:
             self.tally.check(self.refused[call] > 0, f"{call} was never refused")
             print(f"{self.refused[call]:5} times refused: {call}")
-        self.tally.check(self.answered_without_memory > 0, "no view of an unknown user was made while memory was refused")
-        print(f"{self.answered_without_memory:5} times a view of an unknown user was answered between two looks for memory that were refused")
+        self.tally.check(
+            self.answered_without_memory > 0, "no view of an unknown user was made while memory was refused"
+        )
+        print(
+            f"{self.answered_without_memory:5} times a view of an unknown user was answered"
+            " between two looks for memory that were refused"
+        )
 
 
 def tests_of_calls(program: Path) -> set[str]:
@@ -197,7 +209,12 @@ def try_each(programs: list[Path], tally: Tally) -> None:
 
 def main() -> None:
     words = parser_of(__doc__)
-    words.add_argument("tests", nargs="*", type=executable, default=[built_tests(name) for name in ("engine_tests", "phase_tests", "application_tests", "example_ledger")])
+    words.add_argument(
+        "tests",
+        nargs="*",
+        type=executable,
+        default=[built_tests(name) for name in ("engine_tests", "phase_tests", "application_tests", "example_ledger")],
+    )
     tally = Tally()
     try_each(words.parse_args().tests, tally)
     tally.finish()

@@ -1,10 +1,11 @@
 #!/usr/bin/env python3
-"""Shows what the built program makes of odd bytes, of numbers at every limit, of 16 workers on one item, and of as many records as there may be and one more, as
-docs/FORMATS.md says.
+"""Shows what the built program makes of odd bytes, of numbers at every limit, of 16 workers on one item, and of as many
+records as there may be and one more, as docs/FORMATS.md says.
 
     tests/limits.py [PROGRAM]
 
-A run that leaves something running, or takes longer than ten minutes, has failed. Needs 4 GB of memory and 1 GB for temporary files.
+A run that leaves something running, or takes longer than ten minutes, has failed. Needs 4 GB of
+memory and 1 GB for temporary files.
 """
 
 import re
@@ -31,7 +32,11 @@ def examples(tester: AuctionTester) -> None:
     for _ in range(20):
         tester.same("the contended example", tester.run(contended, both), Outcome(0, history, b""))
     report = (EXAMPLES / "contended.report").read_bytes()
-    tester.same("the contended example, with a report", tester.run(contended, replace(both, report=True)), Outcome(0, history + report, b""))
+    tester.same(
+        "the contended example, with a report",
+        tester.run(contended, replace(both, report=True)),
+        Outcome(0, history + report, b""),
+    )
 
 
 def fronts(tester: AuctionTester) -> None:
@@ -72,20 +77,35 @@ def quotes(tester: AuctionTester) -> None:
         seen = b"0,1,viewitem seller=0 category=0 start=10 closes=100 highest=- bidder=- bids=0 left=1 name=" + name
         tester.same(f"the name {written!r}", got, Outcome(0, b"0,0,item 0.0\n" + seen + b"\n", b""))
     tester.same("a quote that is not closed", tester.run(b'0,viewuser,"0'), Outcome(0, b"0,0," + SEEN, b""))
-    tester.same("a line end in quotes", tester.run(b'0,viewuser,"0\n0,viewuser,0\n'), fault(2, "record 1: not a number"))
+    tester.same(
+        "a line end in quotes", tester.run(b'0,viewuser,"0\n0,viewuser,0\n'), fault(2, "record 1: not a number")
+    )
 
 
 def million_empty_lines(tester: AuctionTester) -> None:
     """a million empty lines"""
     for end in (b"\n", b"\r\n", b"\r"):
         tester.same(f"a million {end!r}", tester.run(end * MILLION), Outcome(0, b"", b""))
-        tester.same(f"a million {end!r} before a record", tester.run(end * MILLION + VIEW), Outcome(0, b"0,0," + SEEN, b""))
-        tester.same(f"a million {end!r} before a fault", tester.run(end * MILLION + b"x"), fault(2, "record 1: not a number"))
+        tester.same(
+            f"a million {end!r} before a record", tester.run(end * MILLION + VIEW), Outcome(0, b"0,0," + SEEN, b"")
+        )
+        tester.same(
+            f"a million {end!r} before a fault", tester.run(end * MILLION + b"x"), fault(2, "record 1: not a number")
+        )
 
 
 def every_byte(tester: AuctionTester) -> None:
     """every byte at every kind of place"""
-    places = (b"%s", b"%s,viewuser,0", b"0,%s,0", b"0,viewuser,%s", b'0,viewuser,"%s"', b"0,item,0,0,a%sb,1,2,3", b'0,item,0,0,"a%sb",1,2,3', b"0,viewitem,0%s0")
+    places = (
+        b"%s",
+        b"%s,viewuser,0",
+        b"0,%s,0",
+        b"0,viewuser,%s",
+        b'0,viewuser,"%s"',
+        b"0,item,0,0,a%sb,1,2,3",
+        b'0,item,0,0,"a%sb",1,2,3',
+        b"0,viewitem,0%s0",
+    )
     for place, byte in product(places, range(256)):
         text = place % bytes([byte]) + b"\n"
         tester.as_model(f"{text!r}", text)
@@ -95,8 +115,15 @@ def long_fields(tester: AuctionTester) -> None:
     """fields of 50,000,000 bytes"""
     for byte in (b"1", b"a", b"\xff", b'""'):
         long = byte * (50_000_000 // len(byte))
-        for before, text in ((b'"', "not a number"), (b'0,"', "unknown kind"), (b'0,viewuser,"', "not a number"), (b'0,viewitem,"', "not an item id")):
-            tester.same(f"{before!r} and 50 MB of {byte!r}", tester.run(before + long + b'"\n'), fault(2, f"record 1: {text}"))
+        for before, text in (
+            (b'"', "not a number"),
+            (b'0,"', "unknown kind"),
+            (b'0,viewuser,"', "not a number"),
+            (b'0,viewitem,"', "not an item id"),
+        ):
+            tester.same(
+                f"{before!r} and 50 MB of {byte!r}", tester.run(before + long + b'"\n'), fault(2, f"record 1: {text}")
+            )
         name = b'0,item,0,0,"' + long + b'",1,2,3\n'
         tester.same(f"a name of 50 MB of {byte!r}", tester.run(name), fault(2, "record 1: not a name"))
     fields = b"0,item" + b",1" * 25_000_000
@@ -161,8 +188,9 @@ WORKED_ROWS = {
     b"0,+bid,1,0.0,10,x": "not a number",
 }
 NUMBERS = (
-    b"|0|1|4|5|6|31|32|33|999999|1000000|1000001|4294967295|4294967296|9223372036854775807|9223372036854775808|18446744073709551615|18446744073709551616"
-    b"|99999999999999999999|340282366920938463463374607431768211456|00|01|007|000000000000000000000001|+0|+4|-0|-1|-5|-6| 1|1 |1.0|1_000|0x1|1e3|\xc2\xb2|0.0|0.00"
+    b"|0|1|4|5|6|31|32|33|999999|1000000|1000001|4294967295|4294967296|9223372036854775807|9223372036854775808"
+    b"|18446744073709551615|18446744073709551616|99999999999999999999|340282366920938463463374607431768211456"
+    b"|00|01|007|000000000000000000000001|+0|+4|-0|-1|-5|-6| 1|1 |1.0|1_000|0x1|1e3|\xc2\xb2|0.0|0.00"
     b"|00.0|.|0.|.0|0.0.0|+0.0|0.4294967295|0.4294967296|4294967295.0|4294967296.0|0.18446744073709551616"
 ).split(b"|")
 RECORDS = (
@@ -183,8 +211,14 @@ def worked_faults(tester: AuctionTester) -> None:
         tester.same(f"{record!r}", tester.run(record), fault(2, f"record 1: {text}"))
         tester.same(f"{record!r} third", tester.run(VASE + VIEW + record), fault(2, f"record 3: {text}"))
     for record, text in WORKED_ROWS.items():
-        tester.same(f"{record!r} after a row", tester.run(b"0,+bid,1,0.0,10,5\n" + record), fault(2, f"record 2: {text}"))
-    tester.same("a fault after an empty line", tester.run(VIEW + b"\n" + VIEW + b"0,bid,1,0.0,10"), fault(2, "record 3: wrong number of fields"))
+        tester.same(
+            f"{record!r} after a row", tester.run(b"0,+bid,1,0.0,10,5\n" + record), fault(2, f"record 2: {text}")
+        )
+    tester.same(
+        "a fault after an empty line",
+        tester.run(VIEW + b"\n" + VIEW + b"0,bid,1,0.0,10"),
+        fault(2, "record 3: wrong number of fields"),
+    )
     tester.same("a row after a request", tester.run(VIEW + b"0,+item"), fault(2, "record 2: row after a request"))
     late = tester.run(b"0,+bid,1,0.0,10,5\n1,viewuser,1\n0,+bid,1,0.0,11,5\n", Options(workers=2))
     tester.same("a row after another worker's request", late, fault(2, "record 3: row after a request"))
@@ -222,7 +256,9 @@ OPTION_LIMITS = {
     "users": (0, MILLION),
     "categories": (0, MILLION),
 }
-BEYOND_OPTIONS = tuple(str(number) for number in (2**31, 2**32, 2**32 + 4, 2**63 - 1, 2**63, 2**64 - 1, 2**64, 2**64 + 4)) + ("9" * 100_000,)
+BEYOND_OPTIONS = tuple(
+    str(number) for number in (2**31, 2**32, 2**32 + 4, 2**63 - 1, 2**63, 2**64 - 1, 2**64, 2**64 + 4)
+) + ("9" * 100_000,)
 NO_OPTION_NUMBERS = ("", " 4", "4 ", "-1", "--4", "++4", "4.0", "0x4", "1e1", "four", "4,0", "1_0")
 
 
@@ -271,7 +307,9 @@ def numbers_for_speed(tester: AuctionTester) -> None:
     for given in ({}, {"shards": 1}, {"joined": 5}, {"split": 64}, {"shards": 64, "joined": 100, "split": MILLION}):
         words = [f"--{option}={number}" for option, number in given.items()]
         for line in (["--fast", *words], [*words, "--fast"]):
-            tester.same(f"{line}", run([tester.program, "--history", *line], data), expected(data, replace(fast, **given)))
+            tester.same(
+                f"{line}", run([tester.program, "--history", *line], data), expected(data, replace(fast, **given))
+            )
 
 
 def words_in_both_forms(tester: AuctionTester) -> None:
@@ -293,7 +331,12 @@ def reasons_of_options(tester: AuctionTester) -> None:
     options_are_refused(tester, "--split=x", why=b"invalid value 'x' for '--split")
     options_are_refused(tester, "--windows=1", why=b"unexpected argument '--windows' found")
     for how in ("stop", "answers", "End", "", "en", "end "):
-        options_are_refused(tester, "--live=1", f"--faults={how}", why=f"invalid value '{how}' for '--faults <HOW>'\n  [possible values: answer, end]\n".encode())
+        options_are_refused(
+            tester,
+            "--live=1",
+            f"--faults={how}",
+            why=f"invalid value '{how}' for '--faults <HOW>'\n  [possible values: answer, end]\n".encode(),
+        )
     for words in (["--faults=answer"], ["--faults", "answer", "--live=0"], ["--faults=answer", "--log=unmade"]):
         options_are_refused(tester, *words, why=b"'--faults answer' needs '--live <N>' of at least 1")
     options_are_refused(tester, "--live=1", "--faults", why=b"'--faults <HOW>'")
@@ -311,13 +354,19 @@ def odd_words(tester: AuctionTester) -> None:
 
 
 def help_and_version(tester: AuctionTester) -> None:
-    """help, as docs/FORMATS.md shows it, with each option's limits and what it is without words, its examples, and the version"""
+    """help, as docs/FORMATS.md shows it, with each option's limits and what it is without words,
+    its examples, and the version"""
     said = helps.help_and_version(tester.tally, tester.program, "rubis_auction", "FORMATS.md")
     numbers = {option: (int(least), int(most), int(usual)) for option, least, most, usual in helps.NUMBER.findall(said)}
-    wanted = {option: (*limits, getattr(Options(), option)) for option, limits in OPTION_LIMITS.items()} | {"live": (0, MILLION, 0)}
+    wanted = {option: (*limits, getattr(Options(), option)) for option, limits in OPTION_LIMITS.items()} | {
+        "live": (0, MILLION, 0)
+    }
     tester.tally.check(numbers == wanted, f"what --help says of numbers: {numbers}")
     flags = {option.name for option in fields(Options)} - set(OPTION_LIMITS)
-    tester.tally.check(set(helps.OPTION.findall(said)) == {*wanted, *flags, "fast", "faults", "log", "help", "version"}, "what --help has a line of")
+    tester.tally.check(
+        set(helps.OPTION.findall(said)) == {*wanted, *flags, "fast", "faults", "log", "help", "version"},
+        "what --help has a line of",
+    )
     for name in ("first.csv", "load.csv"):
         (tester.folder / name).write_bytes(tester.example)
     helps.examples(tester.tally, said, "rubis_auction", tester.folder, {"rubis_auction": tester.program})
@@ -325,7 +374,17 @@ def help_and_version(tester: AuctionTester) -> None:
 
 def names(tester: AuctionTester) -> None:
     """names of 0 to 33 bytes"""
-    for name in (*(b"~" * length for length in range(34)), b" ", b" a ", b'"a,b"', b'","', b'""""', b'""""""', b'"' + b'""' * 32 + b'"', b'"' + b'""' * 33 + b'"'):
+    for name in (
+        *(b"~" * length for length in range(34)),
+        b" ",
+        b" a ",
+        b'"a,b"',
+        b'","',
+        b'""""',
+        b'""""""',
+        b'"' + b'""' * 32 + b'"',
+        b'"' + b'""' * 33 + b'"',
+    ):
         item = b"0,item,0,0,%s,10,100,1\n0,viewitem,0.0\n" % name
         for rows in (False, True):
             tester.as_model(f"name {name!r}", item, replace(FEW, rows=rows))
@@ -345,7 +404,9 @@ def hot_objects(tester: AuctionTester) -> None:
     bids = b"".join(b"0,bid,0,0.%d,%d,5\n" % (item, bid + 1) for item in range(70) for bid in range(1 + item % 3))
     views = b"".join(b"0,viewitem,0.%d\n" % item for item in range(70))
     for threshold, hot in product((1, 2, 3, 4), (0, 1, 63, 64)):
-        options = Options(joined=140, split=70, threshold=threshold, hot=hot, users=1, categories=1, history=True, report=True)
+        options = Options(
+            joined=140, split=70, threshold=threshold, hot=hot, users=1, categories=1, history=True, report=True
+        )
         tester.as_model(f"threshold {threshold}, hot {hot}", rows + bids + views, options)
 
 
@@ -366,7 +427,9 @@ OF_EACH_WORKER = 6_250
 
 def replies_in_order(tester: AuctionTester) -> None:
     """replies of 16 workers stand in order, though views of what is hot wait, and so do purchases"""
-    data = b"".join(b"%d,%s\n" % (worker, EACH_KIND[index % 8]) for index in range(OF_EACH_WORKER) for worker in range(16))
+    data = b"".join(
+        b"%d,%s\n" % (worker, EACH_KIND[index % 8]) for index in range(OF_EACH_WORKER) for worker in range(16)
+    )
     got = tester.run(data, Options(workers=16, threshold=1, users=10, categories=2))
     tester.same("requests of all kinds", replace(got, stdout=b""), Outcome(0, b"", b""))
     lines = got.stdout.splitlines()
@@ -375,10 +438,15 @@ def replies_in_order(tester: AuctionTester) -> None:
 
 
 def few_shards(tester: AuctionTester) -> None:
-    """16 workers who bid on three items in threads, of which nothing is hot: commits that share a shard have different numbers"""
-    bids = b"".join(b"%d,bid,%d,0.%d,10,7\n" % (worker, worker, turn % 3) for worker in range(16) for turn in range(900))
+    """16 workers who bid on three items in threads, of which nothing is hot: commits that share a
+    shard have different numbers"""
+    bids = b"".join(
+        b"%d,bid,%d,0.%d,10,7\n" % (worker, worker, turn % 3) for worker in range(16) for turn in range(900)
+    )
     first = VASE * 3 + b"".join(b"%d,viewuser,0\n" % worker * 3 for worker in range(1, 16))
-    options = Options(workers=16, shards=3, joined=3, split=900, threshold=1, hot=0, users=16, categories=2, history=True)
+    options = Options(
+        workers=16, shards=3, joined=3, split=900, threshold=1, hot=0, users=16, categories=2, history=True
+    )
     got = tester.run(first + bids + b"0,viewitem,0.0\n0,viewitem,0.1\n0,viewitem,0.2\n", options)
     tester.same("14,400 bids on three items", replace(got, stdout=b""), Outcome(0, b"", b""))
     lines = got.stdout.splitlines()
@@ -398,18 +466,27 @@ def one_hot_item(tester: AuctionTester) -> None:
     tester.same("16,000 bids on a hot item", replace(got, stdout=b""), Outcome(0, b"", b""))
     *lines, listed, last = got.stdout.splitlines()
     places = [line.split()[:4] for line in lines if line.startswith(b"1 ")]
-    wanted = [[b"1", b"%d" % (turn + 1), b"%d" % worker, b"%d" % (turn + 2)] for turn, worker in product(range(1_000), range(16))]
+    wanted = [
+        [b"1", b"%d" % (turn + 1), b"%d" % worker, b"%d" % (turn + 2)]
+        for turn, worker in product(range(1_000), range(16))
+    ]
     tester.tally.check(places == wanted, "16,000 bids on a hot item: their places")
     ten = b"".join(b" 10:7:15:15.%d" % serial for serial in range(999, 989, -1))
     tester.tally.check(listed == b"2 1 0 1002 bids" + ten, "16,000 bids on a hot item: the ten highest")
-    seen = b"2 2 0 1003 viewitem seller=0 category=0 start=10 closes=100 highest=10 bidder=15 bids=16001 left=1 name=Vase"
+    seen = (
+        b"2 2 0 1003 viewitem seller=0 category=0 start=10 closes=100 highest=10 bidder=15 bids=16001 left=1 name=Vase"
+    )
     tester.tally.check(last == seen, "16,000 bids on a hot item: all of them")
 
 
 def sixty_four_hot_objects(tester: AuctionTester) -> None:
     """two workers bid on 63 hot items of a hot category"""
     items = [b"0.%d" % serial for serial in range(63)]
-    bids = [b"%d,bid,%d,%s,%d,1\n" % (worker, bidder, item, amount) for worker, bidder, amount in ((0, 0, 10), (0, 1, 20), (1, 2, 15)) for item in items]
+    bids = [
+        b"%d,bid,%d,%s,%d,1\n" % (worker, bidder, item, amount)
+        for worker, bidder, amount in ((0, 0, 10), (0, 1, 20), (1, 2, 15))
+        for item in items
+    ]
     views = b"".join(b"0,viewitem,%s\n" % item for item in items)
     options = Options(workers=2, joined=126, split=63, threshold=1, hot=64, users=10, categories=2, report=True)
     got = tester.run(VASE * 63 + b"1,viewuser,0\n" * 126 + b"".join(bids) + views, options)
@@ -418,7 +495,9 @@ def sixty_four_hot_objects(tester: AuctionTester) -> None:
     seen = b"viewitem seller=0 category=0 start=10 closes=100 highest=20 bidder=1 bids=3 left=1 name=Vase"
     merged = lines[189:252] == [b"0,%d,%s" % (index, seen) for index in range(189, 252)]
     tester.tally.check(merged, "64 hot objects: each item is seen with its three bids")
-    tester.tally.check(b" ".join([b"hot 1 c0", *(b"i" + item for item in items)]) in lines, "64 hot objects: their order")
+    tester.tally.check(
+        b" ".join([b"hot 1 c0", *(b"i" + item for item in items)]) in lines, "64 hot objects: their order"
+    )
 
 
 # Very much.
@@ -439,7 +518,11 @@ def requests_of_a_worker(tester: AuctionTester) -> None:
         "1,000,001 rows, of which the first is refused": [bad, row * MILLION],
     }.items():
         tester.same(what, tester.run_large(parts), TOO_LONG)
-    tester.same("a refused row, and too many requests with it", tester.run_large([bad, VIEW * MILLION]), fault(3, "row 1: refused"))
+    tester.same(
+        "a refused row, and too many requests with it",
+        tester.run_large([bad, VIEW * MILLION]),
+        fault(3, "row 1: refused"),
+    )
 
 
 def million_categories(tester: AuctionTester) -> None:

@@ -3,8 +3,9 @@
 
     tests/loads.py [--generator PROGRAM] [--auction PROGRAM] [--only CHECK]
 
-Random loads are compared byte by byte with those of a model. Of larger ones the shares of the kinds of requests, and how often items, users and
-categories are named, lie within five standard deviations of what the options and Zipf's law say, which is computed here in floating point.
+Random loads are compared byte by byte with those of a model. Of larger ones the shares of the kinds of requests, and
+how often items, users and categories are named, lie within five standard deviations of what the options and Zipf's law
+say, which is computed here in floating point.
 """
 
 import functools
@@ -19,7 +20,19 @@ from pathlib import Path
 from lib import helps
 from lib.checks import Tester, make_all
 from lib.load_model import Plan, load_of
-from lib.model import Book, Entry, Options, Outcome, Run, choose_hot, is_put_off, is_split, open_auction, quota, report_text
+from lib.model import (
+    Book,
+    Entry,
+    Options,
+    Outcome,
+    Run,
+    choose_hot,
+    is_put_off,
+    is_split,
+    open_auction,
+    quota,
+    report_text,
+)
 from lib.program import EXAMPLES, Tally, build_shim, built, described, executable, parser_of, run
 from lib.refusing import Refusing
 
@@ -28,7 +41,9 @@ DRAWN = 200_000
 BIDS = Plan(views=0, comments=0, purchases=0, new_items=0)
 NO_MEMORY = b"rubis_load: no memory\n"
 # The load of examples/skewed.csv, and how the auction makes its report.
-SKEWED = Plan(requests=240, workers=4, items=12, users=6, categories=3, skew=150, views=30, comments=20, purchases=5, new_items=10)
+SKEWED = Plan(
+    requests=240, workers=4, items=12, users=6, categories=3, skew=150, views=30, comments=20, purchases=5, new_items=10
+)
 SKEWED_OPTIONS = Options(workers=4, joined=8, split=24, threshold=3, users=6, categories=3, report=True)
 
 
@@ -51,13 +66,17 @@ class GeneratorTester(Tester):
     def near(self, what: str, count: int, tries: int, share: float) -> None:
         """A count is within five standard deviations of its share of so many tries."""
         off = abs(count - tries * share)
-        self.tally.check(off <= 5 * (tries * share * (1 - share)) ** 0.5, f"{what}: {count} of {tries}, and not {share:.3%}")
+        self.tally.check(
+            off <= 5 * (tries * share * (1 - share)) ** 0.5, f"{what}: {count} of {tries}, and not {share:.3%}"
+        )
 
     def alike(self, what: str, counts: Counter, kinds: int) -> None:
         """So many kinds have counts that are as far from one another as chance makes them (Pearson's test)."""
         each = counts.total() / kinds
         square = sum((counts[kind] - each) ** 2 for kind in counts) / each + (kinds - len(counts)) * each
-        self.tally.check(abs(square - kinds) <= 5 * (2 * kinds) ** 0.5, f"{what}: {square:.0f} where {kinds} is expected")
+        self.tally.check(
+            abs(square - kinds) <= 5 * (2 * kinds) ** 0.5, f"{what}: {square:.0f} where {kinds} is expected"
+        )
 
 
 def same_bytes(tester: GeneratorTester) -> None:
@@ -92,7 +111,10 @@ def random_plan(rng: random.Random) -> Plan:
 
 def shares(tester: GeneratorTester) -> None:
     """shares of the kinds of requests"""
-    for plan in (Plan(requests=DRAWN), Plan(requests=DRAWN, workers=3, views=10, comments=25, purchases=30, new_items=15, seed=9)):
+    for plan in (
+        Plan(requests=DRAWN),
+        Plan(requests=DRAWN, workers=3, views=10, comments=25, purchases=30, new_items=15, seed=9),
+    ):
         kinds = Counter(fields[1] for fields in tester.requests(plan))
         bids = 100 - plan.views - plan.comments - plan.purchases - plan.new_items
         wanted = {"comment": plan.comments, "buynow": plan.purchases, "item": plan.new_items, "bid": bids}
@@ -109,7 +131,9 @@ def skews(tester: GeneratorTester) -> None:
         weights = [(place + 1) ** (-skew / 100) for place in range(plan.items)]
         for first, end in ((0, 1), (1, 2), (2, 3), (9, 10), (3, 30), (30, 300), (300, 1000)):
             count = sum(named[plan.item(place)] for place in range(first, end))
-            tester.near(f"items {first} to {end - 1}, skew {skew}", count, DRAWN, sum(weights[first:end]) / sum(weights))
+            tester.near(
+                f"items {first} to {end - 1}, skew {skew}", count, DRAWN, sum(weights[first:end]) / sum(weights)
+            )
         if skew == 0:
             tester.alike("items without skew", named, plan.items)
 
@@ -130,7 +154,9 @@ def named_alike(tester: GeneratorTester) -> None:
 def taken(tester: GeneratorTester) -> None:
     """the auction takes loads, and refuses none of their requests"""
     for workers, skew in ((1, 0), (2, 200), (4, 99), (16, 150)):
-        plan = Plan(requests=20_000, workers=workers, items=200, skew=skew, views=40, comments=15, purchases=10, new_items=10)
+        plan = Plan(
+            requests=20_000, workers=workers, items=200, skew=skew, views=40, comments=15, purchases=10, new_items=10
+        )
         options = Options(workers=workers, joined=64, split=512)
         got = run([tester.auction, *options.words()], tester.load(plan))
         kinds = Counter(line.split(b",", 2)[2].split(b" ")[0] for line in got.stdout.splitlines())
@@ -145,7 +171,9 @@ def example(tester: GeneratorTester) -> None:
     tester.tally.check(load == tester.load(SKEWED), "examples/skewed.csv: not the generator's load")
     asked, book = open_auction(load, SKEWED_OPTIONS)
     report = (EXAMPLES / "skewed.report").read_text()
-    tester.tally.check(report == report_text(run_in_turn(book, asked.scripts), book), "examples/skewed.report: not the model's")
+    tester.tally.check(
+        report == report_text(run_in_turn(book, asked.scripts), book), "examples/skewed.report: not the model's"
+    )
     for _ in range(10):
         got = run([tester.auction, *SKEWED_OPTIONS.words()], load).stdout.decode()
         reported = "".join(line for line in got.splitlines(keepends=True) if line[0].isalpha())
@@ -153,7 +181,8 @@ def example(tester: GeneratorTester) -> None:
 
 
 def run_in_turn(book: Book, scripts: list[list]) -> Run:
-    """One worker after the other in each phase. Where nothing is refused, each order of a phase gives the same report."""
+    """One worker after the other in each phase. Where nothing is refused, each order of a
+    phase gives the same report."""
     done, coming = Run(), [list(enumerate(script)) for script in scripts]
     waiting, entries = [[] for _ in scripts], []
     while any(coming) or any(waiting):
@@ -165,7 +194,9 @@ def run_in_turn(book: Book, scripts: list[list]) -> Run:
             coming[worker] = coming[worker][most:]
             waiting[worker] = [call for call in due if is_put_off(call[1], hot)]
             performed = (call for call in due if not is_put_off(call[1], hot))
-            entries += [Entry(phase, 0, worker, index, request, book.perform(worker, request)) for index, request in performed]
+            entries += [
+                Entry(phase, 0, worker, index, request, book.perform(worker, request)) for index, request in performed
+            ]
         done.entries += entries
         done.hot_sets.append(hot)
     return done
@@ -182,12 +213,33 @@ def help_and_version(tester: GeneratorTester) -> None:
 def refused_words(tester: GeneratorTester) -> None:
     """words that are refused, and the longest load"""
     for words in (
-        "--requests=16000001", "--workers=0", "--workers=17", "--items=0", "--items=1000001", "--users=0", "--categories=1000001", "--skew=201",
-        "--skew=0.5", "--views=101", "--new-items=101", "--seed=-1", f"--seed={2**64}", "--seed=1 --seed=1", "--requests", "load", "--help",
+        "--requests=16000001",
+        "--workers=0",
+        "--workers=17",
+        "--items=0",
+        "--items=1000001",
+        "--users=0",
+        "--categories=1000001",
+        "--skew=201",
+        "--skew=0.5",
+        "--views=101",
+        "--new-items=101",
+        "--seed=-1",
+        f"--seed={2**64}",
+        "--seed=1 --seed=1",
+        "--requests",
+        "load",
+        "--help",
     ):
         got = run([tester.generator, *words.split()])
-        tester.tally.check(got.status == 1 and not got.stdout and got.stderr and not got.stderr.startswith(b"rubis_load: "), f"{words}: {described(got)}")
-    shares, long = b"rubis_load: shares of more than 100 percent\n", b"rubis_load: more than 1000000 rows and requests for a worker\n"
+        tester.tally.check(
+            got.status == 1 and not got.stdout and got.stderr and not got.stderr.startswith(b"rubis_load: "),
+            f"{words}: {described(got)}",
+        )
+    shares, long = (
+        b"rubis_load: shares of more than 100 percent\n",
+        b"rubis_load: more than 1000000 rows and requests for a worker\n",
+    )
     for words, text in (
         ("--views=60 --comments=37", shares),
         ("--requests=1000000 --items=1", long),
@@ -196,9 +248,13 @@ def refused_words(tester: GeneratorTester) -> None:
         ("--requests=1000000 --items=1 --views=100", long),
     ):
         got = run([tester.generator, *words.split()])
-        tester.tally.check(got.status == 1 and not got.stdout and (text is None or got.stderr == text), f"{words}: {described(got)}")
+        tester.tally.check(
+            got.status == 1 and not got.stdout and (text is None or got.stderr == text), f"{words}: {described(got)}"
+        )
     no_text = run([tester.generator, b"--seed=\xff"])
-    tester.tally.check(no_text.status == 1 and no_text.stderr.startswith(b"error: "), f"a word that is no text: {described(no_text)}")
+    tester.tally.check(
+        no_text.status == 1 and no_text.stderr.startswith(b"error: "), f"a word that is no text: {described(no_text)}"
+    )
     longest = run([tester.generator, "--requests=999999", "--items=1"])
     tester.tally.check(longest.status == 0 and longest.stdout.count(b"\n") == 1_000_000, "the longest load of a worker")
 

@@ -1,6 +1,7 @@
 #!/usr/bin/env python3
-"""Shows what the log of `--log` keeps, as docs/FORMATS.md and docs/SERVING.md say: a log that is locked, forbidden, cut, changed, moved, or none; writes,
-syncs and cuts of it that fail, full disks and no memory, after which nothing answered is lost; and a start right after a kill.
+"""Shows what the log of `--log` keeps, as docs/FORMATS.md and docs/SERVING.md say: a log that is locked, forbidden,
+cut, changed, moved, or none; writes, syncs and cuts of it that fail, full disks and no memory, after which nothing
+answered is lost; and a start right after a kill.
 
     tests/logs.py [PROGRAM] [--only CHECK]
 """
@@ -23,7 +24,20 @@ from lib.checks import AuctionTester, main, with_shim
 from lib.model import Options, Outcome, expected
 from lib.program import NOBODY, become_nobody, build_shim, described, run
 from lib.refusing import UNREACHED_IN_A_ROW, Refusing
-from lib.sessions import FIRST, PLAIN, Auction, Refused, fault_of, in_use, is_stored, requests, rows_of, told_of, wait_until, whole_lines
+from lib.sessions import (
+    FIRST,
+    PLAIN,
+    Auction,
+    Refused,
+    fault_of,
+    in_use,
+    is_stored,
+    requests,
+    rows_of,
+    told_of,
+    wait_until,
+    whole_lines,
+)
 
 # Rows that are refused behind those of `FIRST`, and how this is told.
 REFUSED_ROWS = (
@@ -62,11 +76,15 @@ def without_locks(tester: AuctionTester) -> None:
     log.write_bytes(rows_of(FIRST) + b"0,+bi")
     text = log.read_bytes()
     refused = fault_of(tester.program, log, env=os.environ | {"LD_PRELOAD": str(tester.shim), "LOCK_FAILS": "1"})
-    tester.tally.check(refused == told_of(log, "cannot be locked", errno.ENOLCK) and log.read_bytes() == text, f"a log without locks: {refused}")
+    tester.tally.check(
+        refused == told_of(log, "cannot be locked", errno.ENOLCK) and log.read_bytes() == text,
+        f"a log without locks: {refused}",
+    )
 
 
 def forbidden_logs(tester: AuctionTester) -> None:
-    """a log, also by a link, that this user may not read or write, or whose own folder he may not read: a fault, and the log is as it was; a folder that he may only read"""
+    """a log, also by a link, that this user may not read or write, or whose own folder he may not read: a fault, and
+    the log is as it was; a folder that he may only read"""
     program = shutil.copy(tester.program, tester.folder / "program")
     folder, rows = tester.folder / "forbidden", rows_of(FIRST)
     log, link, hidden = folder / "log", tester.folder / "linked", tester.folder / "hidden"
@@ -79,7 +97,12 @@ def forbidden_logs(tester: AuctionTester) -> None:
         tester.folder.chmod(0o755)
         for path in (folder, hidden, log):
             os.chown(path, NOBODY, NOBODY)
-    for of_folder, of_log, is_refused in ((0o700, 0o200, True), (0o700, 0o400, True), (0o300, 0o600, True), (0o500, 0o600, False)):
+    for of_folder, of_log, is_refused in (
+        (0o700, 0o200, True),
+        (0o700, 0o400, True),
+        (0o300, 0o600, True),
+        (0o500, 0o600, False),
+    ):
         for path in (log, link):
             log.chmod(of_log)
             folder.chmod(of_folder)
@@ -87,7 +110,10 @@ def forbidden_logs(tester: AuctionTester) -> None:
             folder.chmod(0o700)
             log.chmod(0o600)
             wanted = told_of(path, UNREAD, errno.EACCES) if is_refused else None
-            tester.tally.check(refused == wanted and log.read_bytes() == rows, f"{path.name} with mode {of_log:o} in a folder with mode {of_folder:o}: {refused}")
+            tester.tally.check(
+                refused == wanted and log.read_bytes() == rows,
+                f"{path.name} with mode {of_log:o} in a folder with mode {of_folder:o}: {refused}",
+            )
     hidden.chmod(0o300)
     refused = fault_of(program, hidden / "link", preexec_fn=become_nobody)
     hidden.chmod(0o700)
@@ -95,7 +121,8 @@ def forbidden_logs(tester: AuctionTester) -> None:
 
 
 def append_only_logs(tester: AuctionTester) -> None:
-    """a log that can be added to but not cut (`chattr +a`), with a cut row and without: a fault, and the log is as it was"""
+    """a log that can be added to but not cut (`chattr +a`), with a cut row and without: a
+    fault, and the log is as it was"""
     log = tester.folder / "append-only"
     for tail in (b"", b"0,+bi"):
         text = rows_of(FIRST) + tail
@@ -106,11 +133,15 @@ def append_only_logs(tester: AuctionTester) -> None:
             refused = fault_of(tester.program, log)
         finally:
             run(["chattr", "-a", log])
-        tester.tally.check(refused == told_of(log, UNWRITTEN, errno.EPERM) and log.read_bytes() == text, f"a log that can only be added to, with {tail!r} behind its rows: {refused}")
+        tester.tally.check(
+            refused == told_of(log, UNWRITTEN, errno.EPERM) and log.read_bytes() == text,
+            f"a log that can only be added to, with {tail!r} behind its rows: {refused}",
+        )
 
 
 def cut_logs(tester: AuctionTester) -> None:
-    """a log that is cut at each byte of its last part: its whole lines are read, and the rest is cut off, kept beside it and told"""
+    """a log that is cut at each byte of its last part: its whole lines are read, and the rest is cut
+    off, kept beside it and told"""
     log, kept_off = tester.folder / "cut", tester.folder / "cut.cut"
     auction = Auction(tester.program, "--log", str(log), *PLAIN)
     auction.many([(0, request) for request in (*FIRST, *requests(random.Random(3), 100))])
@@ -122,16 +153,20 @@ def cut_logs(tester: AuctionTester) -> None:
         log.write_bytes(whole[:size])
         kept = whole_lines(log)
         got = run([tester.program, "--log", log], b"0,viewuser,99\n")
-        words, tail = b"", whole[len(kept):size]
+        words, tail = b"", whole[len(kept) : size]
         if tail:
             words = f"rubis_auction: {len(tail)} bytes of a cut line taken off the log, kept in {kept_off}\n".encode()
             all_kept_off += tail + b"\n"
-        tester.tally.check((got.status, got.stderr) == (0, words) and log.read_bytes() == kept, f"a log cut at byte {size}: {described(got)}")
+        tester.tally.check(
+            (got.status, got.stderr) == (0, words) and log.read_bytes() == kept,
+            f"a log cut at byte {size}: {described(got)}",
+        )
     tester.tally.check(kept_off.read_bytes() == all_kept_off, "what was cut off is kept, a line for each cut")
 
 
 def foreign_files(tester: AuctionTester) -> None:
-    """a file that is no log, and a log with an end that no crash leaves: a fault that names file and line, and each byte is as it was"""
+    """a file that is no log, and a log with an end that no crash leaves: a fault that names file and
+    line, and each byte is as it was"""
     file, rows = tester.folder / "foreign", rows_of(FIRST)
     last, tail, long = rows.count(b"\n"), "no line end, and not the beginning of a row", "longer than a row"
     other = "not as rows are written"
@@ -152,70 +187,120 @@ def foreign_files(tester: AuctionTester) -> None:
     ):
         file.write_bytes(text)
         refused = fault_of(tester.program, file)
-        right = refused is not None and refused[1] == 5 and (words is None or refused[0] == f"rubis_auction: {file}: line {line}: {words}")
+        right = (
+            refused is not None
+            and refused[1] == 5
+            and (words is None or refused[0] == f"rubis_auction: {file}: line {line}: {words}")
+        )
         garbage = run([tester.program, "--log", file], b"garbage\n")
         right = right and (garbage.status, garbage.stdout) == (5, b"")
-        tester.tally.check(right and file.read_bytes() == text and not file.with_name("foreign.cut").exists(), f"{text[:40]!r} as a log: {refused}, {described(garbage)}")
+        tester.tally.check(
+            right and file.read_bytes() == text and not file.with_name("foreign.cut").exists(),
+            f"{text[:40]!r} as a log: {refused}, {described(garbage)}",
+        )
 
 
 def repaired_logs(tester: AuctionTester) -> None:
-    """a log with NUL bytes at its end, in its last row or before more lines: refused, and accepted once it is repaired as docs/SERVING.md says"""
+    """a log with NUL bytes at its end, in its last row or before more lines: refused, and accepted once it is
+    repaired as docs/SERVING.md says"""
     log, rows = tester.folder / "repaired", rows_of(FIRST)
-    for end in (bytes(5000), b"0,+bid,1,0.0,5" + bytes(2), bytes(20) + rows, b"0,+bid,1" + bytes(3) + b"0.0,5\n" + rows):
+    for end in (
+        bytes(5000),
+        b"0,+bid,1,0.0,5" + bytes(2),
+        bytes(20) + rows,
+        b"0,+bid,1" + bytes(3) + b"0.0,5\n" + rows,
+    ):
         text = rows + end
         log.write_bytes(text)
-        tester.tally.check(fault_of(tester.program, log) is not None and log.read_bytes() == text, f"a log with NUL bytes, {end[:20]!r}")
+        tester.tally.check(
+            fault_of(tester.program, log) is not None and log.read_bytes() == text,
+            f"a log with NUL bytes, {end[:20]!r}",
+        )
         before, _, after = text.partition(bytes(1))
         log.write_bytes(before[: before.rfind(b"\n") + 1] if after.strip(bytes(1)) else before)
-        tester.tally.check(fault_of(tester.program, log) is None and log.read_bytes() == rows, f"a repaired log, {end[:20]!r}")
+        tester.tally.check(
+            fault_of(tester.program, log) is None and log.read_bytes() == rows, f"a repaired log, {end[:20]!r}"
+        )
 
 
 def special_files(tester: AuctionTester) -> None:
-    """a pipe, a device or a folder as a log: a fault at once; a cut row that cannot be kept: a fault, and the log is as it was"""
+    """a pipe, a device or a folder as a log: a fault at once; a cut row that cannot be kept: a
+    fault, and the log is as it was"""
     pipe, log = tester.folder / "pipe", tester.folder / "uncut"
     os.mkfifo(pipe)
     for path in (pipe, Path("/dev/null"), Path("/dev/full"), Path("/dev/zero")):
         tester.tally.check(fault_of(tester.program, path) == told_of(path, "not a regular file"), f"{path} as a log")
     missing = tester.folder / "none" / "log"
-    tester.tally.check(fault_of(tester.program, tester.folder) == told_of(tester.folder, UNREAD, errno.EISDIR), "a folder as a log")
-    tester.tally.check(fault_of(tester.program, missing) == told_of(missing, UNREAD, errno.ENOENT), "a log in no folder")
+    tester.tally.check(
+        fault_of(tester.program, tester.folder) == told_of(tester.folder, UNREAD, errno.EISDIR), "a folder as a log"
+    )
+    tester.tally.check(
+        fault_of(tester.program, missing) == told_of(missing, UNREAD, errno.ENOENT), "a log in no folder"
+    )
     text = rows_of(FIRST) + b"0,+bi"
     log.write_bytes(text)
     (tester.folder / "uncut.cut").mkdir()
-    tester.tally.check(fault_of(tester.program, log) == told_of(log, "cut bytes cannot be kept", errno.EISDIR) and log.read_bytes() == text, "a cut row that cannot be kept")
+    tester.tally.check(
+        fault_of(tester.program, log) == told_of(log, "cut bytes cannot be kept", errno.EISDIR)
+        and log.read_bytes() == text,
+        "a cut row that cannot be kept",
+    )
     link, far = tester.folder / "link", tester.folder / "far"
     far.mkdir()
     link.symlink_to(far / "log")
-    tester.tally.check(fault_of(tester.program, link) is None and (far / "log").read_bytes() == b"", "a link to a log that is missing")
+    tester.tally.check(
+        fault_of(tester.program, link) is None and (far / "log").read_bytes() == b"", "a link to a log that is missing"
+    )
 
 
 def closed_places(tester: AuctionTester) -> None:
-    """standard input, output or error closed: the log has the rows and what was asked for, and nothing else, and the next start accepts it"""
+    """standard input, output or error closed: the log has the rows and what was asked for, and nothing else,
+    and the next start accepts it"""
     rows, row, log = rows_of(FIRST), b"0,+bid,1,0.0,20,5\n", tester.folder / "places"
     replies = f"0,0,bid 0.0\n0,1,{SEEN}\n".encode()
     # Nothing is asked of a program that has no input, and its replies are not seen where it has no output.
-    for closed, statuses, asked, seen in (("<&-", (0, 2), b"", b""), (">&-", (4,), row, b""), ("2>&-", (0,), row, replies), ("<&- >&- 2>&-", (0, 2, 4), b"", b""), (">&- 2>&-", (4,), row, b"")):
+    for closed, statuses, asked, seen in (
+        ("<&-", (0, 2), b"", b""),
+        (">&-", (4,), row, b""),
+        ("2>&-", (0,), row, replies),
+        ("<&- >&- 2>&-", (0, 2, 4), b"", b""),
+        (">&- 2>&-", (4,), row, b""),
+    ):
         log.write_bytes(rows + b"0,+bi")
         shell = f"exec {tester.program} --live 1 --log {log} {closed}"
         got = run(["sh", "-c", shell], b"0,bid,1,0.0,20,5\n0,viewuser,0\n")
         right = got.status in statuses and got.stdout == seen and log.read_bytes() == rows + asked
-        tester.tally.check(right and fault_of(tester.program, log) is None, f"with {closed}: {described(got)}, {log.read_bytes()[len(rows):]!r}")
+        tester.tally.check(
+            right and fault_of(tester.program, log) is None,
+            f"with {closed}: {described(got)}, {log.read_bytes()[len(rows):]!r}",
+        )
 
 
 def bad_logs(tester: AuctionTester) -> None:
-    """a log with a line that is no row, or a row that is refused: a fault that names file, place and reason, and the file is as it was"""
+    """a log with a line that is no row, or a row that is refused: a fault that names file, place and
+    reason, and the file is as it was"""
     log, good = tester.folder / "bad", rows_of(FIRST).decode()
-    for line, words in (("0,+bid,no row", "record 9: wrong number of fields"), ("0,+bid,1,0.0,x,1", "record 9: not a number"), ("7,+comment,1,2,0.0,1", "record 9: no such worker"),
-                        ("0,+item,0,0,Vase,1,2,3,0", "record 9: not a quantity"), ("x", "record 9: not a number"), *REFUSED_ROWS):
+    for line, words in (
+        ("0,+bid,no row", "record 9: wrong number of fields"),
+        ("0,+bid,1,0.0,x,1", "record 9: not a number"),
+        ("7,+comment,1,2,0.0,1", "record 9: no such worker"),
+        ("0,+item,0,0,Vase,1,2,3,0", "record 9: not a quantity"),
+        ("x", "record 9: not a number"),
+        *REFUSED_ROWS,
+    ):
         for rest in ("", "0,+comment,1,2,0.0,1\n", "0,+com"):
             log.write_text(f"{good}{line}\n{rest}")
             text = log.read_bytes()
             refused = fault_of(tester.program, log)
-            tester.tally.check(refused == told_of(log, words) and log.read_bytes() == text, f"a log with {line!r} and {rest!r}: {refused}")
+            tester.tally.check(
+                refused == told_of(log, words) and log.read_bytes() == text,
+                f"a log with {line!r} and {rest!r}: {refused}",
+            )
 
 
 def read_back(tester: AuctionTester) -> None:
-    """a log is a script of rows: it is what `--rows` prints of its replies' requests, before and after a second session"""
+    """a log is a script of rows: it is what `--rows` prints of its replies' requests,
+    before and after a second session"""
     log = tester.folder / "rows"
     sent = []
     for seed in range(3):
@@ -226,13 +311,17 @@ def read_back(tester: AuctionTester) -> None:
         copied = log.read_bytes()
         auction.close()
         data = "".join(f"0,{request}\n" for request in sent).encode()
-        tester.tally.check(copied == log.read_bytes() == expected(data, Options(hot=0, rows=True)).stdout, f"the log in and after session {seed} is the model's rows")
+        tester.tally.check(
+            copied == log.read_bytes() == expected(data, Options(hot=0, rows=True)).stdout,
+            f"the log in and after session {seed} is the model's rows",
+        )
     got = run([tester.program, "--rows"], log.read_bytes())
     tester.tally.check(got.stdout == log.read_bytes(), "a log is read as input, and printed again")
 
 
 def quick_starts(tester: AuctionTester) -> None:
-    """a start right after a kill: it goes on from the log if the killed program was waited for; if not, the log may be in use for a moment"""
+    """a start right after a kill: it goes on from the log if the killed program was waited for; if not, the
+    log may be in use for a moment"""
     log = tester.folder / "quick"
     for number in range(100):
         is_awaited = number % 2 == 0
@@ -242,7 +331,10 @@ def quick_starts(tester: AuctionTester) -> None:
         if is_awaited:
             auction.process.wait()
         refused = fault_of(tester.program, log)
-        tester.tally.check(answered == f"item 0.{number}" and (refused is None or refused == in_use(log) and not is_awaited), f"a start right after kill {number}: {refused}")
+        tester.tally.check(
+            answered == f"item 0.{number}" and (refused is None or refused == in_use(log) and not is_awaited),
+            f"a start right after kill {number}: {refused}",
+        )
         wait_until(lambda: fault_of(tester.program, log) is None)
         auction.process.communicate()
     tester.tally.check(log.read_bytes() == rows_of([FIRST[0]] * 100), "the log after 100 kills")
@@ -253,7 +345,8 @@ def quick_starts(tester: AuctionTester) -> None:
 
 @with_shim
 def failing_logs(tester: AuctionTester) -> None:
-    """a write, a sync, or one of them and its cut of the log that fails, at each place: the fault with the system's words, no reply of that part, and nothing answered is lost"""
+    """a write, a sync, or one of them and its cut of the log that fails, at each place: the fault with the system's
+    words, no reply of that part, and nothing answered is lost"""
     causes = {
         "write": (UNWRITTEN, errno.ENOSPC, "LOG_WRITE_FAILS"),
         "sync": (UNSYNCED, errno.EIO, "LOG_SYNC_FAILS"),
@@ -266,7 +359,9 @@ def failing_logs(tester: AuctionTester) -> None:
             limited = {name: str(2 if name == "LOG_CUT_FAILS" else number) for name in limits}
             told = UNWRITTEN if limited.get("LOG_SYNC_FAILS") == "1" else words
             log = tester.folder / f"{cause}-{number}"
-            auction = Auction(tester.program, "--log", str(log), env=os.environ | {"LD_PRELOAD": str(tester.shim)} | limited)
+            auction = Auction(
+                tester.program, "--log", str(log), env=os.environ | {"LD_PRELOAD": str(tester.shim)} | limited
+            )
             answered, fault = until_refused(auction, [FIRST[0], *(f"comment,{at},{at},0.0,1" for at in range(9))])
             what = f"{cause} {number} fails"
             tester.tally.check(fault == told_of(log, told, why), f"{what}: {fault}")
@@ -275,18 +370,26 @@ def failing_logs(tester: AuctionTester) -> None:
 
 @with_shim
 def interrupted_logs(tester: AuctionTester) -> None:
-    """reads, writes, syncs and cuts that a signal interrupts, each second, third or seventh: they are tried again, and all is answered and logged"""
+    """reads, writes, syncs and cuts that a signal interrupts, each second, third or seventh: they are tried again,
+    and all is answered and logged"""
     for every in (2, 3, 7):
         log = tester.folder / f"interrupted-{every}"
         log.write_bytes(rows_of(FIRST) + b"0,+bi")
         auction = Auction(tester.program, "--log", str(log), env=tester.limited({"INTERRUPTED": every}))
         answered, fault = until_refused(auction, [f"comment,{at},{at},0.0,1" for at in range(40)])
-        tester.tally.check(answered == [f"comment 0.{at}" for at in range(40)] and fault is None, f"each {every}th call is interrupted: {fault}")
-        tester.tally.check(log.read_bytes() == rows_of([*FIRST, *(f"comment,{at},{at},0.0,1" for at in range(40))]), f"the log, each {every}th call interrupted")
+        tester.tally.check(
+            answered == [f"comment 0.{at}" for at in range(40)] and fault is None,
+            f"each {every}th call is interrupted: {fault}",
+        )
+        tester.tally.check(
+            log.read_bytes() == rows_of([*FIRST, *(f"comment,{at},{at},0.0,1" for at in range(40))]),
+            f"the log, each {every}th call interrupted",
+        )
 
 
 def changed_logs(tester: AuctionTester) -> None:
-    """a log that another program cuts or adds to while it is in use: the next row is a fault, and the file is left as it is"""
+    """a log that another program cuts or adds to while it is in use: the next row is a fault,
+    and the file is left as it is"""
     rows = rows_of(FIRST)
     foreign = b"0,+comment,5,6,0.0,1\n"
     for what, text, next_reply in (
@@ -303,7 +406,10 @@ def changed_logs(tester: AuctionTester) -> None:
         log.write_bytes(text)
         tester.tally.check(auction.one("viewuser,9") == SEEN, f"a log {what}: a view")
         answered, fault = until_refused(auction, ["comment,1,2,0.0,1"])
-        tester.tally.check((answered, fault) == ([], told_of(log, CHANGED)) and log.read_bytes() == text, f"a log {what}: {answered}, {fault}")
+        tester.tally.check(
+            (answered, fault) == ([], told_of(log, CHANGED)) and log.read_bytes() == text,
+            f"a log {what}: {answered}, {fault}",
+        )
         later = Auction(tester.program, "--log", str(log))
         answered, wanted = later.one("comment,1,2,0.0,1"), next_reply if text else "refused 3 NoSuchItem"
         later.close()
@@ -327,19 +433,27 @@ def turned(log: Path, other: Path) -> None:
 
 
 def moved_logs(tester: AuctionTester) -> None:
-    """a log that is moved, removed or replaced, or whose link is turned, while it is in use: the next row is a fault, and no file has it; a link to the log in its place, or another name of it, changes nothing"""
+    """a log that is moved, removed or replaced, or whose link is turned, while it is in use: the next row is a fault,
+    and no file has it; a link to the log in its place, or another name of it, changes nothing"""
     row = "comment,1,2,0.0,1"
-    for number, (what, move, words, why) in enumerate((
-        ("moved", Path.rename, CHANGED, None),
-        ("removed", lambda log, other: log.unlink(), CHANGED, None),
-        ("in a folder that is moved", lambda log, other: log.parent.rename(other), CHANGED, None),
-        ("replaced by a copy", replaced, CHANGED, None),
-        ("behind a link that is turned to a copy", turned, CHANGED, None),
-        ("replaced by a link to nothing", lambda log, other: linked(log, other, other.with_name("nothing")), CHANGED, None),
-        ("replaced by a link to itself", lambda log, other: linked(log, other, log), UNREAD, errno.ELOOP),
-        ("replaced by a link to it", lambda log, other: linked(log, other, other), None, None),
-        ("with a second name", lambda log, other: other.hardlink_to(log), None, None),
-    )):
+    for number, (what, move, words, why) in enumerate(
+        (
+            ("moved", Path.rename, CHANGED, None),
+            ("removed", lambda log, other: log.unlink(), CHANGED, None),
+            ("in a folder that is moved", lambda log, other: log.parent.rename(other), CHANGED, None),
+            ("replaced by a copy", replaced, CHANGED, None),
+            ("behind a link that is turned to a copy", turned, CHANGED, None),
+            (
+                "replaced by a link to nothing",
+                lambda log, other: linked(log, other, other.with_name("nothing")),
+                CHANGED,
+                None,
+            ),
+            ("replaced by a link to itself", lambda log, other: linked(log, other, log), UNREAD, errno.ELOOP),
+            ("replaced by a link to it", lambda log, other: linked(log, other, other), None, None),
+            ("with a second name", lambda log, other: other.hardlink_to(log), None, None),
+        )
+    ):
         folder = tester.folder / f"moved-{number}"
         log, other = folder / "in" / "log", folder / "other"
         log.parent.mkdir(parents=True)
@@ -380,7 +494,11 @@ def lost_nothing(tester: AuctionTester, what: str, log: Path, answered: list[str
     tester.tally.check(len(answered) <= rows <= at_most, f"{what}: {len(answered)} answered, {rows} rows kept")
     auction = Auction(tester.program, "--log", str(log))
     shown = auction.one("viewitem,0.0") if rows else SEEN
-    tester.tally.check(shown.startswith(("viewitem", "user")) and auction.one("comment,1,1,0.0,1") == (f"comment 0.{rows - 1}" if rows else "refused 3 NoSuchItem"), f"{what}: a later run goes on")
+    tester.tally.check(
+        shown.startswith(("viewitem", "user"))
+        and auction.one("comment,1,1,0.0,1") == (f"comment 0.{rows - 1}" if rows else "refused 3 NoSuchItem"),
+        f"{what}: a later run goes on",
+    )
     auction.close()
 
 
@@ -395,7 +513,11 @@ def full_disks(tester: AuctionTester) -> None:
         lost_nothing(tester, f"a log of at most {size} bytes", log, answered, at_most=len(answered))
     disk = tester.folder / "disk"
     disk.mkdir()
-    if os.geteuid() != 0 or subprocess.run(["mount", "-t", "tmpfs", "-o", "size=16k", "tmpfs", disk], capture_output=True).returncode != 0:
+    if (
+        os.geteuid() != 0
+        or subprocess.run(["mount", "-t", "tmpfs", "-o", "size=16k", "tmpfs", disk], capture_output=True).returncode
+        != 0
+    ):
         return tester.tally.skip("a small disk that is full", "none can be mounted")
     try:
         auction = Auction(tester.program, "--log", str(disk / "log"), most=100)
@@ -405,7 +527,10 @@ def full_disks(tester: AuctionTester) -> None:
             while True:
                 answered += len(auction.many([(0, f"comment,1,{at},0.0,1") for at in range(100)]))
         rows = whole_lines(disk / "log").count(b"\n")
-        tester.tally.check((auction.process.returncode, rows) == (5, answered), f"a full disk: {answered} answered, {rows} rows, status {auction.process.returncode}")
+        tester.tally.check(
+            (auction.process.returncode, rows) == (5, answered),
+            f"a full disk: {answered} answered, {rows} rows, status {auction.process.returncode}",
+        )
     finally:
         subprocess.run(["umount", disk], check=True)
 
@@ -416,7 +541,8 @@ def limited_to(size: int) -> None:
 
 
 def refused_memory(tester: AuctionTester) -> None:
-    """no memory at each place, once and from then on: a fault, the replies of whole parts, and a log that has their rows"""
+    """no memory at each place, once and from then on: a fault, the replies of whole parts,
+    and a log that has their rows"""
     shim = build_shim("refused_memory", tester.folder)
     if shim is None:
         return tester.tally.skip(refused_memory.__doc__, "there is no C compiler")
@@ -429,14 +555,17 @@ def refused_memory(tester: AuctionTester) -> None:
         for number in itertools.count(1):
             log.write_text(opening)
             refusal = refusing.refusal(number, and_all_after)
-            tester.tally.check(is_front(refusal.outcome, whole, log.read_bytes(), rows), f"{refusal}: {described(refusal.outcome)}")
+            tester.tally.check(
+                is_front(refusal.outcome, whole, log.read_bytes(), rows), f"{refusal}: {described(refusal.outcome)}"
+            )
             unreached = 0 if refusal.was_reached else unreached + 1
             if unreached == UNREACHED_IN_A_ROW:
                 break
 
 
 def is_front(got: Outcome, whole: Outcome, log: bytes, rows: bytes) -> bool:
-    """Whether a run of parts of two requests told whole parts and logged their rows, and no more than those of one part else."""
+    """Whether a run of parts of two requests told whole parts and logged their rows, and no more
+    than those of one part else."""
     replies = got.stdout.decode().splitlines()
     logged = 2 + sum(is_stored(reply.split(",", 2)[2]) for reply in replies)
     ended = got == whole if got.status == 0 else got.stderr.endswith(b"no memory\n") and 1 <= got.status <= 5
@@ -445,7 +574,8 @@ def is_front(got: Outcome, whole: Outcome, log: bytes, rows: bytes) -> bool:
 
 
 def refused_memory_of_a_cut_row(tester: AuctionTester) -> None:
-    """no memory at each place, once and from then on, while a cut row is taken off a log: a fault that says so, and the row is in the log or beside it"""
+    """no memory at each place, once and from then on, while a cut row is taken off a log: a fault that says so, and the
+    row is in the log or beside it"""
     shim = build_shim("refused_memory", tester.folder)
     if shim is None:
         return tester.tally.skip(refused_memory_of_a_cut_row.__doc__, "there is no C compiler")
@@ -462,12 +592,34 @@ def refused_memory_of_a_cut_row(tester: AuctionTester) -> None:
             named = rb"(%b|log): " % re.escape(bytes(log)) if got.status == 5 else b""
             words = re.fullmatch(rb"rubis_auction: %b(row \d+: )?no memory\n" % named, got.stderr.removeprefix(told))
             is_told = got.status in range(1, 6) and got.stdout in (b"", answer.stdout) and words is not None
-            tester.tally.check(got == answer and is_cut or is_told and (is_cut or text == rows + tail), f"{refusal}: {described(got)}")
+            tester.tally.check(
+                got == answer and is_cut or is_told and (is_cut or text == rows + tail), f"{refusal}: {described(got)}"
+            )
             log.write_bytes(rows + tail)
             kept_off.unlink(missing_ok=True)
 
 
-CHECKS = (locked_log, without_locks, forbidden_logs, append_only_logs, cut_logs, foreign_files, repaired_logs, special_files, closed_places, bad_logs, read_back, quick_starts, failing_logs, interrupted_logs, changed_logs, moved_logs, full_disks, refused_memory, refused_memory_of_a_cut_row)
+CHECKS = (
+    locked_log,
+    without_locks,
+    forbidden_logs,
+    append_only_logs,
+    cut_logs,
+    foreign_files,
+    repaired_logs,
+    special_files,
+    closed_places,
+    bad_logs,
+    read_back,
+    quick_starts,
+    failing_logs,
+    interrupted_logs,
+    changed_logs,
+    moved_logs,
+    full_disks,
+    refused_memory,
+    refused_memory_of_a_cut_row,
+)
 
 if __name__ == "__main__":
     main(__doc__, CHECKS)

@@ -1,7 +1,8 @@
 #!/usr/bin/env python3
-"""Shows that what has to be spent can be neither let go nor spent twice: a held shard, a permit of either kind and a publisher; and that a `Told` is learned
-once. Small functions that do so are made a crate beside the others, in a copy of their sources, and `rt try` refuses each by the compiler's words.
-docs/PROVED.md quotes them. Without `rt` it is skipped.
+"""Shows that what has to be spent can be neither let go nor spent twice: a held shard, a permit of either kind
+and a publisher; and that a `Told` is learned once. Small functions that do so are made a crate beside the
+others, in a copy of their sources, and `rt try` refuses each by the compiler's words. docs/PROVED.md quotes
+them. Without `rt` it is skipped.
 
     tests/must_be_spent.py
 """
@@ -68,14 +69,25 @@ TOLD = Owned("told", "Told<J>", "J: WindowName", "window.learn(told);", "window:
 def refused(source: Path, functions: list[str]) -> list[str]:
     """What the compiler says of these functions, in their order: an error for each, inside it."""
     source.write_text(HEAD + "".join(functions) + MAIN)
-    got = subprocess.run(["rt", "try"], cwd=source.parent.parent, stdin=subprocess.DEVNULL, capture_output=True, text=True, errors="replace")
+    got = subprocess.run(
+        ["rt", "try"],
+        cwd=source.parent.parent,
+        stdin=subprocess.DEVNULL,
+        capture_output=True,
+        text=True,
+        errors="replace",
+    )
     found = [(int(line), said) for line, said in ERROR.findall(got.stdout + got.stderr)]
     ends, at = [], HEAD.count("\n")
     for function in functions:
         at += function.count("\n")
         ends.append(at)
     places = [next((n for n, end in enumerate(ends) if line <= end), None) for line, _ in found]
-    return [said for _, said in found] if got.returncode != 0 and places == sorted(set(places)) else [f"status {got.returncode}, {found}"]
+    return (
+        [said for _, said in found]
+        if got.returncode != 0 and places == sorted(set(places))
+        else [f"status {got.returncode}, {found}"]
+    )
 
 
 def main() -> None:

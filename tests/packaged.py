@@ -1,5 +1,6 @@
 #!/usr/bin/env python3
-"""Shows that tests/package.sh packs the programs so that they run with nothing else: in a clone made up here, with the built programs.
+"""Shows that tests/package.sh packs the programs so that they run with nothing else: in a clone made up
+here, with the built programs.
 
     tests/packaged.py
 """
@@ -21,7 +22,9 @@ PACKED = ("README.md", "LICENSE", "CHANGELOG.md", "docs", "examples")
 TIME = 1_700_000_000
 AT = "2023-11-14T22:13:20Z"
 MAKER = {"NAME": "maker", "EMAIL": "maker@localhost", "DATE": f"{TIME} +0000"}
-SETTINGS = {"GIT_CONFIG_GLOBAL": os.devnull, "GIT_CONFIG_NOSYSTEM": "1"} | {f"GIT_{who}_{what}": text for who in ("AUTHOR", "COMMITTER") for what, text in MAKER.items()}
+SETTINGS = {"GIT_CONFIG_GLOBAL": os.devnull, "GIT_CONFIG_NOSYSTEM": "1"} | {
+    f"GIT_{who}_{what}": text for who in ("AUTHOR", "COMMITTER") for what, text in MAKER.items()
+}
 ELSEWHERE = {"TZ": "Asia/Kolkata", "LANG": "C.UTF-8"}
 
 # What tests/all.sh prints, shortened.
@@ -67,7 +70,14 @@ class Clone:
         self.folder = folder
         self.into = folder.with_name("packed")
         self.archive = Path()
-        for name in (".gitignore", "HANDLES", "crates.txt", "tests/package.sh", *PACKED, *(f"crates/{name}" for name in PROGRAMS)):
+        for name in (
+            ".gitignore",
+            "HANDLES",
+            "crates.txt",
+            "tests/package.sh",
+            *PACKED,
+            *(f"crates/{name}" for name in PROGRAMS),
+        ):
             self.copy(name)
         for words in (["init", "-q"], ["add", "-A"], ["commit", "-q", "-m", "All"]):
             self.git(*words)
@@ -101,14 +111,18 @@ class Clone:
 
     def package(self, *words: str | Path, **how: Any) -> Outcome:
         how = {"cwd": self.folder.parent} | how
-        return run([self.folder / "tests" / "package.sh", *words], env=os.environ | SETTINGS | how.pop("env", {}), **how)
+        return run(
+            [self.folder / "tests" / "package.sh", *words], env=os.environ | SETTINGS | how.pop("env", {}), **how
+        )
 
 
 def make_archive(tally: Tally, clone: Clone) -> None:
     """an archive of a clone"""
     got = clone.package(clone.into)
     clone.archive = Path(got.stdout.decode().rstrip("\n"))
-    tally.check(got.status == 0 and not got.stderr and clone.archive.parent == clone.into, f"package.sh: {described(got)}")
+    tally.check(
+        got.status == 0 and not got.stderr and clone.archive.parent == clone.into, f"package.sh: {described(got)}"
+    )
     if not clone.archive.is_file():
         tally.finish()
 
@@ -133,10 +147,14 @@ def files(tally: Tally, clone: Clone) -> None:
     tally.check(there == wanted, f"the archive has other files: {there.keys() ^ wanted.keys()}")
     sums = [f"{sha256(data).hexdigest()}  {name}" for name, data in sorted(there.items())]
     tally.check([line for line in lines if not line.startswith("# ")] == sums, "MANIFEST has the sum of each file")
-    tally.same("sha256sum", run(["sha256sum", "--check", "--strict", "--quiet", "MANIFEST"], cwd=folder), Outcome(0, b"", b""))
+    tally.same(
+        "sha256sum", run(["sha256sum", "--check", "--strict", "--quiet", "MANIFEST"], cwd=folder), Outcome(0, b"", b"")
+    )
     with tarfile.open(clone.archive) as opened:
         members = opened.getmembers()
-    tally.check({(it.uid, it.gid, it.mtime) for it in members} == {(0, 0, TIME)}, "each file is root's, of the commit's time")
+    tally.check(
+        {(it.uid, it.gid, it.mtime) for it in members} == {(0, 0, TIME)}, "each file is root's, of the commit's time"
+    )
     tally.check({it.mode for it in members} == {0o755, 0o644}, "each file can be read by all")
     paths = [it.name.split("/") for it in members]
     tally.check(paths == sorted(paths), "files stand in the order of their names")
@@ -148,11 +166,20 @@ def programs(tally: Tally, clone: Clone) -> None:
     empty = clone.folder.with_name("empty")
     empty.mkdir()
     first = [(folder / "examples" / f"first_example.{ending}").read_bytes() for ending in ("csv", "replies")]
-    tally.same("the first example", run([folder / "bin" / PROGRAMS[0]], first[0], env={}, cwd=empty), Outcome(0, first[1], b""))
+    tally.same(
+        "the first example", run([folder / "bin" / PROGRAMS[0]], first[0], env={}, cwd=empty), Outcome(0, first[1], b"")
+    )
     for name in PROGRAMS:
         crate = CRATES / name
-        args, given, wrote = ((crate / part).read_bytes() if (crate / part).exists() else b"" for part in ("args", "stdin", "stdout"))
-        got = run([folder / "bin" / name, *args.decode().splitlines()], given, env={}, cwd=crate / "data" if (crate / "data").exists() else empty)
+        args, given, wrote = (
+            (crate / part).read_bytes() if (crate / part).exists() else b"" for part in ("args", "stdin", "stdout")
+        )
+        got = run(
+            [folder / "bin" / name, *args.decode().splitlines()],
+            given,
+            env={},
+            cwd=crate / "data" if (crate / "data").exists() else empty,
+        )
         tally.same(name, got, Outcome(0, wrote, b""))
 
 
@@ -160,7 +187,9 @@ def same_bytes(tally: Tally, clone: Clone) -> None:
     """a second archive, made elsewhere, of the same bytes"""
     got = clone.package("again", cwd=clone.into, umask=0o077, env=ELSEWHERE)
     again = clone.into / "again" / clone.archive.name
-    tally.check(got.status == 0 and again.read_bytes() == clone.archive.read_bytes(), f"a second archive: {described(got)}")
+    tally.check(
+        got.status == 0 and again.read_bytes() == clone.archive.read_bytes(), f"a second archive: {described(got)}"
+    )
 
 
 def manifests(tally: Tally, clone: Clone) -> None:
@@ -168,14 +197,21 @@ def manifests(tally: Tally, clone: Clone) -> None:
     with_log = clone.into / "with_log"
     got = clone.package("--log", clone.log(), with_log)
     tally.check(got.status == 0 and not got.stderr, f"package.sh --log: {described(got)}")
-    for archive, told in ((clone.archive, "gate: not told, since no log was given\n"), (with_log / clone.archive.name, TOLD)):
+    for archive, told in (
+        (clone.archive, "gate: not told, since no log was given\n"),
+        (with_log / clone.archive.name, TOLD),
+    ):
         folder = unpacked(archive, archive.with_name("unpacked"))
-        lines = [line.removeprefix("# ") for line in (folder / "MANIFEST").read_text().splitlines() if line.startswith("# ")]
+        lines = [
+            line.removeprefix("# ") for line in (folder / "MANIFEST").read_text().splitlines() if line.startswith("# ")
+        ]
         tally.check(told in "\n".join(lines), f"MANIFEST tells {told!r}: {lines}")
         facts = dict(line.split(": ", 1) for line in lines)
         tally.check((facts["commit"], facts["committed"]) == (clone.git("rev-parse", "HEAD"), AT), f"commit in {facts}")
         tally.check(folder.name == f"fundreivo-{facts['version']}-x86_64-linux", f"version in {facts}")
-        tally.check(facts["programs need"].startswith("Linux on x86-64, libc.so.6 of glibc 2."), f"libraries in {facts}")
+        tally.check(
+            facts["programs need"].startswith("Linux on x86-64, libc.so.6 of glibc 2."), f"libraries in {facts}"
+        )
 
 
 def logs(tally: Tally, clone: Clone) -> None:
@@ -197,7 +233,9 @@ def logs(tally: Tally, clone: Clone) -> None:
 def states(tally: Tally, clone: Clone) -> None:
     """trees and programs that do not agree, each refused in one line"""
     name = PROGRAMS[1]
-    readme, program, wrote = (clone.folder / path for path in ("README.md", f"crates/{name}/out/{name}", f"crates/{name}/out/stdout"))
+    readme, program, wrote = (
+        clone.folder / path for path in ("README.md", f"crates/{name}/out/{name}", f"crates/{name}/out/stdout")
+    )
     altered = (
         ("the tree has changes", lambda: readme.write_text("")),
         ("the tree has changes", (clone.folder / "more").touch),
@@ -222,7 +260,10 @@ def refused(tally: Tally, clone: Clone, why: str, *words: str | Path) -> None:
     got = clone.package(*words)
     said = got.stderr.decode()
     in_a_line = said.startswith("tests/package.sh: ") and why in said and said.count("\n") == 1
-    tally.check(got.status == 1 and not got.stdout and in_a_line and not clone.into.exists(), f"package.sh {words} says that {why}: {described(got)}")
+    tally.check(
+        got.status == 1 and not got.stdout and in_a_line and not clone.into.exists(),
+        f"package.sh {words} says that {why}: {described(got)}",
+    )
 
 
 def main() -> None:

@@ -3,11 +3,12 @@
 
     tests/postgres.py [PROGRAM [CHECKER]]
 
-Runs of random inputs leave their rows. Of each item, its bids, each category and each user the view of the program, opened with these rows, is compared with the
-line that examples/sql/lines.sql gives. Then examples/sql/perform.py executes random inputs and loads: the referee accepts their histories, and the tables have the
-views of the program that is opened with the rows of the history, also if connections break all the time. With no locks two buyers get the last piece, and the
-referee names the line.
-The server is one of its own, in a folder of its own; without PostgreSQL nothing is tried.
+Runs of random inputs leave their rows. Of each item, its bids, each category and each user the view of the
+program, opened with these rows, is compared with the line that examples/sql/lines.sql gives. Then
+examples/sql/perform.py executes random inputs and loads: the referee accepts their histories, and the tables have
+the views of the program that is opened with the rows of the history, also if connections break all the time. With
+no locks two buyers get the last piece, and the referee names the line. The server is one of its own, in a folder
+of its own; without PostgreSQL nothing is tried.
 """
 
 import csv
@@ -37,21 +38,32 @@ RUNS = 20
 OPTIONS = Options(joined=5, split=20, threshold=1, users=6, categories=3, rows=True)
 MARKET = ["--users", str(OPTIONS.users), "--categories", str(OPTIONS.categories)]
 PERFORMED = 10
-LOAD = Plan(requests=300, items=8, users=OPTIONS.users, categories=OPTIONS.categories, views=40, comments=15, purchases=10, new_items=10)
+LOAD = Plan(
+    requests=300,
+    items=8,
+    users=OPTIONS.users,
+    categories=OPTIONS.categories,
+    views=40,
+    comments=15,
+    purchases=10,
+    new_items=10,
+)
 # Four workers want ten pieces each of an item of twenty.
 LAST_PIECES, LAST_WORKERS = EXAMPLES / "last_pieces.csv", 4
 # Two purchases have to overlap: so often it is tried until two do.
 TRIES = 20
 OVERSOLD = re.compile(rb"line [0-9]+: [0-3],[0-9]+ buynow [0-3]\.[0-9]+ but refused 7 NotEnough was due\n")
 ACCEPTED = Outcome(0, b"the history replays\n", b"")
-# A server that waits for a standby that there is not acknowledges nothing. Then all connections in a transaction, of which only workers hold locks, are broken.
+# A server that waits for a standby that there is not acknowledges nothing. Then all connections in a transaction, of
+# which only workers hold locks, are broken.
 HOLD = "ALTER SYSTEM SET synchronous_standby_names = 'nobody'; SELECT pg_reload_conf();"
 BREAK = "SELECT pg_terminate_backend(pid) FROM pg_locks WHERE locktype = 'advisory';"
 GO_ON = "ALTER SYSTEM RESET synchronous_standby_names; SELECT pg_reload_conf();"
 BREAKING, BREAKS = replace(LOAD, requests=2000, workers=4, skew=100), 5
 # How many requests have numbers.
 NUMBERED = "SELECT coalesce(max(last_value), 0) FROM pg_sequences WHERE sequencename = 'commits';"
-# Waits in the server until something is so, or for a second: that some requests have numbers, or that some transaction has committed and is not acknowledged.
+# Waits in the server until something is so, or for a second: that some requests have numbers, or that some transaction
+# has committed and is not acknowledged.
 AWAITED = """\
 DO $$ BEGIN
     FOR _ IN 1 .. 1000 LOOP
@@ -62,20 +74,26 @@ END $$;
 """
 # What sessions wait for, and which standbys there are.
 SEEN_WAITING = """\
-SELECT state, wait_event, left(query, 80), count(*) FROM pg_stat_activity WHERE backend_type = 'client backend' GROUP BY 1, 2, 3;
+SELECT state, wait_event, left(query, 80), count(*) FROM pg_stat_activity \
+WHERE backend_type = 'client backend' GROUP BY 1, 2, 3;
 SELECT application_name, state, sync_state, flush_lsn, pg_current_wal_lsn() FROM pg_stat_replication;
 """
-HAVE_NUMBERS, IS_HELD = "pg_sequences WHERE sequencename = 'commits' AND last_value >= {}", "pg_stat_activity WHERE wait_event = 'SyncRep'"
+HAVE_NUMBERS, IS_HELD = (
+    "pg_sequences WHERE sequencename = 'commits' AND last_value >= {}",
+    "pg_stat_activity WHERE wait_event = 'SyncRep'",
+)
 
 
 class Answers(Protocol):
     """What answers SQL in lines: a server, or those of failover.py."""
 
-    def ask(self, text: str) -> list[str]: ...
+    def ask(self, text: str) -> list[str]:
+        ...
 
 
 class Server:
-    """A PostgreSQL server that lives as long as a `with` over it. It does not run as root: then it is Debian's user for it."""
+    """A PostgreSQL server that lives as long as a `with` over it. It does not run as root: then
+    it is Debian's user for it."""
 
     def __init__(self, tools: Path):
         self.tools = tools
@@ -100,7 +118,9 @@ class Server:
         return said_by(f"{tool}, given {text!r}", [*self.leave, path, *words], text, cwd="/")
 
     def ask(self, text: str) -> list[str]:
-        asked = self.call("psql", "-h", self.folder, "-U", "auction", "-d", "postgres", "-qAtX", "-v", "ON_ERROR_STOP=1", text=text)
+        asked = self.call(
+            "psql", "-h", self.folder, "-U", "auction", "-d", "postgres", "-qAtX", "-v", "ON_ERROR_STOP=1", text=text
+        )
         return asked.splitlines()
 
     def clear(self) -> None:
@@ -112,8 +132,12 @@ class Server:
     def closing_views(self, rows: bytes) -> list[str]:
         """What a new database says that has these rows."""
         self.clear()
-        loading = run_tool([sys.executable, "-B", SQL / "load.py", *MARKET], input=rows.decode(), stdout=PIPE, check=True, text=True).stdout
-        tables, views, transactions, lines = ((SQL / f"{name}.sql").read_text() for name in ("schema", "views", "transactions", "lines"))
+        loading = run_tool(
+            [sys.executable, "-B", SQL / "load.py", *MARKET], input=rows.decode(), stdout=PIPE, check=True, text=True
+        ).stdout
+        tables, views, transactions, lines = (
+            (SQL / f"{name}.sql").read_text() for name in ("schema", "views", "transactions", "lines")
+        )
         return self.ask(tables + loading + views + transactions + lines)
 
     def perform(self, data: bytes, *asked: str) -> Outcome:
@@ -132,7 +156,8 @@ def said_by(what: str, command: list, text: str = "", **how: Any) -> str:
 
 
 class Kept(NamedTuple):
-    """What perform.py says with --keep: how many requests were acknowledged, how many of them are lost, and how many connections broke."""
+    """What perform.py says with --keep: how many requests were acknowledged, how many of them are lost, and
+    how many connections broke."""
 
     acknowledged: int
     lost: int
@@ -140,7 +165,9 @@ class Kept(NamedTuple):
 
     @classmethod
     def of(cls, got: Outcome) -> "Kept":
-        said = re.fullmatch(rb"([0-9]+) requests acknowledged, ([0-9]+) of them lost; ([0-9]+) connections broken\n", got.stderr)
+        said = re.fullmatch(
+            rb"([0-9]+) requests acknowledged, ([0-9]+) of them lost; ([0-9]+) connections broken\n", got.stderr
+        )
         return cls(*map(int, said.groups())) if said else cls(-1, -1, -1)
 
 
@@ -153,7 +180,9 @@ def program_views(program: Path, rows: bytes) -> list[str]:
     """What the program replies to views of everything, opened with these rows."""
     items = [f"{worker}.{serial}" for worker, serial in items_of(rows)]
     asked = [f"viewitem,{item}" for item in items] + [f"viewbids,{item}" for item in items]
-    asked += [f"viewcategory,{category}" for category in range(OPTIONS.categories)] + [f"viewuser,{user}" for user in range(OPTIONS.users)]
+    asked += [f"viewcategory,{category}" for category in range(OPTIONS.categories)] + [
+        f"viewuser,{user}" for user in range(OPTIONS.users)
+    ]
     options = replace(OPTIONS, workers=16, rows=False)
     got = run([program, *options.words()], rows + "".join(f"0,{view}\n" for view in asked).encode())
     return [line.split(",", 2)[2] for line in got.stdout.decode().splitlines()]
@@ -182,10 +211,13 @@ def compared(what: str, ours: list[str], theirs: list[str]) -> tuple[bool, str]:
 
 
 def inputs_of(rng: random.Random) -> Iterator[tuple[int, bytes]]:
-    """Inputs for PostgreSQL, each with its number of workers: of random kinds, and loads of all skews. Their rows are not refused."""
+    """Inputs for PostgreSQL, each with its number of workers: of random kinds, and loads of all skews.
+    Their rows are not refused."""
     for number in range(PERFORMED):
         workers = rng.choice((1, 2, 4))
-        yield workers, load_of(replace(LOAD, workers=workers, skew=rng.choice((0, 100, 200)), seed=rng.randrange(1 << 32)))
+        yield workers, load_of(
+            replace(LOAD, workers=workers, skew=rng.choice((0, 100, 200)), seed=rng.randrange(1 << 32))
+        )
         while True:
             text = text_of(rng, workers)
             text.line_end = b"\n"
@@ -231,11 +263,15 @@ def histories(server: Server, program: Path, checker: Path, rng: random.Random, 
 
 
 def wait_for(server: Answers, moment: int, performed: Future) -> None:
-    """Waits until so many requests have numbers, or perform.py has ended. If they have none for too long, the script ends, and says what is waited for."""
+    """Waits until so many requests have numbers, or perform.py has ended. If they have none for too long, the script
+    ends, and says what is waited for."""
     awaited, end = AWAITED.format(HAVE_NUMBERS.format(moment)), time.monotonic() + SECONDS / 2
     while not performed.done() and (count := int(server.ask(awaited + NUMBERED)[0])) < moment:
         if time.monotonic() > end:
-            raise SystemExit(f"{count} requests have numbers after {SECONDS / 2:.0f} seconds, not {moment}: {server.ask(SEEN_WAITING)}")
+            raise SystemExit(
+                f"{count} requests have numbers after {SECONDS / 2:.0f} seconds, not {moment}: "
+                f"{server.ask(SEEN_WAITING)}"
+            )
 
 
 def broken_connections(server: Server, program: Path, checker: Path, rng: random.Random, tally: Tally) -> None:
@@ -250,7 +286,10 @@ def broken_connections(server: Server, program: Path, checker: Path, rng: random
             server.ask(BREAK + GO_ON)
     got = performed.result()
     told = Kept.of(got)
-    tally.check(got.status == 0 and told.acknowledged == BREAKING.requests and told.lost == 0 and told.broken > 0, f"broken connections: {described(got)}")
+    tally.check(
+        got.status == 0 and told.acknowledged == BREAKING.requests and told.lost == 0 and told.broken > 0,
+        f"broken connections: {described(got)}",
+    )
     tally.same("broken connections", found(checker, server.folder, BREAKING.workers, data, got.stdout), ACCEPTED)
     tally.check(*compared("broken connections", program_views(program, rows_after(data, got.stdout)), server.views()))
 
@@ -282,7 +321,12 @@ def main() -> None:
     seed = random.randrange(1 << 32)
     print(f"seed {seed}", flush=True)
     rng = random.Random(seed)
-    checks = ((closing_views, (program, rng)), (histories, (program, checker, rng)), (broken_connections, (program, checker, rng)), (last_pieces, (checker,)))
+    checks = (
+        (closing_views, (program, rng)),
+        (histories, (program, checker, rng)),
+        (broken_connections, (program, checker, rng)),
+        (last_pieces, (checker,)),
+    )
     with Server(tools()) as server:
         for check, given in checks:
             tally.tell(check, server, *given, tally)

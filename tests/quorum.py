@@ -1,6 +1,7 @@
 #!/usr/bin/env python3
-"""Shows that an auction of examples/front_quorum.py on three machines goes on while any one of them fails, and that all its leaders served one auction: what 50
-clients saw is judged over all of them. The machines are network namespaces, or all on loopback where those cannot be made. Needs Debian's etcd-server and etcd-client.
+"""Shows that an auction of examples/front_quorum.py on three machines goes on while any one of them fails, and that all
+its leaders served one auction: what 50 clients saw is judged over all of them. The machines are network namespaces, or
+all on loopback where those cannot be made. Needs Debian's etcd-server and etcd-client.
 
     tests/quorum.py [PROGRAM] [--check REFEREE]
 """
@@ -51,10 +52,16 @@ class Network:
             if LIBC.unshare(NEW_NETWORK):
                 return False
             self.spaces[machine] = os.open("/proc/self/ns/net", os.O_RDONLY)
-        if not self.ip(0, "link set lo up", "link add hub type bridge", "addr add 10.87.65.254/24 dev hub", "link set hub up"):
+        if not self.ip(
+            0, "link set lo up", "link add hub type bridge", "addr add 10.87.65.254/24 dev hub", "link set hub up"
+        ):
             return False
         return all(
-            self.ip(0, f"link add port{machine} type veth peer name eth0 netns {self.path(machine)}", f"link set port{machine} master hub up")
+            self.ip(
+                0,
+                f"link add port{machine} type veth peer name eth0 netns {self.path(machine)}",
+                f"link set port{machine} master hub up",
+            )
             and self.ip(machine, f"addr add {self.address(machine)}/24 dev eth0", "link set eth0 up", "link set lo up")
             for machine in MACHINES
         )
@@ -73,9 +80,13 @@ class Network:
         return f"10.87.65.{machine}" if self.spaces else "127.0.0.1"
 
     def cut(self, machine: int) -> bool:
-        """Between a machine and the others everything is lost, as at an address that nobody has; clients still reach it."""
+        """Between a machine and the others everything is lost, as at an address that nobody
+        has; clients still reach it."""
         pairs = [pair for other in MACHINES if other != machine for pair in ((machine, other), (other, machine))]
-        return all(self.ip(one, f"neigh replace {self.address(two)} lladdr 02:00:00:00:00:00 nud permanent dev eth0") for one, two in pairs)
+        return all(
+            self.ip(one, f"neigh replace {self.address(two)} lladdr 02:00:00:00:00:00 nud permanent dev eth0")
+            for one, two in pairs
+        )
 
     def heal(self) -> None:
         for one in MACHINES:
@@ -106,9 +117,25 @@ class Machine(Front):
 
     def start_etcd(self, machines: list["Machine"]) -> None:
         members = ",".join(f"{machine.number}=http://{machine.agrees_at}" for machine in machines)
-        places = {"listen-client": self.asked_at, "advertise-client": self.asked_at, "listen-peer": self.agrees_at, "initial-advertise-peer": self.agrees_at}
+        places = {
+            "listen-client": self.asked_at,
+            "advertise-client": self.asked_at,
+            "listen-peer": self.agrees_at,
+            "initial-advertise-peer": self.agrees_at,
+        }
         urls = (word for name, place in places.items() for word in (f"--{name}-urls", f"http://{place}"))
-        words = [*self.inside, "etcd", "--name", str(self.number), "--data-dir", self.folder / "etcd", "--initial-cluster", members, *urls, *ELECTION]
+        words = [
+            *self.inside,
+            "etcd",
+            "--name",
+            str(self.number),
+            "--data-dir",
+            self.folder / "etcd",
+            "--initial-cluster",
+            members,
+            *urls,
+            *ELECTION,
+        ]
         with (self.folder / "etcd_said").open("ab") as said:
             self.etcd = subprocess.Popen(words, stdout=said, stderr=said)
         self.started.append(self.etcd)
@@ -147,7 +174,18 @@ class Cluster:
     def words(self, machine: Machine) -> list[str]:
         """The command of a front."""
         place = ("--host", machine.address, "--port", machine.port, "--log", machine.log, "--audit", self.audit)
-        words = (sys.executable, "-B", EXAMPLES / "front_quorum.py", "--etcd", self.etcd, "--workers", WORKERS, *place, self.tester.program, "--fast")
+        words = (
+            sys.executable,
+            "-B",
+            EXAMPLES / "front_quorum.py",
+            "--etcd",
+            self.etcd,
+            "--workers",
+            WORKERS,
+            *place,
+            self.tester.program,
+            "--fast",
+        )
         return [*machine.inside, *map(str, words)]
 
     def start(self, rows: bytes) -> None:
@@ -170,7 +208,11 @@ class Cluster:
         """The machine of the front that leads, as the first server of etcd says that can tell."""
         fronts = {f"{machine.address}:{machine.port}": machine for machine in self.machines}
         for machine in self.machines * SECONDS:
-            place = self.etcdctl("get", "leader", "--print-value-only", "--command-timeout", "1s", at=machine.asked_at).decode().strip()
+            place = (
+                self.etcdctl("get", "leader", "--print-value-only", "--command-timeout", "1s", at=machine.asked_at)
+                .decode()
+                .strip()
+            )
             if place in fronts:
                 return fronts[place]
         raise LookupError("no front leads")
@@ -178,8 +220,15 @@ class Cluster:
     def leader_of_etcd(self) -> Machine:
         """The machine of the server of etcd that leads, once all can tell."""
         for _ in range(SECONDS):
-            states = {each["Endpoint"]: each["Status"] for each in json.loads(self.etcdctl("endpoint", "status", "--write-out", "json") or "[]")}
-            leaders = [machine for machine in self.machines if (state := states.get(machine.asked_at)) and state["leader"] == state["header"]["member_id"]]
+            states = {
+                each["Endpoint"]: each["Status"]
+                for each in json.loads(self.etcdctl("endpoint", "status", "--write-out", "json") or "[]")
+            }
+            leaders = [
+                machine
+                for machine in self.machines
+                if (state := states.get(machine.asked_at)) and state["leader"] == state["header"]["member_id"]
+            ]
             if len(states) == len(self.machines) and len(leaders) == 1:
                 return leaders[0]
         raise LookupError("no server of etcd leads")
@@ -187,17 +236,23 @@ class Cluster:
     def serves(self, what: str) -> None:
         wanted = self.replies() + MORE
         wait_until(lambda: self.replies() >= wanted)
-        self.tester.tally.check(self.replies() >= wanted, f"goes on {what}: {wanted - self.replies()} replies are lacking")
+        self.tester.tally.check(
+            self.replies() >= wanted, f"goes on {what}: {wanted - self.replies()} replies are lacking"
+        )
 
     def close(self) -> list[list[int]]:
         """The statuses of each front, once all have started: of those that wait, and of the leader."""
         wait_until(lambda: all(machine.has_started() for machine in self.machines))
         self.is_over.set()
         self.starter.join()
-        return [self.stopped(machine) for machine in sorted(self.machines, key=lambda machine, leader=self.leader(): machine is leader)]
+        return [
+            self.stopped(machine)
+            for machine in sorted(self.machines, key=lambda machine, leader=self.leader(): machine is leader)
+        ]
 
     def stopped(self, machine: Machine) -> list[int]:
-        """The statuses of a front that is stopped. On a busy machine its lease may end before: then it is started and stopped once more."""
+        """The statuses of a front that is stopped. On a busy machine its lease may end before: then it is
+        started and stopped once more."""
         statuses = [machine.close()]
         while statuses[-1] == NO_LEADER and len(statuses) < TRIES:
             machine.start()
@@ -314,7 +369,10 @@ def leads_no_longer(cluster: Cluster, leader: Machine, process: subprocess.Popen
     """Once another front leads, a front answers nothing, not even a view, and ends."""
     wait_until(lambda: cluster.leader() is not leader)
     got = leader.ask_late(undo)
-    cluster.tester.tally.check(got == b"" and process.wait(SECONDS) == NO_LEADER, f"what a front replies that leads no longer: {got}, status {process.poll()}")
+    cluster.tester.tally.check(
+        got == b"" and process.wait(SECONDS) == NO_LEADER,
+        f"what a front replies that leads no longer: {got}, status {process.poll()}",
+    )
 
 
 def stop_leader(cluster: Cluster) -> None:
@@ -333,13 +391,17 @@ def keeps_rows(cluster: Cluster) -> None:
     machine, rows = cluster.machines[0], mix()[0]
     machine.log.write_bytes(rows)
     got = run(machine.words)
-    cluster.tester.tally.check(got.status == 1 and b"has rows, and etcd has none" in got.stderr and machine.log.read_bytes() == rows, f"an etcd without rows: {got}")
+    cluster.tester.tally.check(
+        got.status == 1 and b"has rows, and etcd has none" in got.stderr and machine.log.read_bytes() == rows,
+        f"an etcd without rows: {got}",
+    )
     machine.log.unlink()
     cluster.etcdctl("del", "leader")
 
 
 def failures(tester: FrontTester) -> None:
-    """50 clients of three machines while programs, a leader and a server of etcd are killed, leaders are frozen, cut off and stopped; judged over all leaders"""
+    """50 clients of three machines while programs, a leader and a server of etcd are killed, leaders are frozen, cut
+    off and stopped; judged over all leaders"""
     check, cluster = tester.tally.check, Cluster(tester, Network())
     keeps_rows(cluster)
     cluster.start(mix()[0])
@@ -348,7 +410,10 @@ def failures(tester: FrontTester) -> None:
     check(set(outcome.refused) <= {UNKNOWN, ENDS}, f"refused: {outcome.refused}")
     last, rows = cluster.leader(), cluster.etcdctl("get", "log/", "--prefix", "--print-value-only").decode()
     statuses = cluster.close()
-    check([tried[-1] for tried in statuses] == [0, 0, 0], f"statuses of fronts that wait, and of the leader, when they are stopped: {statuses}")
+    check(
+        [tried[-1] for tried in statuses] == [0, 0, 0],
+        f"statuses of fronts that wait, and of the leader, when they are stopped: {statuses}",
+    )
     log = whole_lines(last.log)
     check(log == [row for row in rows.split("\n") if row], "the log of the last leader has the rows of etcd")
     served = SimpleNamespace(audit=cluster.audit, log=last.log, folder=last.folder, said=last.said)

@@ -1,12 +1,14 @@
 #!/usr/bin/env python3
-"""Shows what the built program does where memory is refused: the fault that docs/FORMATS.md names, or all of its output, and nothing else.
+"""Shows what the built program does where memory is refused: the fault that docs/FORMATS.md names, or all
+of its output, and nothing else.
 
     tests/refused_memory.py [PROGRAM]
 
-For each input below, the first allocation is refused, then the second, and so on, until a run asks for no more; then the same where all that come
-after are refused as well. The later the allocation, the later the part of the program whose fault it is. Then the system grants so many bytes and no more, from few to many. A fault before the first byte leaves the output empty.
-Where only the report lacks memory, what stands before it has been written whole. A run that a signal ends, or that takes longer than ten minutes, has
-failed. Without a C compiler only the system refuses.
+For each input below, the first allocation is refused, then the second, and so on, until a run asks for no more; then
+the same where all that come after are refused as well. The later the allocation, the later the part of the program
+whose fault it is. Then the system grants so many bytes and no more, from few to many. A fault before the first byte
+leaves the output empty. Where only the report lacks memory, what stands before it has been written whole. A run that a
+signal ends, or that takes longer than ten minutes, has failed. Without a C compiler only the system refuses.
 """
 
 import itertools
@@ -53,10 +55,15 @@ class Case:
     def is_answer_without_report(self, got: Outcome) -> bool:
         """Whether the report alone was refused memory."""
         without = replace(self, options=replace(self.options, report=False))
-        return self.options.report and got == replace(NO_MEMORY[3], stdout=got.stdout) and without.is_answer(Outcome(0, got.stdout, b""))
+        return (
+            self.options.report
+            and got == replace(NO_MEMORY[3], stdout=got.stdout)
+            and without.is_answer(Outcome(0, got.stdout, b""))
+        )
 
     def last_part(self) -> int:
-        """The last part of the program that takes memory, by its status: options, reading, performing, writing. A history is written with none."""
+        """The last part of the program that takes memory, by its status: options, reading, performing, writing. A
+        history is written with none."""
         try:
             open_auction(self.data, self.options)
         except Fault as fault:
@@ -88,8 +95,16 @@ def cases() -> list[Case]:
     return [
         Case("no request", b"", Options(report=True, categories=1)),
         Case("the first example, with no words", first, Options()),
-        Case("two equal bids, and a view that waits for both", worked("a view of a hot item waits for the merged bids"), pair),
-        Case("comments on a hot user: replies and report", worked("what is hot, and who was commented on"), replace(pair, report=True)),
+        Case(
+            "two equal bids, and a view that waits for both",
+            worked("a view of a hot item waits for the merged bids"),
+            pair,
+        ),
+        Case(
+            "comments on a hot user: replies and report",
+            worked("what is hot, and who was commented on"),
+            replace(pair, report=True),
+        ),
         *with_each_output("one worker", first, alone),
         *with_each_output("two workers, hot objects and a stash", contended, both),
         *with_each_output("rows and a script", large(rows), rows),
@@ -121,8 +136,12 @@ def with_each_output(name: str, data: bytes, options: Options) -> list[Case]:
 def crowd() -> tuple[bytes, Options]:
     """Two workers bid on four items, in phases that are long enough for threads, each item in a shard of its own."""
     calls = (b"bid,1,0.%d,10,5", b"bid,1,0.%d,10,5", b"bid,1,0.%d,10,5", b"viewitem,0.%d")
-    scripts = [b"%d,%s\n" % (worker, calls[index // 4 % 4] % (index % 4)) for worker in range(2) for index in range(300)]
-    return VASE * 4 + b"".join(scripts), Options(workers=2, joined=150, split=150, threshold=1, history=True, report=True)
+    scripts = [
+        b"%d,%s\n" % (worker, calls[index // 4 % 4] % (index % 4)) for worker in range(2) for index in range(300)
+    ]
+    return VASE * 4 + b"".join(scripts), Options(
+        workers=2, joined=150, split=150, threshold=1, history=True, report=True
+    )
 
 
 def throng() -> tuple[bytes, Options]:
@@ -133,7 +152,8 @@ def throng() -> tuple[bytes, Options]:
 
 
 def long_input() -> tuple[bytes, Options]:
-    """Four workers look at a user, and put up an item at times, in an input that is long enough for threads and in phases that are not."""
+    """Four workers look at a user, and put up an item at times, in an input that is long enough for threads
+    and in phases that are not."""
     views = b"".join(b"%d,viewuser,1\n" % worker for worker in range(4))
     items = b"".join(b"%d,item,1,0,Cup,1,1000,2\n" % worker for worker in range(4))
     return VASE + (views * 250 + items) * 6, Options(workers=4, joined=128, split=128)

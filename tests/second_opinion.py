@@ -3,12 +3,13 @@
 
     tests/second_opinion.py [PROGRAM] [--seconds 120] [--seed N]
 
-With one worker the output, the standard error and the status have to be the model's, byte for byte. So has every fault, with any number of workers.
-Of several workers, whose threads choose the history, what is printed has to be lawful as histories.py checks it; rows are also read again. The same
-seed makes the same inputs again. Each failing input is written to a file in tests/out, and the command line that shows it again is printed.
+With one worker the output, the standard error and the status have to be the model's, byte for byte. So has every fault,
+with any number of workers. Of several workers, whose threads choose the history, what is printed has to be lawful as
+histories.py checks it; rows are also read again. The same seed makes the same inputs again. Each failing input is
+written to a file in tests/out, and the command line that shows it again is printed.
 
-Before all that, the checkers of histories, replies and rows have to take those of the example in the documents, and to refuse them with a line
-dropped, doubled or moved, and with any digit changed.
+Before all that, the checkers of histories, replies and rows have to take those of the example in the documents, and to
+refuse them with a line dropped, doubled or moved, and with any digit changed.
 """
 
 import random
@@ -104,7 +105,8 @@ def try_checkers(tally: Tally) -> None:
     try_checker(tally, replace(EXAMPLE, history=True), history, altered(history))
     replies = replies_of(history)
     try_checker(tally, EXAMPLE, replies, altered(replies))
-    # Rows tell neither what was refused nor, of bids of two workers, which came first. So a row may be missing, or come later.
+    # Rows tell neither what was refused nor, of bids of two workers, which came first. So a row
+    # may be missing, or come later.
     rows_altered = (*with_line_doubled(EXAMPLE_ROWS), *with_digit_changed(EXAMPLE_ROWS))
     try_checker(tally, replace(EXAMPLE, rows=True), EXAMPLE_ROWS, rows_altered)
     print(f"{tally.passed} texts of the example, altered and not, taken as they should be", flush=True)
@@ -189,7 +191,10 @@ class Session:
     def tell_kinds(self) -> None:
         for kind, number in sorted(self.comparer.kinds.items()):
             print(f"{number:8} {kind}")
-        print(f"{self.undecided:8} of these neither passed nor failed: too many orders could explain the replies", flush=True)
+        print(
+            f"{self.undecided:8} of these neither passed nor failed: too many orders could explain the replies",
+            flush=True,
+        )
 
 
 def main() -> None:

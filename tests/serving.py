@@ -1,6 +1,7 @@
 #!/usr/bin/env python3
-"""Shows what clients of examples/front.py may rely on, as docs/SERVING.md says: replies in order, bounds that hold, clients that disturb no other, and an auction
-that outlasts kills of the program and of the front. What many clients saw is judged: whether it is strictly serializable, and whether the log has what was answered.
+"""Shows what clients of examples/front.py may rely on, as docs/SERVING.md says: replies in order, bounds that hold,
+clients that disturb no other, and an auction that outlasts kills of the program and of the front. What many clients saw
+is judged: whether it is strictly serializable, and whether the log has what was answered.
 
     tests/serving.py [PROGRAM] [--check REFEREE] [--kills 5] [--only CHECK]
 """
@@ -33,7 +34,21 @@ from lib.fronts import ENDS, FRONT, MEGABYTES, SEEN, UNKNOWN, UNKNOWN_COMMAND, C
 from lib.misbehaving import hang_up, keep_asking, read_nothing, send_rubbish
 from lib.program import BUILT, EXAMPLES, Tally, built, executable, parser_of, run
 from lib.sessions import SECONDS, wait_until
-from lib.watched import MIX, Outcome, Seen, Start, against_time, judge, judged_by_itself, log_is_exact, mix, referee, seen_otherwise, watched, whole_lines
+from lib.watched import (
+    MIX,
+    Outcome,
+    Seen,
+    Start,
+    against_time,
+    judge,
+    judged_by_itself,
+    log_is_exact,
+    mix,
+    referee,
+    seen_otherwise,
+    watched,
+    whole_lines,
+)
 
 
 class ServingTester(FrontTester):
@@ -84,7 +99,8 @@ ASKED = (
 
 
 def commands(tester: FrontTester) -> None:
-    """each kind of request, as a line and as an array, names with commas and quotes, faults in their places, and the other commands"""
+    """each kind of request, as a line and as an array, names with commas and quotes, faults in their
+    places, and the other commands"""
     front = Front(tester, "commands")
     with front.client() as client:
         for command, reply in ASKED:
@@ -94,16 +110,39 @@ def commands(tester: FrontTester) -> None:
         got = client.ask(*(command for command, _ in ASKED[3:11]))
         tester.tally.check(got[0] == b"+bid 1.0", f"a second connection is another worker's: {got}")
         got = client.ask(b"PLACES ON", b"VIEWUSER 0", b"BID 3", b"VIEWUSER 0", b"QUIT", b"PING")
-        tester.tally.check(got == [b"+OK", b"+1.1.8 user rating=0 comments=0", b"-ERR wrong number of fields", b"+1.1.9 user rating=0 comments=0", b"+OK", b""], f"places: {got}")
+        tester.tally.check(
+            got
+            == [
+                b"+OK",
+                b"+1.1.8 user rating=0 comments=0",
+                b"-ERR wrong number of fields",
+                b"+1.1.9 user rating=0 comments=0",
+                b"+OK",
+                b"",
+            ],
+            f"places: {got}",
+        )
     with front.client() as client:
         # One write is one group, without the command that has a fault. The last item's name is no item.
         item = packed(b"ITEM", b"1", b"2", b"0.9,0.9,0.9,0.9,0.9,0.9", b"10", b"100", b"1")
-        client.ask(b"BID 1 0.0 700 *", b"VIEWITEM 0.0", b"COMMENT 1 2 0.0 5", b"VIEWITEM 0.1", b"VIEWUSER 0", item, b"BID 3", b"QUIT")
+        client.ask(
+            b"BID 1 0.0 700 *",
+            b"VIEWITEM 0.0",
+            b"COMMENT 1 2 0.0 5",
+            b"VIEWITEM 0.1",
+            b"VIEWUSER 0",
+            item,
+            b"BID 3",
+            b"QUIT",
+        )
     got = front.info()
     told = got["last_group_requests"], got["busiest_item"], got["busiest_item_requests"]
     tester.tally.check(told == (6, "0.0", 3), f"INFO on the last group: {told}")
     told = [got[name] for name in ("connected_clients", "starts", "under_way", "requests")]
-    tester.tally.check(told == [1, 1, 0, 31] and 0 < got["groups"] <= 26 and 0 < got["group_microseconds"] < 1e6 * SECONDS, f"INFO: {got}")
+    tester.tally.check(
+        told == [1, 1, 0, 31] and 0 < got["groups"] <= 26 and 0 < got["group_microseconds"] < 1e6 * SECONDS,
+        f"INFO: {got}",
+    )
     tester.tally.check(front.close() == 0, "the status after SIGTERM")
     tester.tally.check(whole_lines(front.log)[2] == '0,+item,1,2,"A, ""quoted""  name",10,100,1,1', "the log")
     judged_by_itself(tester, front)
@@ -115,9 +154,20 @@ def pipelines(tester: FrontTester) -> None:
     with front.client() as client:
         data, wanted = b"", []
         for number in range(1500):
-            command, reply = draw.choice(((b"PING", b"+PONG"), (b"BID 1", b"-ERR wrong number of fields"), (b"VIEWUSER 1", SEEN), (b"", None), (b"X", UNKNOWN_COMMAND)))
+            command, reply = draw.choice(
+                (
+                    (b"PING", b"+PONG"),
+                    (b"BID 1", b"-ERR wrong number of fields"),
+                    (b"VIEWUSER 1", SEEN),
+                    (b"", None),
+                    (b"X", UNKNOWN_COMMAND),
+                )
+            )
             if draw.random() < 0.5:
-                command, reply = (b"BID 1 0.0 500 %d" % number, b"+bid 0.%d" % sum(line[:4] == b"+bid" for line in wanted))
+                command, reply = (
+                    b"BID 1 0.0 500 %d" % number,
+                    b"+bid 0.%d" % sum(line[:4] == b"+bid" for line in wanted),
+                )
             data += packed(*command.split()) + b"\n" if command and draw.random() < 0.5 else command + b"\r\n"
             wanted += [] if reply is None else [reply]
         threading.Thread(target=in_pieces, args=(client, data, draw), daemon=True).start()
@@ -139,7 +189,8 @@ def in_pieces(client: Client, data: bytes, draw: random.Random) -> None:
 
 
 def misbehaving(tester: FrontTester) -> None:
-    """readers that do not read, clients that hang up, and rubbish: another client waits less than a second, and the front stays small"""
+    """readers that do not read, clients that hang up, and rubbish: another client waits less than a
+    second, and the front stays small"""
     front, draw = Front(tester, "misbehaving", rows=mix()[0]), random.Random(2)
     waits, over = [], threading.Event()
     steady = threading.Thread(target=keep_asking, args=(front, waits, over))
@@ -151,7 +202,10 @@ def misbehaving(tester: FrontTester) -> None:
         misbehave(tester, front, draw)
         wait_until(lambda: len(waits) > count)
         longest = max(waits[count:])
-        tester.tally.check(longest < 1 and front.most_megabytes() < MEGABYTES, f"{misbehave.__name__}: a wait of {longest:.2f} s, {front.most_megabytes():.0f} MB")
+        tester.tally.check(
+            longest < 1 and front.most_megabytes() < MEGABYTES,
+            f"{misbehave.__name__}: a wait of {longest:.2f} s, {front.most_megabytes():.0f} MB",
+        )
     over.set()
     steady.join()
     wait_until(lambda: front.info()["under_way"] == 0)
@@ -174,7 +228,9 @@ def group_commit(tester: FrontTester) -> None:
         wait_until(lambda: front.info()["under_way"] == 100)
     got = sorted(client.reply() for client in clients)
     after = front.info()
-    tester.tally.check(len(set(got)) == 100 and all(line.startswith(b"+bid ") for line in got), f"replies to 100 clients: {got[:3]}")
+    tester.tally.check(
+        len(set(got)) == 100 and all(line.startswith(b"+bid ") for line in got), f"replies to 100 clients: {got[:3]}"
+    )
     tester.tally.check(after["groups"] - before["groups"] <= 2, f"{after['groups'] - before['groups']} groups")
     for client in clients:
         client.__exit__()
@@ -182,7 +238,8 @@ def group_commit(tester: FrontTester) -> None:
 
 
 def outcomes(tester: FrontTester) -> None:
-    """a program that is killed: its writes are unknown, its views are asked again, in the order of their requests; and nothing else is disturbed"""
+    """a program that is killed: its writes are unknown, its views are asked again, in the order of their requests;
+    and nothing else is disturbed"""
     front = Front(tester, "outcomes", rows=b"0,+bi")
     with front.client() as client, front.client() as other:
         client.ask(b"ITEM 1 2 Vase 10 100 1")
@@ -193,19 +250,24 @@ def outcomes(tester: FrontTester) -> None:
         got = [client.reply() for _ in range(5)]
         tester.tally.check(got == [UNKNOWN, SEEN, b"+PONG", UNKNOWN, b"+bids"], f"after a kill: {got}")
         tester.tally.check(other.ask(b"BID 3 0.0 500 5") == [b"+bid 1.0"], "another client goes on")
-    tester.tally.check(front.info()["starts"] == 2 and "5 bytes of a cut line" in front.said.read_text(), f"the program was started again: {front.said.read_text()}")
+    tester.tally.check(
+        front.info()["starts"] == 2 and "5 bytes of a cut line" in front.said.read_text(),
+        f"the program was started again: {front.said.read_text()}",
+    )
     front.close()
     judged_by_itself(tester, front)
 
 
-# A program that is asked for three bids or views, and ends when it has answered the last and the first. Its next start answers all three.
+# A program that is asked for three bids or views, and ends when it has answered the last and the first. Its
+# next start answers all three.
 CUT_OFF = """\
 #!/usr/bin/env python3
 import os, sys
 kinds = [sys.stdin.readline().split(",")[1] for _ in range(3)]
 if not os.path.exists("began"):
     open("began", "w")
-    print("0 1 0 2 bid 0.0\\n0 2 0 0 bid 0.1" if "bid" in kinds else "0 1 0 2 user rating=5 comments=1\\n0 2 0 0 user rating=5 comments=1")
+    reply, other = ("bid 0.0", "bid 0.1") if "bid" in kinds else ["user rating=5 comments=1"] * 2
+    print(f"0 1 0 2 {reply}\\n0 2 0 0 {other}")
     sys.exit(7)
 for index in range(3):
     print(f"0 {index} 0 {index} user rating=0 comments=0", flush=True)
@@ -214,7 +276,8 @@ sys.stdin.read()
 
 
 def cut_parts(tester: FrontTester) -> None:
-    """a program that ends in the middle of its replies: none that has an unanswered request before it is released, what is kept is a history, and views are asked anew"""
+    """a program that ends in the middle of its replies: none that has an unanswered request before it is released, what
+    is kept is a history, and views are asked anew"""
     program = script(tester.folder / "cut_off", CUT_OFF)
     for request, reply in ((b"BID 1 0.0 500 5", UNKNOWN), (b"VIEWUSER 1", SEEN)):
         place = tester.folder / f"cut_{request[:3].decode()}"
@@ -251,11 +314,15 @@ def full_workers(tester: FrontTester) -> None:
     front = Front(tester, "full_workers", program=script(tester.folder / "full", IS_FULL))
     with front.client() as client:
         got = client.ask(b"BID 1 0.0 500 5", b"VIEWUSER 0")
-    tester.tally.check(got == [b"-ERR more than 2147483648 requests for a worker", SEEN] and front.close() == 0, f"a worker that is full: {got}")
+    tester.tally.check(
+        got == [b"-ERR more than 2147483648 requests for a worker", SEEN] and front.close() == 0,
+        f"a worker that is full: {got}",
+    )
 
 
 def waits_for_the_log(tester: FrontTester) -> None:
-    """a log that another program still has, as that of a front that was killed: what is kept begins with all of its rows"""
+    """a log that another program still has, as that of a front that was killed: what is kept
+    begins with all of its rows"""
     log, row = tester.folder / "waited", mix()[0].splitlines(True)[0]
     log.write_bytes(row)
     with log.open("ab") as other:
@@ -302,10 +369,13 @@ def terminated(tester: FrontTester) -> None:
 
 
 def kept_in_order(tester: FrontTester) -> None:
-    """a history that cannot be written: the requests of its lines are kept already, so a front that is killed in between keeps no reply without its request"""
+    """a history that cannot be written: the requests of its lines are kept already, so a front that is killed in
+    between keeps no reply without its request"""
     audit, client = Audit(tester.folder / "in_order", 1, None), SimpleNamespace(worker=0)
     with open("/dev/full", "wb", buffering=0) as audit.history, suppress(OSError):
-        audit.keep([b"0 0 0 0 user rating=0 comments=0"] * 100, [SimpleNamespace(client=client, record=b"viewuser,0")] * 100)
+        audit.keep(
+            [b"0 0 0 0 user rating=0 comments=0"] * 100, [SimpleNamespace(client=client, record=b"viewuser,0")] * 100
+        )
     kept = whole_lines(tester.folder / "in_order" / "1.csv")
     tester.tally.check(kept == ["0,viewuser,0"] * 100, f"{len(kept)} requests kept before their history")
 
@@ -314,8 +384,13 @@ UNIT = EXAMPLES / "front.service"
 
 
 def service(tester: FrontTester) -> None:
-    """front.service: systemd takes it, and its command, with a socket of the file system, serves by its own clock and ends with status 0"""
-    text = UNIT.read_text().replace("/usr/local/lib/fundreivo", str(EXAMPLES)).replace("/usr/local/bin/rubis_auction", str(tester.program))
+    """front.service: systemd takes it, and its command, with a socket of the file system, serves by its own
+    clock and ends with status 0"""
+    text = (
+        UNIT.read_text()
+        .replace("/usr/local/lib/fundreivo", str(EXAMPLES))
+        .replace("/usr/local/bin/rubis_auction", str(tester.program))
+    )
     unit, place, state = tester.folder / "auction.service", tester.folder / "socket", tester.folder / "state"
     unit.write_text(text)
     state.mkdir()
@@ -333,7 +408,9 @@ def service(tester: FrontTester) -> None:
     tester.tally.check(process.wait(SECONDS) == 0, "the status of the service")
     (row,) = whole_lines(state / "auction.rows")
     written = re.fullmatch(r'0,\+item,1,2,"Vase",10,99999999999999,(\d+),1', row)
-    tester.tally.check(written is not None and abs(int(written[1]) / 1000 - time.time()) < SECONDS, f"the log of the service: {row}")
+    tester.tally.check(
+        written is not None and abs(int(written[1]) / 1000 - time.time()) < SECONDS, f"the log of the service: {row}"
+    )
 
 
 def first_client(place: Path) -> Client:
@@ -350,7 +427,8 @@ def first_client(place: Path) -> Client:
 
 
 def without_a_way_on(tester: FrontTester) -> None:
-    """ends with status 1: a program that dies without a log, a log that cannot be opened, no program, a port in use, an audit that cannot be kept"""
+    """ends with status 1: a program that dies without a log, a log that cannot be opened, no program, a port in use,
+    an audit that cannot be kept"""
     free = Front(tester, "unlogged")
     words = [word for word in free.words if word not in ("--log", str(free.log))]
     free.close()
@@ -363,18 +441,29 @@ def without_a_way_on(tester: FrontTester) -> None:
             os.kill(Front.engine(front), signal.SIGKILL)
             tester.tally.check(process.wait(SECONDS) == 1, "the status of a front without a log")
     front = Front(tester, "foreign", rows=b"not a log\n")
-    tester.tally.check(front.process.wait(SECONDS) == 1 and front.said.read_text().count("record 1: not a number") == 6, f"a foreign log: {front.said.read_text()}")
+    tester.tally.check(
+        front.process.wait(SECONDS) == 1 and front.said.read_text().count("record 1: not a number") == 6,
+        f"a foreign log: {front.said.read_text()}",
+    )
     front = Front(tester, "missing", program=tester.folder / "none")
-    tester.tally.check(front.process.wait(SECONDS) == 1 and "No such file" in front.said.read_text(), f"no program: {front.said.read_text()}")
+    tester.tally.check(
+        front.process.wait(SECONDS) == 1 and "No such file" in front.said.read_text(),
+        f"no program: {front.said.read_text()}",
+    )
     with socket.create_server(("127.0.0.1", 0)) as taken:
         got = run([*FRONT, "--port", str(taken.getsockname()[1]), tester.program])
-        tester.tally.check(got.status == 1 and got.stderr.startswith(b"front: ") and b"in use" in got.stderr, f"a port in use: {got}")
+        tester.tally.check(
+            got.status == 1 and got.stderr.startswith(b"front: ") and b"in use" in got.stderr, f"a port in use: {got}"
+        )
     limit = lambda: resource.setrlimit(resource.RLIMIT_FSIZE, (10_000, 10_000))
     front = Front(tester, "unkept", preexec_fn=limit)
     with front.client() as client:
         client.send(b"VIEWUSER 0\n" * 2000)
         got = Counter(iter(client.reply, b""))
-        tester.tally.check(front.process.wait(SECONDS) == 1 and got[SEEN] < 2000, f"an audit that cannot be kept: {got}, {front.said.read_text()}")
+        tester.tally.check(
+            front.process.wait(SECONDS) == 1 and got[SEEN] < 2000,
+            f"an audit that cannot be kept: {got}, {front.said.read_text()}",
+        )
     kept = [len(whole_lines(path)) for path in (front.audit / "1.csv", front.audit / "1.history")]
     tester.tally.check(got[SEEN] <= min(kept), f"{got[SEEN]} replies of which the audit keeps {kept}")
 
@@ -389,11 +478,14 @@ def is_served(port: int) -> bool:
 
 
 def engine_kills(tester: ServingTester) -> None:
-    """100 clients while the program is killed and started again; and errors planted in what was kept and seen, which are found"""
+    """100 clients while the program is killed and started again; and errors planted in what was
+    kept and seen, which are found"""
     front = Front(tester, "engine_kills", rows=mix()[0])
     outcome = watched(front, *[front.kill_engine] * tester.kills)
     tester.tally.check(front.info()["starts"] == tester.kills + 1, f"{front.info()['starts']} starts")
-    tester.tally.check(set(outcome.refused) <= {UNKNOWN} and not outcome.lost, f"{outcome.refused}, {outcome.lost} lost")
+    tester.tally.check(
+        set(outcome.refused) <= {UNKNOWN} and not outcome.lost, f"{outcome.refused}, {outcome.lost} lost"
+    )
     tester.tally.check(front.most_megabytes() < MEGABYTES and front.close() == 0, "memory and status")
     starts = judge(tester, front, outcome)
     judged_by_itself(tester, front)
@@ -413,7 +505,7 @@ def planted(tester: FrontTester, starts: list[Start], outcome: Outcome, log: lis
     for what, wanted, found in (
         ("a changed reply", "1 seen otherwise", seen_otherwise(starts, changed)),
         ("two swapped replies", " was due", referee(tester, replace(start, history=swapped))),
-        ("a lost row", "the log has other rows", log_is_exact(starts, log[:MIX.items] + log[MIX.items + 1 :])),
+        ("a lost row", "the log has other rows", log_is_exact(starts, log[: MIX.items] + log[MIX.items + 1 :])),
         ("a row too many", "1 rows behind", log_is_exact(starts, [*log, log[-1]])),
         ("a request that comes before one that was answered earlier", "1 against time", against_time(starts, late)),
     ):
@@ -426,10 +518,31 @@ def front_kills(tester: ServingTester) -> None:
     outcome = watched(front, *[front.kill] * tester.kills)
     tester.tally.check(front.close() == 0, "the status after kills")
     starts = judge(tester, front, outcome)
-    tester.tally.check(len(starts) > tester.kills and outcome.lost > 0, f"{len(starts)} starts, {outcome.lost} replies lost")
+    tester.tally.check(
+        len(starts) > tester.kills and outcome.lost > 0, f"{len(starts)} starts, {outcome.lost} replies lost"
+    )
 
 
-CHECKS = (commands, pipelines, other_clients, loads, shown, bounds, misbehaving, group_commit, outcomes, cut_parts, full_workers, waits_for_the_log, terminated, kept_in_order, service, without_a_way_on, engine_kills, front_kills)
+CHECKS = (
+    commands,
+    pipelines,
+    other_clients,
+    loads,
+    shown,
+    bounds,
+    misbehaving,
+    group_commit,
+    outcomes,
+    cut_parts,
+    full_workers,
+    waits_for_the_log,
+    terminated,
+    kept_in_order,
+    service,
+    without_a_way_on,
+    engine_kills,
+    front_kills,
+)
 
 
 def main() -> None:

@@ -1,7 +1,8 @@
 #!/usr/bin/env python3
-"""Shows that the libraries have each call that was specified before they were written: types with their public fields or variants, traits with what has to be
-written of them, functions with the types of their parameters and results. tests/surface.txt lists them, and says how it is read. If the sources have another
-form, it is below the specified one, and the table of docs/DECISIONS.md names the call.
+"""Shows that the libraries have each call that was specified before they were written: types with their public fields
+or variants, traits with what has to be written of them, functions with the types of their parameters and results.
+tests/surface.txt lists them, and says how it is read. If the sources have another form, it is below the specified one,
+and the table of docs/DECISIONS.md names the call.
 
     tests/surface.py
 """
@@ -20,7 +21,8 @@ DECISIONS = DOCUMENTS / "DECISIONS.md"
 # Where its table begins, and the row of a type that has another name in all calls.
 FORMS = "\n## Forms of calls\n"
 OF_MEMORY, MEMORY = "every call that can run out of memory", {"Memory": "AllocError"}
-# Type parameters that only contracts read: they name a phase, or a publisher. The list has the second where a type is declared.
+# Type parameters that only contracts read: they name a phase, or a publisher. The list has the
+# second where a type is declared.
 PHASE, NAMES = "PhaseName", ("PhaseName", "WindowName")
 # Parameters of which only the name is written.
 SHORT = {"rt": r"&\w", "alloc": "Global", "reader": r"\w", "writer": r"&mut \w"}
@@ -38,13 +40,19 @@ class Form:
 
     def __str__(self) -> str:
         if self.head.startswith("fn "):
-            return f"{self.head}({', '.join(': '.join(filter(None, one)) for one in self.parameters)}){self.result and ' -> '}{self.result}"
+            parameters = ", ".join(": ".join(filter(None, one)) for one in self.parameters)
+            return f"{self.head}({parameters}){self.result and ' -> '}{self.result}"
         return self.head + (f" {{ {', '.join(sorted(self.members))} }}" if self.members else "")
 
     def is_met_by(self, other: "Form") -> bool:
         """The list may leave out the name of a parameter."""
-        same = (self.head, self.members, self.result) == (other.head, other.members, other.result) and len(self.parameters) == len(other.parameters)
-        return same and all(type_ == of and name in ("", called) for (name, type_), (called, of) in zip(self.parameters, other.parameters))
+        same = (self.head, self.members, self.result) == (other.head, other.members, other.result) and len(
+            self.parameters
+        ) == len(other.parameters)
+        return same and all(
+            type_ == of and name in ("", called)
+            for (name, type_), (called, of) in zip(self.parameters, other.parameters)
+        )
 
 
 @dataclass
@@ -91,22 +99,29 @@ def all_items() -> Iterator[tuple[Crate, Item]]:
 def constants() -> dict[str, str]:
     """The constants that are a number, by which types name lengths."""
     found = {item.name: item.default.left for _, item in all_items() if item.kind == "const" and item.default}
-    return {name: value[0].replace("_", "") for name, value in found.items() if len(value) == 1 and value[0][0].isdigit()}
+    return {
+        name: value[0].replace("_", "") for name, value in found.items() if len(value) == 1 and value[0][0].isdigit()
+    }
 
 
 @cache
 def aliases() -> dict[str, str]:
     """What types are called that have a public name of their own."""
-    return {scope_of(item).of(item.default): item.name for _, item in all_items() if item.kind == "type" and item.is_public}
+    return {
+        scope_of(item).of(item.default): item.name for _, item in all_items() if item.kind == "type" and item.is_public
+    }
 
 
 def scope_of(item: Item, others: Scope = Scope()) -> Scope:
-    """A scope with the type parameters of a declaration. Those of an alias have the bounds of the type that it names."""
+    """A scope with the type parameters of a declaration. Those of an alias have the bounds of the type that it
+    names."""
     if item.kind != "type" or not item.default:
         return others.within(item.generics)
     tokens = item.default.copy()
     name = tokens.next()
-    bounds = next((list(found.generics.values()) for _, found in all_items() if found.kind == "struct" and found.name == name), [])
+    bounds = next(
+        (list(found.generics.values()) for _, found in all_items() if found.kind == "struct" and found.name == name), []
+    )
     of = [part.peek() for part in tokens.upto(">").parts()] if tokens.take("<") else []
     return others.within(dict(zip(of, bounds)))
 
@@ -115,14 +130,22 @@ def form(item: Item, name: str, scope: Scope) -> Form:
     """The form of a declaration, by the name that the list has for it."""
     scope = scope_of(item, scope)
     if item.kind == "fn":
-        return Form(f"fn {name}", tuple(parameter(scope, part.copy()) for part in item.parameters), result=scope.of(item.type))
-    written = ", ".join(of + (bounds and f": {bounds}") for of, bounds in item.generics.items() if bounds != PHASE and (bounds or scope.meant.get(of) != ""))
+        return Form(
+            f"fn {name}", tuple(parameter(scope, part.copy()) for part in item.parameters), result=scope.of(item.type)
+        )
+    written = ", ".join(
+        of + (bounds and f": {bounds}")
+        for of, bounds in item.generics.items()
+        if bounds != PHASE and (bounds or scope.meant.get(of) != "")
+    )
     head = f"{item.kind} {name}" + (f"<{written}>" if written else "")
     if item.kind == "type":
         return Form(f"{head} = {Scope(scope.meant).of(item.default)}")
     if item.kind == "const":
         return Form(f"{head}: {scope.of(item.type)} = {item.default}")
-    return Form(head, members=frozenset(member(scope, item.kind, one) for one in item.members if is_shown(item.kind, one)))
+    return Form(
+        head, members=frozenset(member(scope, item.kind, one) for one in item.members if is_shown(item.kind, one))
+    )
 
 
 def parameter(scope: Scope, tokens: Tokens) -> tuple[str, str]:
@@ -238,29 +261,41 @@ def compare(tally: Tally, one: Listed) -> None:
         tally.check(False, f"{one.crate}: `{wanted}` is missing")
     else:
         item, there = found
-        tally.check(any(wanted.is_met_by(each) for each in instances(crates()[one.here_crate], item, there)), f"{item.path.relative_to(ROOT)}: {difference(wanted, there)}")
+        tally.check(
+            any(wanted.is_met_by(each) for each in instances(crates()[one.here_crate], item, there)),
+            f"{item.path.relative_to(ROOT)}: {difference(wanted, there)}",
+        )
     if here:
-        tally.check(not specified.is_met_by(wanted), f"{one.crate}: `{said.name}` is listed twice in its specified form")
+        tally.check(
+            not specified.is_met_by(wanted), f"{one.crate}: `{said.name}` is listed twice in its specified form"
+        )
     if one.here:
         names = {said.name, *(f"{said.name}::{Tokens(each).peek()}" for each in specified.members)}
-        tally.check(bool(names & names_in_rows()), f"{DECISIONS.name} has a row of `{said.name}` of {one.crate}, as its form is another")
+        tally.check(
+            bool(names & names_in_rows()),
+            f"{DECISIONS.name} has a row of `{said.name}` of {one.crate}, as its form is another",
+        )
 
 
 def instances(crate: Crate, item: Item, general: Form) -> Iterator[Form]:
-    """A form, and its forms for the types that have a trait of the crate, if a type parameter asks for just that trait."""
+    """A form, and its forms for the types that have a trait of the crate, if a type
+    parameter asks for just that trait."""
     yield general
     for impl in crate.impls():
         of_trait = {of for of, bounds in item.generics.items() if bounds == str(impl.of_trait)}
         type_ = scope_of(impl, Scope({}, aliases())).of(impl.type)
         if of_trait:
-            yield replace(general, parameters=tuple((name, type_ if of in of_trait else of) for name, of in general.parameters))
+            yield replace(
+                general, parameters=tuple((name, type_ if of in of_trait else of) for name, of in general.parameters)
+            )
 
 
 def difference(wanted: Form, found: Form) -> str:
     if wanted.head != found.head or wanted.members == found.members:
         return f"listed is `{wanted}`, and here is `{found}`"
     sides = {"lacks": wanted.members - found.members, "has besides": found.members - wanted.members}
-    return f"`{wanted.head}` {', and '.join(f'{side} `{each}`' for side, members in sides.items() for each in sorted(members))}"
+    told = (f"{side} `{each}`" for side, members in sides.items() for each in sorted(members))
+    return f"`{wanted.head}` {', and '.join(told)}"
 
 
 @cache
@@ -273,10 +308,14 @@ def names_in_rows() -> set[str]:
 
 def compare_impls(tally: Tally, one: Listed) -> None:
     """Each of these types has each of these traits."""
-    traits, types = ([Scope().of(part) for part in Tokens(text).parts()] for text in one.text.removeprefix("impl ").split(" for "))
+    traits, types = (
+        [Scope().of(part) for part in Tokens(text).parts()] for text in one.text.removeprefix("impl ").split(" for ")
+    )
     for type_, trait in product(types, traits):
         there = crates()[one.here_crate].exported(parts(type_)[0])
-        tally.check(there is not None and has_trait(*there, type_, trait), f"{one.crate}: `impl {trait} for {type_}` is missing")
+        tally.check(
+            there is not None and has_trait(*there, type_, trait), f"{one.crate}: `impl {trait} for {type_}` is missing"
+        )
 
 
 def has_trait(crate: Crate, item: Item, type_: str, trait: str) -> bool:
@@ -286,7 +325,11 @@ def has_trait(crate: Crate, item: Item, type_: str, trait: str) -> bool:
         scope = scope_of(impl, Scope({}, aliases()))
         given = scope.of(impl.type)
         of = [f"{one.name} = {scope.of(one.default)}" for one in impl.members if one.kind == "type"]
-        if impl.of_trait and type_ in (given, parts(given)[0]) and trait == scope.of(impl.of_trait) + (f"<{', '.join(of)}>" if of else ""):
+        if (
+            impl.of_trait
+            and type_ in (given, parts(given)[0])
+            and trait == scope.of(impl.of_trait) + (f"<{', '.join(of)}>" if of else "")
+        ):
             return True
     return False
 
@@ -296,7 +339,10 @@ def main() -> None:
     tally.check(OF_MEMORY in names_in_rows(), f"{DECISIONS.name} has a row of {OF_MEMORY}")
     for (crate, here), calls in groupby(listed(), lambda one: (one.crate, one.here_crate)):
         passed = tally.passed
-        tally.check(here == crate or crate in names_in_rows(), f"{DECISIONS.name} has a row of {crate}, as its calls are in {here}")
+        tally.check(
+            here == crate or crate in names_in_rows(),
+            f"{DECISIONS.name} has a row of {crate}, as its calls are in {here}",
+        )
         for one in calls:
             (compare_impls if one.text.startswith("impl ") else compare)(tally, one)
         print(f"{tally.passed - passed:6} passed: {crate}")

@@ -1,5 +1,6 @@
 #!/usr/bin/env python3
-"""Shows what the built programs say on a terminal beside their output, as docs/FORMATS.md says: what they wait for, and how far they are.
+"""Shows what the built programs say on a terminal beside their output, as docs/FORMATS.md says: what they
+wait for, and how far they are.
 
     tests/terminals.py [PROGRAM [CHECKER [GENERATOR]]] [--only CHECK]
 
@@ -56,7 +57,8 @@ class Screen:
 
 @dataclass
 class Ended:
-    """A program that has ended: its status, its output if that was no terminal, after how many seconds that began, and the screen."""
+    """A program that has ended: its status, its output if that was no terminal, after how many seconds
+    that began, and the screen."""
 
     status: int
     output: bytes
@@ -82,12 +84,16 @@ class TerminalTester(Tester):
         self.tally.check(got == (status, output, screen), f"{what}: got {got}")
 
     def notes_are_due(self, what: str, ended: Ended, wanted: list[bytes]) -> None:
-        """Notes end in these words, in this order, and of those before the end of an input the nth came after n seconds."""
+        """Notes end in these words, in this order, and of those before the end of an input
+        the nth came after n seconds."""
         notes = ended.screen.notes()
         said = [NOTE.fullmatch(note)[4] for _, note in notes]
         # A busy machine may take a second to read a short input: then notes of that are due, too.
         also = OF_READING if ended.output_began >= 1 else ()
-        self.tally.check([words for words in dict.fromkeys(said) if words in wanted or words not in also] == wanted, f"{what}: notes {said}")
+        self.tally.check(
+            [words for words in dict.fromkeys(said) if words in wanted or words not in also] == wanted,
+            f"{what}: notes {said}",
+        )
         regular = [at for (at, _), words in zip(notes, said) if words != b"read, executing"]
         self.tally.check(all(at >= count for count, at in enumerate(regular, 1)), f"{what}: notes at {regular}")
         self.tally.check(len(regular) >= 2, f"{what}: notes at {regular}")
@@ -96,7 +102,9 @@ class TerminalTester(Tester):
         """The counts of notes that end in these words rise, up to so many bytes."""
         parsed = [NOTE.fullmatch(note) for _, note in screen.notes()]
         counts = [int(note[2]) * UNITS[note[3]] for note in parsed if note[4].startswith(words)]
-        self.tally.check(counts == sorted(counts) and 0 < len(counts) and counts[-1] <= most, f"{what}: counts {counts} of {most}")
+        self.tally.check(
+            counts == sorted(counts) and 0 < len(counts) and counts[-1] <= most, f"{what}: counts {counts} of {most}"
+        )
 
 
 # A program whose ends are terminals or pipes.
@@ -104,7 +112,8 @@ class TerminalTester(Tester):
 
 @contextmanager
 def terminal() -> Iterator[tuple[int, int]]:
-    """A terminal that shows what is written as it is, and not what is typed: the end of the user and that of the program."""
+    """A terminal that shows what is written as it is, and not what is typed: the end of the
+    user and that of the program."""
     user, program = os.openpty()
     modes = termios.tcgetattr(program)
     modes[1] &= ~termios.OPOST
@@ -125,7 +134,8 @@ def perform(
     screen: Screen | None = None,
     **how: Any,
 ) -> Ended:
-    """Runs a command with a terminal as standard error, and also as standard input, where the parts are `typed`, and as output, if it is `shared`."""
+    """Runs a command with a terminal as standard error, and also as standard input, where the parts are `typed`, and
+    as output, if it is `shared`."""
     with terminal() as (user, program):
         screen = screen or Screen()
         ends = {"stdin": program if typed else PIPE, "stdout": program if shared else PIPE, "stderr": program} | how
@@ -207,11 +217,19 @@ def awaited(tester: TerminalTester) -> None:
         tester.shows(f"{words} on a terminal", ended, 0, b"0,0," + SEEN, AWAITS.format("rubis_auction").encode())
     ended = perform(tester.checking(), [VIEW, END_OF_INPUT], typed=True)
     tester.shows("rubis_check on a terminal", ended, 0, b"the history replays\n", AWAITS.format("rubis_check").encode())
-    for name, command, text in (("rubis_auction", [tester.auction], b"0,0," + SEEN), ("rubis_check", tester.checking(), b"the history replays\n")):
+    for name, command, text in (
+        ("rubis_auction", [tester.auction], b"0,0," + SEEN),
+        ("rubis_check", tester.checking(), b"the history replays\n"),
+    ):
         ended = perform(command, [VIEW, END_OF_INPUT], typed=True, shared=True)
         tester.shows(f"{name} with its output on the terminal", ended, 0, b"", AWAITS.format(name).encode() + text)
     screen, told, line = Screen(), [], AWAITS.format("rubis_auction").encode()
-    ended = perform([tester.auction], once_told(line, screen, told, slowly([*[VIEW] * PARTS, END_OF_INPUT])), typed=True, screen=screen)
+    ended = perform(
+        [tester.auction],
+        once_told(line, screen, told, slowly([*[VIEW] * PARTS, END_OF_INPUT])),
+        typed=True,
+        screen=screen,
+    )
     tester.tally.check(ended.screen.text() == line, "notes are written over what a user types")
     tester.tally.check(told == [line], f"what a terminal shows before anything is typed: {told}")
 
@@ -237,7 +255,10 @@ def unawaited(tester: TerminalTester) -> None:
             os.write(user, VIEW + END_OF_INPUT)
             got = run(command, program)
             os.close(program)
-        tester.tally.check((got.status, got.stdout, got.stderr) == (0, text, b""), f"{command[0].name} on a terminal, its errors in a pipe: {got}")
+        tester.tally.check(
+            (got.status, got.stdout, got.stderr) == (0, text, b""),
+            f"{command[0].name} on a terminal, its errors in a pipe: {got}",
+        )
     missing = tester.folder / "missing"
     wanted = run(tester.checking(missing))
     tester.shows("no such history", perform(tester.checking(missing), [], typed=True), 2, b"", wanted.stderr)
@@ -262,14 +283,18 @@ def slow_inputs(tester: TerminalTester) -> None:
         tester.counts_rise(f"{words}, slow input", ended.screen, b"read", len(data) * PARTS)
         tester.tally.check(ended.screen.text().endswith(EMPTY_LINE), f"{words}: a note is left")
     last = ended.screen.notes()[-1][1]
-    tester.tally.check(last == b"rubis_auction: %d KB read, executing" % (len(data) * PARTS // 1000), f"the last note: {last}")
+    tester.tally.check(
+        last == b"rubis_auction: %d KB read, executing" % (len(data) * PARTS // 1000), f"the last note: {last}"
+    )
     tester.shows("a short input", perform([tester.auction], [data]), 0, expected(data, Options()).stdout, b"")
 
 
 def slow_histories(tester: TerminalTester) -> None:
     """a slow input and a slow history of rubis_check: notes of both, and the verdict on the same terminal after them"""
     views = PARTS * 100
-    scripts, history = [VIEW * 100] * PARTS, [b"".join(b"0 0 0 %d %s" % (part * 100 + at, SEEN) for at in range(100)) for part in range(PARTS)]
+    scripts, history = [VIEW * 100] * PARTS, [
+        b"".join(b"0 0 0 %d %s" % (part * 100 + at, SEEN) for at in range(100)) for part in range(PARTS)
+    ]
     fifo = tester.folder / "fifo"
     os.mkfifo(fifo)
     for shared in (False, True):
@@ -279,7 +304,10 @@ def slow_histories(tester: TerminalTester) -> None:
         ended = perform(tester.checking(fifo), then(slowly(scripts), given), shared=shared)
         giver.join()
         what, text = f"a slow check, shared {shared}", b"the history replays\n"
-        tester.tally.check(ended.status == 0 and ended.screen.text().endswith(EMPTY_LINE + text if shared else EMPTY_LINE), f"{what}: {ended}")
+        tester.tally.check(
+            ended.status == 0 and ended.screen.text().endswith(EMPTY_LINE + text if shared else EMPTY_LINE),
+            f"{what}: {ended}",
+        )
         tester.tally.check(ended.output == (b"" if shared else text), f"{what}: {ended.output}")
         tester.notes_are_due(what, ended, [b"of the input read", b"of the history read"])
         tester.counts_rise(what, ended.screen, b"of the input read", len(VIEW) * views)
@@ -300,7 +328,8 @@ def give_slowly(path: Path, parts: list[bytes], first: threading.Event) -> None:
 
 
 def slow_readers(tester: TerminalTester) -> None:
-    """output that is read slowly: notes of the bytes written, and the same bytes, also where a long text is made before it is written"""
+    """output that is read slowly: notes of the bytes written, and the same bytes, also where a long text
+    is made before it is written"""
     plan = Plan(requests=60_000)
     load = run([tester.generator, *plan.words()]).stdout
     ended = perform([tester.generator, *plan.words()], [], slow_reader=True)
@@ -308,10 +337,16 @@ def slow_readers(tester: TerminalTester) -> None:
     tester.notes_are_due("a load", ended, [b"written"])
     tester.counts_rise("a load", ended.screen, b"written", len(load))
     rows = b"".join(b"0,+item,0,0,Vase,10,100,%d\n" % at for at in range(30_000))
-    for options, data in ((Options(), VIEW * 30_000), (Options(workers=2), (VIEW + b"1,viewuser,0\n") * 15_000), (Options(rows=True), rows)):
+    for options, data in (
+        (Options(), VIEW * 30_000),
+        (Options(workers=2), (VIEW + b"1,viewuser,0\n") * 15_000),
+        (Options(rows=True), rows),
+    ):
         wanted = run([tester.auction, *options.words()], data).stdout
         ended = perform([tester.auction, *options.words()], [data], slow_reader=True)
-        tester.tally.check((ended.status, ended.output) == (0, wanted), f"{options.words()}: output that is read slowly")
+        tester.tally.check(
+            (ended.status, ended.output) == (0, wanted), f"{options.words()}: output that is read slowly"
+        )
         tester.notes_are_due(f"{options.words()}, a slow reader", ended, [b"written"])
         tester.counts_rise(f"{options.words()}, a slow reader", ended.screen, b"written", len(wanted))
         tester.tally.check(ended.screen.text().endswith(EMPTY_LINE), f"{options.words()}: a note is left")
@@ -322,10 +357,15 @@ def shared_terminals(tester: TerminalTester) -> None:
     data = VIEW * PARTS
     ended = perform([tester.auction], slowly([VIEW] * PARTS), shared=True)
     shown = ended.screen.text()
-    tester.tally.check(len(ended.screen.notes()) > 1 and shown.endswith(EMPTY_LINE + expected(data, Options()).stdout), f"replies on the terminal: {shown}")
+    tester.tally.check(
+        len(ended.screen.notes()) > 1 and shown.endswith(EMPTY_LINE + expected(data, Options()).stdout),
+        f"replies on the terminal: {shown}",
+    )
     ended = perform([tester.auction], slowly([*[VIEW] * PARTS, b"0,jump,1\n"]))
     shown, fault = ended.screen.text(), b"rubis_auction: record %d: unknown kind\n" % (PARTS + 1)
-    tester.tally.check((ended.status, ended.output) == (2, b"") and shown.endswith(EMPTY_LINE + fault), f"a fault after notes: {ended}")
+    tester.tally.check(
+        (ended.status, ended.output) == (2, b"") and shown.endswith(EMPTY_LINE + fault), f"a fault after notes: {ended}"
+    )
     plan = Plan(requests=200_000)
     ended = perform([tester.generator, *plan.words()], [], shared=True)
     tester.tally.check(EMPTY_LINE not in ended.screen.text(), "notes between the lines of a load")

@@ -1,6 +1,7 @@
 #!/usr/bin/env python3
-"""Shows that the tools do as they say: bench/tune, whose command has to run, bench/starts, the help of example_watch, loads of applications, man pages,
-bench/applications, the sentences of bench/claims.py, and what each script says of wrong words, of what is not there, and of an interruption.
+"""Shows that the tools do as they say: bench/tune, whose command has to run, bench/starts, the help of example_watch,
+loads of applications, man pages, bench/applications, the sentences of bench/claims.py, and what each script says of
+wrong words, of what is not there, and of an interruption.
 
     tests/tools.py [PROGRAM]
 """
@@ -20,7 +21,21 @@ from typing import BinaryIO
 
 from lib import helps
 from lib.model import Outcome
-from lib.program import BENCH, BUILT, DOCUMENTS, EXAMPLES, SECONDS, TESTS, Tally, built, described, executable, is_asleep, parser_of, run
+from lib.program import (
+    BENCH,
+    BUILT,
+    DOCUMENTS,
+    EXAMPLES,
+    SECONDS,
+    TESTS,
+    Tally,
+    built,
+    described,
+    executable,
+    is_asleep,
+    parser_of,
+    run,
+)
 
 PYTHON = [sys.executable, "-B"]
 RUN, TUNE, STARTS, APPLICATIONS = (BENCH / name for name in ("run", "tune", "starts", "applications"))
@@ -31,10 +46,43 @@ NEEDED = ["--workers", "4", "--users", "6", "--categories", "3"]
 # What is not there, as a file, as a folder and as a program.
 NONE = str(TESTS / "none")
 # Scripts that take a program first, and those that take words.
-OF_A_PROGRAM = [TESTS / f"{name}.py" for name in ("checking", "ends", "failover", "joined", "lasting", "library_calls", "limits", "live", "logs", "postgres",
-                                                  "quorum", "refused_memory", "second_opinion", "serving", "timeline", "tools", "worked")]
-OF_EXAMPLES = [EXAMPLES / f"{name}.py" for name in ("client", "front", "front_quorum", "load", "small_engine", "timeline", "sql/load", "sql/perform")]
-OF_WORDS = [*OF_A_PROGRAM, TESTS / "compare_programs.py", TESTS / "loads.py", *OF_EXAMPLES, MAN_PAGES, RUN, TUNE, STARTS, APPLICATIONS]
+OF_A_PROGRAM = [
+    TESTS / f"{name}.py"
+    for name in (
+        "checking",
+        "ends",
+        "failover",
+        "joined",
+        "lasting",
+        "library_calls",
+        "limits",
+        "live",
+        "logs",
+        "postgres",
+        "quorum",
+        "refused_memory",
+        "second_opinion",
+        "serving",
+        "timeline",
+        "tools",
+        "worked",
+    )
+]
+OF_EXAMPLES = [
+    EXAMPLES / f"{name}.py"
+    for name in ("client", "front", "front_quorum", "load", "small_engine", "timeline", "sql/load", "sql/perform")
+]
+OF_WORDS = [
+    *OF_A_PROGRAM,
+    TESTS / "compare_programs.py",
+    TESTS / "loads.py",
+    *OF_EXAMPLES,
+    MAN_PAGES,
+    RUN,
+    TUNE,
+    STARTS,
+    APPLICATIONS,
+]
 CLIENT, FRONT, QUORUM, LOAD, SMALL_ENGINE, TIMELINE, _, PERFORM = OF_EXAMPLES
 
 # Stands for the program under test.
@@ -101,13 +149,24 @@ def tuned(tally: Tally, program: Path) -> None:
     wanted = len(run([program, *NEEDED], SKEWED.read_bytes()).stdout.splitlines())
     got = run([TUNE, "--tries", "2", "--program", program, SKEWED, "--", *NEEDED])
     lines = got.stdout.decode().splitlines()
-    tally.check(got.status == 0 and len(lines) == 15 and lines[0].startswith("seconds") and not lines[-2], f"bench/tune: {described(got)}")
-    tally.check(len({line.split("  ")[-1] for line in lines[1:-2]}) == 12, f"bench/tune: other settings than 12: {lines}")
+    tally.check(
+        got.status == 0 and len(lines) == 15 and lines[0].startswith("seconds") and not lines[-2],
+        f"bench/tune: {described(got)}",
+    )
+    tally.check(
+        len({line.split("  ")[-1] for line in lines[1:-2]}) == 12, f"bench/tune: other settings than 12: {lines}"
+    )
     used = run(["sh", "-c", lines[-1] if lines else "false"])
     tally.check(used.status == 0 and len(used.stdout.splitlines()) == wanted, f"{lines[-1:]}: {described(used)}")
     got = run([TUNE, "--tries", "1", "--program", "/bin/true", SKEWED])
     first, *told = got.stderr.decode().splitlines()
-    is_told = got.status == 1 and first == "try 1 of 1" and len(told) == 1 and told[0].startswith("tune: ") and "does not read all" in told[0]
+    is_told = (
+        got.status == 1
+        and first == "try 1 of 1"
+        and len(told) == 1
+        and told[0].startswith("tune: ")
+        and "does not read all" in told[0]
+    )
     tally.check(is_told, f"bench/tune over what reads nothing: {described(got)}")
 
 
@@ -131,10 +190,16 @@ def answers(tally: Tally, program: Path) -> None:
     with ThreadPoolExecutor(4) as threads:
         outcomes = threads.map(run, (command(words, program) for words, *_ in ANSWERS))
         for ((script, *words), status, named), got in zip(ANSWERS, outcomes):
-            is_told = got.status == status and not got.stdout and is_line(got.stderr, script) and named.encode() in got.stderr
+            is_told = (
+                got.status == status and not got.stdout and is_line(got.stderr, script) and named.encode() in got.stderr
+            )
             tally.check(is_told, f"{script.name} {words}, of {named}: {described(got)}")
     got = run([*PYTHON, PERFORM], env=os.environ | {"PATH": NONE})
-    tally.same("perform.py without psql", got, Outcome(1, b"", b"perform.py: psql is not installed; Debian has it in postgresql-client\n"))
+    tally.same(
+        "perform.py without psql",
+        got,
+        Outcome(1, b"", b"perform.py: psql is not installed; Debian has it in postgresql-client\n"),
+    )
 
 
 def command(words: list, program: Path) -> list:
@@ -152,7 +217,12 @@ def interruptions(tally: Tally, _: Path) -> None:
         os.mkfifo(pipe)
         for script, *words in ([TIMELINE, pipe], [SMALL_ENGINE, pipe, "1"], [LOAD, pipe]):
             # A shell may have told its children to ignore interruptions.
-            with Popen([*PYTHON, script, *words], stdout=PIPE, stderr=PIPE, preexec_fn=lambda: signal.signal(signal.SIGINT, signal.SIG_DFL)) as process:
+            with Popen(
+                [*PYTHON, script, *words],
+                stdout=PIPE,
+                stderr=PIPE,
+                preexec_fn=lambda: signal.signal(signal.SIGINT, signal.SIG_DFL),
+            ) as process:
                 with writer(pipe, process):
                     wait_asleep(process)
                     process.send_signal(signal.SIGINT)
@@ -180,7 +250,8 @@ def writer(pipe: str, process: Popen) -> BinaryIO:
 
 
 def wait_asleep(process: Popen) -> None:
-    """Waits until a process sleeps, as it does once it reads an empty pipe: Python sees a signal late that comes between its last look and the call."""
+    """Waits until a process sleeps, as it does once it reads an empty pipe: Python sees a signal late that comes
+    between its last look and the call."""
     until = time.monotonic() + SECONDS
     while process.poll() is None and not is_asleep(process.pid) and time.monotonic() < until:
         time.sleep(0.01)
@@ -200,9 +271,15 @@ def builds(tally: Tally, program: Path) -> None:
         env = os.environ | {"PATH": name}
         for words in ([*tune, SKEWED, "--", *NEEDED], few_starts, [*tune, "--build", NONE]):
             got = run([*PYTHON, *words], env=env)
-            tally.check(got.status == 1 and is_line(got.stderr, words[0]) and not called.exists(), f"{words}, not built: {described(got)}")
+            tally.check(
+                got.status == 1 and is_line(got.stderr, words[0]) and not called.exists(),
+                f"{words}, not built: {described(got)}",
+            )
         got = run([*PYTHON, *tune, "--build", SKEWED, "--", *NEEDED], env=env)
-        tally.check(got.status == 0 and called.exists() and called.read_text().startswith("run "), f"bench/tune --build: {described(got)}")
+        tally.check(
+            got.status == 0 and called.exists() and called.read_text().startswith("run "),
+            f"bench/tune --build: {described(got)}",
+        )
 
 
 def man_pages(tally: Tally, program: Path) -> None:
@@ -219,7 +296,15 @@ def man_pages(tally: Tally, program: Path) -> None:
             shown = " ".join(got.stdout.decode().split())
             for line in lines_of_help(run([path, "--help"]).stderr.decode()):
                 tally.check(line in shown, f"{name}.1 has {line!r}")
-            for title in ("NAME", "SYNOPSIS", "DESCRIPTION", "OPTIONS", "EXIT STATUS 0 ", "EXAMPLES", "SEE ALSO rubis_"):
+            for title in (
+                "NAME",
+                "SYNOPSIS",
+                "DESCRIPTION",
+                "OPTIONS",
+                "EXIT STATUS 0 ",
+                "EXAMPLES",
+                "SEE ALSO rubis_",
+            ):
                 tally.check(f" {title}" in shown, f"{name}.1 has {title}")
 
 
@@ -229,10 +314,18 @@ def lines_of_help(said: str) -> list[str]:
     return [" ".join(line.split()) for line in words.splitlines() if line]
 
 
-# Loads of applications, of 4,000 requests, and what they leave by any number of workers and any policy: likes of page 1, or what 100 accounts hold at first.
+# Loads of applications, of 4,000 requests, and what they leave by any number of workers and any policy: likes of page
+# 1, or what 100 accounts hold at first.
 LEFT = {
-    "example_likes": (("--pages=1 --views=0", 4000), ("--pages=1 --views=100", 0), ("--pages=1 --views=0 --threshold=8 --users=1", 4000)),
-    "example_bank": (("--accounts=100 --views=100", 100_000_000), ("--accounts=100 --views=0 --transfers=100", 100_000_000)),
+    "example_likes": (
+        ("--pages=1 --views=0", 4000),
+        ("--pages=1 --views=100", 0),
+        ("--pages=1 --views=0 --threshold=8 --users=1", 4000),
+    ),
+    "example_bank": (
+        ("--accounts=100 --views=100", 100_000_000),
+        ("--accounts=100 --views=0 --transfers=100", 100_000_000),
+    ),
 }
 
 
@@ -254,7 +347,10 @@ def figures_of_applications(tally: Tally, _program: Path) -> None:
         return tally.skip("bench/applications", "rustc is not installed")
     words = [*PYTHON, APPLICATIONS, "--likes", built("example_likes"), "--bank"]
     with TemporaryDirectory() as folder:
-        written = [Path(folder) / "docs" / name for name in ("APPLICATIONS.md", "performance/applications.csv", "performance/applications.svg")]
+        written = [
+            Path(folder) / "docs" / name
+            for name in ("APPLICATIONS.md", "performance/applications.csv", "performance/applications.svg")
+        ]
         got = run([*words, built("example_bank"), "--requests", "4000", "--tries", "2", "--out", folder])
         tally.check(got.status == 0 and all(path.exists() for path in written), f"bench/applications: {described(got)}")
         first = [path.read_bytes() for path in written]
@@ -264,28 +360,39 @@ def figures_of_applications(tally: Tally, _program: Path) -> None:
         tally.same("bench/applications --draw", got, Outcome(0, b"", b""))
         tally.check([path.read_bytes() for path in written] == first, "bench/applications --draw writes the same")
     got = run([*words, "/bin/true", "--requests", "4000", "--tries", "1", "--fast"])
-    tally.check(got.status == 1 and b"/bin/true --workers=1 --requests=4000" in got.stderr.splitlines()[-1], f"bench/applications of no bank: {described(got)}")
+    tally.check(
+        got.status == 1 and b"/bin/true --workers=1 --requests=4000" in got.stderr.splitlines()[-1],
+        f"bench/applications of no bank: {described(got)}",
+    )
 
 
-# Figures of a page, made up: of each load, system and number of workers the median rate and its range. What claims.py makes of them follows.
+# Figures of a page, made up: of each load, system and number of workers the median rate and its range. What
+# claims.py makes of them follows.
 MADE_UP = {
-    ("bids on one item", "Fundreivo", 4): (10, 9, 11), ("bids on one item", "Fundreivo", 1): (8, 7, 9.2),
+    ("bids on one item", "Fundreivo", 4): (10, 9, 11),
+    ("bids on one item", "Fundreivo", 1): (8, 7, 9.2),
     ("bids on one item", "Fundreivo, without splitting", 4): (5, 4, 6),
-    ("bids on one item", "plain Rust, no lock", 4): (14, 6, 18), ("bids on one item", "plain Rust, no lock", 2): (13, 12, 14),
-    ("bidding mix", "Fundreivo", 4): (2, 1.5, 2.5), ("bidding mix", "plain Rust, no lock", 4): (5, 4, 6),
-    ("bidding mix", "Fundreivo", 1): (1, 0.9, 1.1), ("bidding mix", "Fundreivo, without splitting", 4): (2, 1, 3),
+    ("bids on one item", "plain Rust, no lock", 4): (14, 6, 18),
+    ("bids on one item", "plain Rust, no lock", 2): (13, 12, 14),
+    ("bidding mix", "Fundreivo", 4): (2, 1.5, 2.5),
+    ("bidding mix", "plain Rust, no lock", 4): (5, 4, 6),
+    ("bidding mix", "Fundreivo", 1): (1, 0.9, 1.1),
+    ("bidding mix", "Fundreivo, without splitting", 4): (2, 1, 3),
     ("bids on one item", "C, in one pass", 1): (20, 19, 21),
 }
 CLAIMS = """
 import claims
 from figures import WHOLE_RATE, Figure
-rows = [Figure("workers", load, system, workers, 0, 64, 4096, 8, 8, 4 * workers, 480000, WHOLE_RATE, *(1e6 * part for part in rates))
+rows = [Figure("workers", load, system, workers, 0, 64, 4096, 8, 8, 4 * workers, 480000, WHOLE_RATE,
+               *(1e6 * part for part in rates))
         for (load, system, workers), rates in {}.items()]
 print(claims.cost(rows), claims.gain(rows), claims.level(rows), claims.rates(rows).splitlines()[3], sep="\\n")
 """
 CLAIMED = """\
-Whole commands with 4 workers reach 0.50 (bids on one item) and 0.40 (the bidding mix) of the throughput of the fastest plain Rust or C
-With `--fast` and 4 workers, splitting makes whole commands 2.0 times as fast on bids on one item; on the bidding mix no difference is shown
+Whole commands with 4 workers reach 0.50 (bids on one item) and 0.40 (the bidding mix) \
+of the throughput of the fastest plain Rust or C
+With `--fast` and 4 workers, splitting makes whole commands 2.0 times as fast on bids on one item; \
+on the bidding mix no difference is shown
 The fastest plain Rust is 2.5 times as fast on the bidding mix; on bids on one item no difference is shown
 | speed-up over 1 worker: of 4 | overlap | 2.0 |
 """

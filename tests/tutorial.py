@@ -1,6 +1,7 @@
 #!/usr/bin/env python3
-"""Shows that the smallest program of docs/TUTORIAL.md runs and prints what is shown there: the page's own text is made a crate beside the others, in a copy
-of their sources, and run by `rt try`, as its reader is told to. Without `rt` it is skipped.
+"""Shows that the smallest program of docs/TUTORIAL.md runs and prints what is shown there: the page's own
+text is made a crate beside the others, in a copy of their sources, and run by `rt try`, as its reader is told
+to. Without `rt` it is skipped.
 
     tests/tutorial.py
 """
@@ -37,7 +38,14 @@ def smallest_program(tally: Tally, folder: Path) -> None:
     source.parent.mkdir(parents=True)
     source.write_text(FILE.search(section)[1])
     printed = re.sub("(?m)^    ", "", PRINTED.search(section)[1])
-    got = subprocess.run(["rt", "try"], cwd=source.parent.parent, stdin=subprocess.DEVNULL, capture_output=True, text=True, errors="replace")
+    got = subprocess.run(
+        ["rt", "try"],
+        cwd=source.parent.parent,
+        stdin=subprocess.DEVNULL,
+        capture_output=True,
+        text=True,
+        errors="replace",
+    )
     tally.check((got.returncode, got.stdout) == (0, printed), f"{crate} prints what the page shows: got {got}")
 
 

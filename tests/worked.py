@@ -3,9 +3,10 @@
 
     tests/worked.py [PROGRAM]
 
-An example has a line each for its name, `case: NAME`, and the program's words, `words: WORDS`. Then come the lines of its input, each after `< `, and of
-its output, each after `> `. A last line of input without a line feed comes after `<| `. `...` in its place stands for any lines, and `or` parts outputs
-that are all lawful. `status: N` is the exit status, if it is not 0, and what stands after `! ` is on standard error. Every answer was worked out from
+An example has a line each for its name, `case: NAME`, and the program's words, `words: WORDS`. Then come the lines of
+its input, each after `< `, and of its output, each after `> `. A last line of input without a line feed comes after
+`<| `. `...` in its place stands for any lines, and `or` parts outputs that are all lawful. `status: N` is the exit
+status, if it is not 0, and what stands after `! ` is on standard error. Every answer was worked out from
 docs/FORMATS.md and docs/DEFINITIONS.md by hand.
 """
 

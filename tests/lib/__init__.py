@@ -1,4 +1,5 @@
-"""What the scripts of tests/ share. They import it as `lib.NAME`, and modules of examples/ by their name alone, since that folder is on the path, too."""
+"""What the scripts of tests/ share. They import it as `lib.NAME`, and modules of examples/ by their name alone, since
+that folder is on the path, too."""
 
 import sys
 from pathlib import Path

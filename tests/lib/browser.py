@@ -75,8 +75,19 @@ class Browser:
         """The elements of a page after some acts, a script of its own. The console is to be silent."""
         path = self.folder / "page.html"
         path.write_text(page.replace("</body>", f"<script>{acts}</script></body>"))
-        words = ["--headless", "--no-sandbox", "--disable-gpu", "--disable-breakpad", "--disable-dev-shm-usage", f"--window-size={width},900",
-                 "--enable-logging=stderr", "--virtual-time-budget=2000", f"--user-data-dir={self.folder / 'profile'}", "--dump-dom", path.as_uri()]
+        words = [
+            "--headless",
+            "--no-sandbox",
+            "--disable-gpu",
+            "--disable-breakpad",
+            "--disable-dev-shm-usage",
+            f"--window-size={width},900",
+            "--enable-logging=stderr",
+            "--virtual-time-budget=2000",
+            f"--user-data-dir={self.folder / 'profile'}",
+            "--dump-dom",
+            path.as_uri(),
+        ]
         with Popen([self.command, *words], stdout=PIPE, stderr=PIPE, start_new_session=True) as process:
             try:
                 stdout, stderr = process.communicate(timeout=SECONDS)

@@ -45,7 +45,9 @@ class AuctionTester(Tester):
     def run(self, data: Given = b"", options: Options = Options(), **how: Any) -> Outcome:
         return run([self.program, *options.words()], data, **how)
 
-    def run_cut(self, limit: str, number: int, data: bytes = b"", options: Options = Options(), **limits: int) -> Outcome:
+    def run_cut(
+        self, limit: str, number: int, data: bytes = b"", options: Options = Options(), **limits: int
+    ) -> Outcome:
         """A run in which the shim sets a limit, or more."""
         return self.run(data, options, env=self.limited({limit: number} | limits))
 
@@ -110,8 +112,11 @@ def main(description: str, checks: tuple[Check, ...]) -> None:
     make_all(words, checks, AuctionTester)
 
 
-def make_all(words: ArgumentParser, checks: tuple[Callable[[T], None], ...], tester_of: Callable[[Namespace, Path, Tally], T]) -> None:
-    """Makes the checks of a script, or the one that is asked for: with a tester of its words, of a folder and of a tally."""
+def make_all(
+    words: ArgumentParser, checks: tuple[Callable[[T], None], ...], tester_of: Callable[[Namespace, Path, Tally], T]
+) -> None:
+    """Makes the checks of a script, or the one that is asked for: with a tester of its words,
+    of a folder and of a tally."""
     words.add_argument("--only", choices=[check.__name__ for check in checks], help="only this check")
     asked = words.parse_args()
     tally = Tally()

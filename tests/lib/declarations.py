@@ -1,5 +1,5 @@
-"""Reading what sources in Rattle declare: types with their fields or variants, traits, functions with their parameters and results, and what a crate exports.
-Bodies and contracts are passed over."""
+"""Reading what sources in Rattle declare: types with their fields or variants, traits, functions with their parameters
+and results, and what a crate exports. Bodies and contracts are passed over."""
 
 import re
 from dataclasses import dataclass, field, replace
@@ -85,7 +85,8 @@ class Tokens:
 
 @dataclass
 class Item:
-    """What is declared. An impl has the type as its name, the types of a trait and of an impl are members, and a constant's value is its type's default."""
+    """What is declared. An impl has the type as its name, the types of a trait and of an impl are members, and a
+    constant's value is its type's default."""
 
     kind: str
     name: str

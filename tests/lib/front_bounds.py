@@ -16,15 +16,23 @@ TURNS = 200
 def bounds(tester: FrontTester) -> None:
     """the length of a command, connections, and requests under way, of one client, of many and of all"""
     front = Front(tester, "bounds")
-    for command in (b"A" * (MOST_BYTES + 1), packed(b"PING", b"A" * (MOST_BYTES + 1)) + b"\n", b"*2\r\n$3\r\nBID\r\n$9\r\n1\r\n", b"*x\r\n",
-                    packed(b"VIEWUSER", b"0\n1") + b"\n", b"*99\r\n" + b"$1\r\nA\r\n" * 98 + b"$1\r\n"):
+    for command in (
+        b"A" * (MOST_BYTES + 1),
+        packed(b"PING", b"A" * (MOST_BYTES + 1)) + b"\n",
+        b"*2\r\n$3\r\nBID\r\n$9\r\n1\r\n",
+        b"*x\r\n",
+        packed(b"VIEWUSER", b"0\n1") + b"\n",
+        b"*99\r\n" + b"$1\r\nA\r\n" * 98 + b"$1\r\n",
+    ):
         with front.client() as client:
             client.send(b"PING\n" + command)
             got = [client.reply(), client.reply(), client.reply()]
             tester.tally.check(got == [b"+PONG", PROTOCOL, b""], f"{command[:20]!r}: {got}")
     with front.client() as client:
         got = client.ask(b"VIEWUSER " + b"1" * 5000, packed(b"ITEM", *[b'"' * 500] * 7), b"PING")
-        tester.tally.check(got == [b"-ERR not a number", b"-ERR wrong number of fields", b"+PONG"], f"longer requests: {got}")
+        tester.tally.check(
+            got == [b"-ERR not a number", b"-ERR wrong number of fields", b"+PONG"], f"longer requests: {got}"
+        )
     clients = [front.client() for _ in range(MOST_CLIENTS)]
     tester.tally.check(all(client.ask(b"PING") == [b"+PONG"] for client in clients), f"{MOST_CLIENTS} connections")
     with front.client() as client:
@@ -60,13 +68,17 @@ def under_way(tester: FrontTester, front: Front, clients: list[Client], share: i
         # In the turn in which the front reads a PING it reads all that it may of the others.
         pongs = Counter(reply for _ in range(TURNS) for reply in client.ask(b"PING"))
         count = client.info()["under_way"]
-        tester.tally.check(pongs == {b"+PONG": TURNS} and least <= count <= most, f"{count} requests under way, of {len(clients)} clients, not {least} to {most}")
+        tester.tally.check(
+            pongs == {b"+PONG": TURNS} and least <= count <= most,
+            f"{count} requests under way, of {len(clients)} clients, not {least} to {most}",
+        )
     got = Counter(client.reply() for client in clients for _ in range(each))
     tester.tally.check(got == {SEEN: each * len(clients)}, f"replies to {len(clients)} clients: {got}")
 
 
 def crowd(tester: FrontTester, front: Front) -> None:
-    """Clients that come one after the other, each with more than it may have under way, while nothing is answered: at last none is taken."""
+    """Clients that come one after the other, each with more than it may have under way, while nothing is
+    answered: at last none is taken."""
     clients, each = [], 2 * MOST_OF_A_CLIENT
     with front.held(), front.client() as client:
         while (count := client.info()["under_way"]) < MOST_UNDER_WAY and len(clients) < MOST_CLIENTS - 1:
@@ -75,8 +87,14 @@ def crowd(tester: FrontTester, front: Front) -> None:
             wait_until(lambda: client.info()["under_way"] > count)
         with front.client() as other:
             got = other.reply(), other.reply()
-        tester.tally.check(got == (FULL, b"") and count < MOST_UNDER_WAY + each, f"one client more than {len(clients)} with {count} requests: {got}")
+        tester.tally.check(
+            got == (FULL, b"") and count < MOST_UNDER_WAY + each,
+            f"one client more than {len(clients)} with {count} requests: {got}",
+        )
     got = Counter(client.reply() for client in clients for _ in range(each))
-    tester.tally.check(got == {SEEN: each * len(clients)} and front.most_megabytes() < MEGABYTES, f"replies to {len(clients)} clients: {got}")
+    tester.tally.check(
+        got == {SEEN: each * len(clients)} and front.most_megabytes() < MEGABYTES,
+        f"replies to {len(clients)} clients: {got}",
+    )
     for client in clients:
         client.__exit__()

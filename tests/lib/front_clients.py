@@ -10,7 +10,10 @@ from lib.program import DOCUMENTS, EXAMPLES, run
 from lib.watched import judged_by_itself, mix
 
 LOAD = [sys.executable, "-B", EXAMPLES / "load.py"]
-TOLD = re.compile(rb"(\d+) replies, 0 errors, (\d+) a second; milliseconds: p50 ([\d.]+), p99 ([\d.]+), p99.9 ([\d.]+), most ([\d.]+)\n")
+TOLD = re.compile(
+    rb"(\d+) replies, 0 errors, (\d+) a second; "
+    rb"milliseconds: p50 ([\d.]+), p99 ([\d.]+), p99.9 ([\d.]+), most ([\d.]+)\n"
+)
 
 
 def other_clients(tester: FrontTester) -> None:
@@ -22,9 +25,33 @@ def other_clients(tester: FrontTester) -> None:
         (["redis-cli", "-p", port, "ITEM", "1", "2", 'Old, "red" vase', "10", "100", "1"], b"", b"item "),
         (["redis-cli", "-p", port, "BID", "3"], b"", b"ERR wrong number of fields"),
         (["redis-cli", "-p", port], b"PING\nVIEWUSER 0\n", b"PONG\nuser rating=0 comments=0"),
-        (["redis-benchmark", "-p", port, "-c", "20", "-n", "2000", "-P", "4", "--csv", "BID", "1", "0.0", "500", "5"], b"", b'"BID 1 0.0 500 5"'),
+        (
+            [
+                "redis-benchmark",
+                "-p",
+                port,
+                "-c",
+                "20",
+                "-n",
+                "2000",
+                "-P",
+                "4",
+                "--csv",
+                "BID",
+                "1",
+                "0.0",
+                "500",
+                "5",
+            ],
+            b"",
+            b'"BID 1 0.0 500 5"',
+        ),
         (["nc", "-N", "127.0.0.1", port], b"VIEWUSER 0\r\nPING\r\n", b"+user rating=0 comments=0\r\n+PONG\r\n"),
-        ([*LOAD, "--port", port, "--clients", "10", "--pipeline", "2", "--seconds", "0.3"], b"", b" replies, 0 errors, "),
+        (
+            [*LOAD, "--port", port, "--clients", "10", "--pipeline", "2", "--seconds", "0.3"],
+            b"",
+            b" replies, 0 errors, ",
+        ),
     )
     for words, given, wanted in said:
         if shutil.which(words[0]) is None:
@@ -44,7 +71,9 @@ def loads(tester: FrontTester) -> None:
     got = run([*LOAD, "--port", str(front.port), "--clients", "20", "--seconds", "0.5", file])
     told = TOLD.fullmatch(got.stdout)
     replies, rate, *times = map(float, told.groups() if told else (0, 1))
-    tester.tally.check(replies == front.info()["requests"] > 0 and times == sorted(times) and replies / rate >= 0.49, f"a load: {got}")
+    tester.tally.check(
+        replies == front.info()["requests"] > 0 and times == sorted(times) and replies / rate >= 0.49, f"a load: {got}"
+    )
     front.close()
     judged_by_itself(tester, front)
     got = run([*LOAD, "--port", str(front.port)])
@@ -83,8 +112,13 @@ except redis.ResponseError as error:
 
 def of_python(tester: FrontTester, port: int) -> None:
     """By the first Python that has it: Debian's is in its own."""
-    python = next((python for python in (sys.executable, "/usr/bin/python3") if run([python, "-c", "import redis"]).status == 0), None)
+    python = next(
+        (python for python in (sys.executable, "/usr/bin/python3") if run([python, "-c", "import redis"]).status == 0),
+        None,
+    )
     if python is None:
         return tester.tally.skip("python3-redis as a client", "python3-redis is not installed")
     got = run([python, "-c", OF_PYTHON, str(port)])
-    tester.tally.check(got.stdout == b"True b'user rating=0 comments=0'\n{b'bid '}\nwrong number of fields\n", f"python3-redis: {got}")
+    tester.tally.check(
+        got.stdout == b"True b'user rating=0 comments=0'\n{b'bid '}\nwrong number of fields\n", f"python3-redis: {got}"
+    )

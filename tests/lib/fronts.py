@@ -19,7 +19,12 @@ from lib.sessions import SECONDS, wait_until
 FRONT = [sys.executable, "-B", str(EXAMPLES / "front.py")]
 WORKERS, MEGABYTES = 4, 50
 # Replies of the front, and one of a view.
-PROTOCOL, UNKNOWN_COMMAND, FULL, ENDS = b"-ERR Protocol error", b"-ERR unknown command", b"-ERR max number of clients reached", b"-ERR the auction ends"
+PROTOCOL, UNKNOWN_COMMAND, FULL, ENDS = (
+    b"-ERR Protocol error",
+    b"-ERR unknown command",
+    b"-ERR max number of clients reached",
+    b"-ERR the auction ends",
+)
 UNKNOWN = b"-UNKNOWN whether this was done: the auction ended before its reply"
 SEEN = b"+user rating=0 comments=0"
 
@@ -41,13 +46,34 @@ class Front:
 
     started: list[subprocess.Popen] = []
 
-    def __init__(self, tester: FrontTester, name: str, *words: str, rows: bytes = b"", log: Path | None = None, waits: bool = True, program: Path | None = None, **how: Any):
+    def __init__(
+        self,
+        tester: FrontTester,
+        name: str,
+        *words: str,
+        rows: bytes = b"",
+        log: Path | None = None,
+        waits: bool = True,
+        program: Path | None = None,
+        **how: Any,
+    ):
         self.folder = tester.folder / name
         self.folder.mkdir()
         self.log, self.audit, self.said = log or self.folder / "rows", self.folder / "audit", self.folder / "said"
         if log is None:
             self.log.write_bytes(rows)
-        self.words = [*FRONT, "--log", str(self.log), "--audit", str(self.audit), "--workers", str(WORKERS), *words, str(program or tester.program), "--fast"]
+        self.words = [
+            *FRONT,
+            "--log",
+            str(self.log),
+            "--audit",
+            str(self.audit),
+            "--workers",
+            str(WORKERS),
+            *words,
+            str(program or tester.program),
+            "--fast",
+        ]
         self.port, self.how = 0, how
         self.start()
         if waits:
@@ -145,7 +171,9 @@ class Client:
     def info(self) -> dict[str, int | str]:
         self.send(b"INFO\n")
         text = self.replies.read(int(self.reply()[1:]) + 2).decode()
-        return {name: int(told) if told.isdigit() else told for name, told in (line.split(":") for line in text.split())}
+        return {
+            name: int(told) if told.isdigit() else told for name, told in (line.split(":") for line in text.split())
+        }
 
 
 def packed(*words: bytes) -> bytes:

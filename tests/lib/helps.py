@@ -14,14 +14,17 @@ STATUSES = "Status: 0 "
 
 
 def help_and_version(tally: Tally, program: Path, name: str, page: str | None, needed: tuple = ()) -> str:
-    """Tests both, and gives what help says: the page shows it, if any does, each option has a line, and each range is the one that is taken with the words that are needed."""
+    """Tests both, and gives what help says: the page shows it, if any does, each option has a line, and each range is
+    the one that is taken with the words that are needed."""
     said = ""
     for word in ("--help", "-h"):
         got = run([program, word])
         said = got.stderr.decode()
         tally.check(got.status == 1 and not got.stdout and said.count("\n") > 9, f"{name} {word}: {described(got)}")
         if page:
-            tally.check(indent(said, "    ") in (DOCUMENTS / page).read_text(), f"docs/{page} shows what {name} {word} prints")
+            tally.check(
+                indent(said, "    ") in (DOCUMENTS / page).read_text(), f"docs/{page} shows what {name} {word} prints"
+            )
     tally.check(f"\nUsage: {name} [" in said and f"\n{STATUSES}" in said, f"{name} --help: usage and statuses")
     lines = re.findall(r"(?m)^ +(?:-\w, +)?--.*$", said.partition("\nOptions:\n")[2].partition("\n\n")[0])
     tally.check(len(lines) == len(OPTION.findall(said)) > 1, f"{name} --help: an option without a text in {lines}")
@@ -29,7 +32,10 @@ def help_and_version(tally: Tally, program: Path, name: str, page: str | None, n
         tally.check(int(least) <= int(usual) <= int(most), f"{name} --help: {option}")
         for number in (int(least) - 1, int(most) + 1):
             got = run([program, *needed, f"--{option}={number}"])
-            tally.check(got.status == 1 and not got.stdout and f"'--{option}" in got.stderr.decode(), f"{name} --{option}={number}: {described(got)}")
+            tally.check(
+                got.status == 1 and not got.stdout and f"'--{option}" in got.stderr.decode(),
+                f"{name} --{option}={number}: {described(got)}",
+            )
     for word in ("--version", "-V"):
         got = run([program, word])
         right = got.status == 1 and not got.stdout and re.fullmatch(rf"{name} \d+\.\d+\.\d+\n", got.stderr.decode())
@@ -40,7 +46,10 @@ def help_and_version(tally: Tally, program: Path, name: str, page: str | None, n
 def examples(tally: Tally, said: str, name: str, folder: Path, programs: dict[str, Path]) -> None:
     """The two examples of a program's help run in a folder with the files that they read."""
     commands = [line.strip() for line in EXAMPLES.search(said)[1].splitlines()]
-    tally.check(len(commands) == 2 and all(command.startswith(name) for command in commands), f"{name} --help: examples {commands}")
+    tally.check(
+        len(commands) == 2 and all(command.startswith(name) for command in commands),
+        f"{name} --help: examples {commands}",
+    )
     for link, program in programs.items():
         (folder / link).symlink_to(program.resolve())
     for command in commands:

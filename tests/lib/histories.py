@@ -1,7 +1,8 @@
 """Whether what several workers printed is lawful by docs/DEFINITIONS.md and docs/FORMATS.md.
 
-Threads choose which of the lawful histories comes, so no text is the expected one. A printed history is checked whole. Printed replies are lawful
-where some order of each phase explains them, which is searched for; printed rows where each is a row at its place.
+Threads choose which of the lawful histories comes, so no text is the expected one. A printed history is checked
+whole. Printed replies are lawful where some order of each phase explains them, which is searched for; printed rows
+where each is a row at its place.
 """
 
 import re
@@ -9,7 +10,20 @@ from collections import Counter
 from itertools import count
 from typing import Iterator
 
-from lib.model import Book, Entry, Options, Run, choose_hot, is_put_off, is_refusal, is_split, quota, report_text, rows_text, views_text
+from lib.model import (
+    Book,
+    Entry,
+    Options,
+    Run,
+    choose_hot,
+    is_put_off,
+    is_refusal,
+    is_split,
+    quota,
+    report_text,
+    rows_text,
+    views_text,
+)
 from lib.records import Asked, Fault, Id, Item, Object, Request, item_object, read_input
 
 MOST_ROWS_LOOKED_AT = 1_000_000
@@ -90,7 +104,8 @@ def check_order(entries: list[Entry]) -> None:
 
 
 def check_sessions(entries: list[Entry]) -> None:
-    """A worker's commits of a phase are in script order, and none comes before an earlier splittable store of its script."""
+    """A worker's commits of a phase are in script order, and none comes before an earlier
+    splittable store of its script."""
     last_in_phase: dict[tuple[int, int], int] = {}
     greatest: dict[int, int] = {}
     for entry in entries:
@@ -161,7 +176,10 @@ def check_replies(printed: str, asked: Asked, book: Book, options: Options) -> N
     lines, report = split_lines(printed, asked.requests())
     run = Run()
     for hot, turns in phases_of(read_replies(lines, asked.scripts), options):
-        require(Search(turns, book).explains((0,) * len(turns)), f"no order of phase {len(run.hot_sets)} explains the replies")
+        require(
+            Search(turns, book).explains((0,) * len(turns)),
+            f"no order of phase {len(run.hot_sets)} explains the replies",
+        )
         run.entries += together(turns)
         run.hot_sets.append(hot)
     check_report(report, run, book, options)
@@ -200,8 +218,8 @@ def phases_of(coming: list[list[Entry]], options: Options) -> Iterator[tuple[lis
 class Search:
     """A search for an order of one phase in which each reply is the model's.
 
-    A reply depends on which rows are there, not on their order. So what adds no row may come as soon as its reply is right, and where the workers
-    stand in their turns says all of a state.
+    A reply depends on which rows are there, not on their order. So what adds no row may come as soon as its reply is
+    right, and where the workers stand in their turns says all of a state.
     """
 
     def __init__(self, turns: list[list[Entry]], book: Book):

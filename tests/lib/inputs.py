@@ -1,4 +1,5 @@
-"""Random inputs and options for the auction program: lawful ones on few items, users and categories, and damaged ones."""
+"""Random inputs and options for the auction program: lawful ones on few items, users and
+categories, and damaged ones."""
 
 import random
 import re
@@ -23,8 +24,14 @@ PROFILES = {
     "views": (5, 5, 5, 1, 21, 21, 21, 21),
 }
 LINE_ENDS = (b"\n", b"\n", b"\n", b"\r\n", b"\r", b"\n\n", b"\r\n\r\n")
-ODD_NUMBERS = b"|00|01|007|+1|-1|1.0| 1|1 |1e3|0x1|4294967295|4294967296|18446744073709551615|18446744073709551616|99999999999999999999999".split(b"|")
-ODD_FIELDS = b"item|+item|bid|+viewuser|Bid|0.0|0.00|1.0.0|.|0.|.0|-6|-5|5|6|+5|-0|1000000|1000001|\xc3\xa9|\x7f|~|\"|\"\"|\x00".split(b"|")
+ODD_NUMBERS = (
+    b"|00|01|007|+1|-1|1.0| 1|1 |1e3|0x1|4294967295|4294967296|18446744073709551615|18446744073709551616"
+    b"|99999999999999999999999"
+).split(b"|")
+ODD_FIELDS = (
+    b"item|+item|bid|+viewuser|Bid|0.0|0.00|1.0.0|.|0.|.0|-6|-5|5|6|+5|-0|1000000|1000001"
+    b"|\xc3\xa9|\x7f|~|\"|\"\"|\x00"
+).split(b"|")
 ODD_BYTES = b',,"""\r\n0+-. ;#\t\x00\xff\xef~'
 
 
@@ -55,9 +62,17 @@ def random_input(rng: random.Random) -> Input:
 
 
 def crowded(rng: random.Random, options: Options) -> Options:
-    """Options of several workers with as many requests in a phase as make each worker a thread of its own, if they are on several shards."""
+    """Options of several workers with as many requests in a phase as make each worker a thread of its own, if
+    they are on several shards."""
     joined, split = (rng.choice((140, 280)) for _ in range(2))
-    return replace(options, workers=rng.choice((2, 3, 4)), shards=rng.choice((3, 4, 5, 16, 64)), joined=joined, split=split, history=True)
+    return replace(
+        options,
+        workers=rng.choice((2, 3, 4)),
+        shards=rng.choice((3, 4, 5, 16, 64)),
+        joined=joined,
+        split=split,
+        history=True,
+    )
 
 
 def random_options(rng: random.Random) -> Options:
@@ -102,7 +117,9 @@ class Text:
         """Rows that are rows at their places; now and then one that may be none."""
         book = Book(self.options.users, self.options.categories)
         rows = self.first_items() if self.rng.random() < 0.7 else []
-        rows += [(self.worker(), self.request(STORES, self.weights[:4])) for _ in range(self.rng.choice((0, 0, 1, 5, 20)))]
+        rows += [
+            (self.worker(), self.request(STORES, self.weights[:4])) for _ in range(self.rng.choice((0, 0, 1, 5, 20)))
+        ]
         return [row for row in rows if not is_refusal(book.perform(*row)) or self.rng.random() < 0.01]
 
     def first_items(self) -> list[tuple[int, Request]]:
@@ -110,13 +127,19 @@ class Text:
 
     def requests(self) -> list[tuple[int, Request]]:
         workers = range(self.options.workers)
-        asked = [(worker, self.request(KINDS, self.weights)) for worker in workers for _ in range(self.rng.randint(*self.lengths))]
+        asked = [
+            (worker, self.request(KINDS, self.weights))
+            for worker in workers
+            for _ in range(self.rng.randint(*self.lengths))
+        ]
         self.rng.shuffle(asked)
         return asked
 
     def request(self, kinds: tuple[type[Request], ...], weights: tuple[int, ...]) -> Request:
         makers = {
-            Item: lambda: Item(self.user(), self.category(), self.name(), self.number(3), self.closing(), self.time(), self.quantity()),
+            Item: lambda: Item(
+                self.user(), self.category(), self.name(), self.number(3), self.closing(), self.time(), self.quantity()
+            ),
             Bid: lambda: Bid(self.user(), self.item(), self.number(8), self.time()),
             Comment: lambda: Comment(self.user(), self.user(), self.item(), self.rng.randint(-5, 5)),
             BuyNow: lambda: BuyNow(self.user(), self.item(), self.quantity(), self.time()),
@@ -163,7 +186,9 @@ class Text:
 
     def name(self) -> str:
         length = self.rng.choice((1, 4, 32))
-        return "".join(chr(self.rng.choice((0x20, 0x22, 0x2C, 0x7E, self.rng.randint(0x20, 0x7E)))) for _ in range(length))
+        return "".join(
+            chr(self.rng.choice((0x20, 0x22, 0x2C, 0x7E, self.rng.randint(0x20, 0x7E)))) for _ in range(length)
+        )
 
     def record(self, worker: int, request: Request, plus: str) -> bytes:
         values = [getattr(request, field.name) for field in fields(request)]
@@ -180,7 +205,9 @@ class Text:
 
 def damaged(rng: random.Random, data: bytes) -> bytes:
     for _ in range(rng.choice((1, 1, 1, 2, 4))):
-        data = rng.choice((without_some, with_odd_byte, with_odd_number, with_odd_field, cut_short, with_line_again))(rng, data)
+        data = rng.choice((without_some, with_odd_byte, with_odd_number, with_odd_field, cut_short, with_line_again))(
+            rng, data
+        )
     return data
 
 

@@ -1,4 +1,5 @@
-"""The loads that `rubis_load` has to write: docs/LOADS.md once more, over the published definitions of SplitMix64, Xoshiro256++ and Zipf's law."""
+"""The loads that `rubis_load` has to write: docs/LOADS.md once more, over the published definitions of SplitMix64,
+Xoshiro256++ and Zipf's law."""
 
 from bisect import bisect_right
 from dataclasses import dataclass
@@ -61,7 +62,8 @@ class Draws:
         return drawn
 
     def below(self, count: int, bits: int = 32) -> int:
-        """A number below the count, by a fraction of so many bits; by one of twice as many where that is not enough (Canon's method)."""
+        """A number below the count, by a fraction of so many bits; by one of twice as many where that is
+        not enough (Canon's method)."""
         drawn, rest = divmod((self.word() >> 64 - bits) * count, 2**bits)
         if rest > 2**bits - count:
             drawn += (rest + ((self.word() >> 64 - bits) * count >> bits)) >> bits

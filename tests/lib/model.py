@@ -1,7 +1,8 @@
 """A model of the auction program: what it has to print for an input and its options.
 
-Written from docs/FORMATS.md and docs/DEFINITIONS.md alone. The auction is one list of rows, and every reply a filter over it. With one worker
-`expected` tells the whole outcome; with several, histories.py asks these definitions whether a history is a lawful one.
+Written from docs/FORMATS.md and docs/DEFINITIONS.md alone. The auction is one list of rows, and every reply a filter
+over it. With one worker `expected` tells the whole outcome; with several, histories.py asks these definitions
+whether a history is a lawful one.
 """
 
 from collections import Counter
@@ -159,8 +160,8 @@ class Book:
         leading = max(bids, key=bid_order, default=None)
         highest, bidder = (leading.request.amount, leading.request.bidder) if leading else ("-", "-")
         return (
-            f"viewitem seller={item.seller} category={item.category} start={item.start} closes={item.closes} highest={highest}"
-            f" bidder={bidder} bids={len(bids)} left={self.left(id)} name={item.name}"
+            f"viewitem seller={item.seller} category={item.category} start={item.start} closes={item.closes}"
+            f" highest={highest} bidder={bidder} bids={len(bids)} left={self.left(id)} name={item.name}"
         )
 
     def perform(self, worker: int, request: Request) -> str:

@@ -26,7 +26,8 @@ Given = bytes | int | IO[bytes]
 LITTLE_MEMORY = 64 << 20
 NOBODY = 65534
 
-# No test cuts the power: so servers keep their files in memory, where syncs take no time, if so many bytes are free there.
+# No test cuts the power: so servers keep their files in memory, where syncs take no time, if
+# so many bytes are free there.
 MEMORY, ROOM = Path("/dev/shm"), 1 << 30
 # What runs so long hangs. No run takes a tenth of it, so that a busy machine fails no test.
 SECONDS = 600
@@ -39,7 +40,8 @@ def built(name: str) -> Path:
 
 
 def built_tests(name: str) -> Path:
-    """The tests of a crate, as `rt ci` and `rt test` build them: a program that runs the test of the name it is given."""
+    """The tests of a crate, as `rt ci` and `rt test` build them: a program that runs the
+    test of the name it is given."""
     return CRATES / name / "out" / f"{name}_tests"
 
 
@@ -91,7 +93,8 @@ def was_running(session: int) -> bool:
 
 
 def is_asleep(process: int) -> bool:
-    """Whether a child that was not waited for yet sleeps, as Linux tells behind its name: S if it does, R if it runs or could."""
+    """Whether a child that was not waited for yet sleeps, as Linux tells behind its name: S if it
+    does, R if it runs or could."""
     return Path(f"/proc/{process}/stat").read_text().rpartition(") ")[2].startswith("S")
 
 
@@ -101,7 +104,9 @@ def build_shim(name: str, folder: Path) -> Path | None:
     if compiler is None:
         return None
     shim = folder / f"{name}.so"
-    check_call([compiler, "-Wall", "-Wextra", "-Werror", "-shared", "-fPIC", "-O1", "-o", shim, LIB / f"{name}.c", "-ldl"])
+    check_call(
+        [compiler, "-Wall", "-Wextra", "-Werror", "-shared", "-fPIC", "-O1", "-o", shim, LIB / f"{name}.c", "-ldl"]
+    )
     return shim
 
 
@@ -135,6 +140,10 @@ def described(outcome: Outcome) -> str:
     return f"status {outcome.status}, output {shown(outcome.stdout)}, error {shown(outcome.stderr)}"
 
 
+def on_one_line(text: str) -> str:
+    return " ".join(text.split())
+
+
 @dataclass
 class Tally:
     passed: int = 0
@@ -154,13 +163,14 @@ class Tally:
         self.check(got == wanted, f"{what}: wanted {described(wanted)}; got {described(got)}")
 
     def skip(self, what: str, why: str) -> None:
-        print(f"SKIPPED {what}: {why}", flush=True)
+        print(f"SKIPPED {on_one_line(what)}: {why}", flush=True)
 
     def tell(self, check: Callable[..., None], *given: object) -> None:
         """Makes a check of what is given, and tells how many tests passed in it, and how long it took."""
         started, passed = time.monotonic(), self.passed
         check(*given)
-        print(f"{self.passed - passed:6} passed in {time.monotonic() - started:5.1f} s: {check.__doc__}", flush=True)
+        took = time.monotonic() - started
+        print(f"{self.passed - passed:6} passed in {took:5.1f} s: {on_one_line(check.__doc__)}", flush=True)
 
     def finish(self) -> None:
         print(f"{self.passed} passed, {self.failed} failed", flush=True)

@@ -1,7 +1,8 @@
 """The requests of the auction, and how a text of records is read as rows and scripts.
 
-Written from docs/FORMATS.md and docs/DEFINITIONS.md alone. Where they say "read by `csv`", this follows what the `csv` crate says of itself:
-a quote inside an unquoted field stands for itself, what follows a closing quote belongs to the field, and the end of the input ends an open quote.
+Written from docs/FORMATS.md and docs/DEFINITIONS.md alone. Where they say "read by `csv`", this follows what the `csv`
+crate says of itself: a quote inside an unquoted field stands for itself, what follows a closing quote belongs to the
+field, and the end of the input ends an open quote.
 """
 
 import re

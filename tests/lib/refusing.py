@@ -45,7 +45,12 @@ class Refusing:
     def refusal(self, number: int, and_all_after: bool) -> Refusal:
         told, tell = os.pipe()
         last = ENDLESS if and_all_after else number
-        environment = {"LD_PRELOAD": str(self.shim), "REFUSE_FROM": str(number), "REFUSE_TO": str(last), "REFUSE_TOLD": str(tell)}
+        environment = {
+            "LD_PRELOAD": str(self.shim),
+            "REFUSE_FROM": str(number),
+            "REFUSE_TO": str(last),
+            "REFUSE_TOLD": str(tell),
+        }
         os.set_blocking(tell, False)
         outcome = run(self.command, self.data, env=os.environ | environment, pass_fds=[tell])
         os.close(tell)

@@ -1,4 +1,5 @@
-"""Sessions of a client of `--live` and `--log`: what it asks for, and an auction over several of them, each of which is killed, held against the model as one."""
+"""Sessions of a client of `--live` and `--log`: what it asks for, and an auction over several of them, each of which is
+killed, held against the model as one."""
 
 import itertools
 import os
@@ -112,7 +113,8 @@ class Era:
         self.log.unlink(missing_ok=True)
         self.workers = draw.choice((1, 1, 3))
         self.is_small = self.workers == 1
-        # Of one worker what was performed, with the replies that came; of each worker the requests of the rows that replies told.
+        # Of one worker what was performed, with the replies that came; of each worker the requests
+        # of the rows that replies told.
         self.performed: list[tuple[str, str | None]] = []
         self.stored: dict[str, str] = {}
 
@@ -122,7 +124,14 @@ class Era:
     def session(self, number: int) -> None:
         draw = self.draw
         before = whole_lines(self.log).count(b"\n")
-        auction = Told(self.tester.program, *PLAIN, f"--workers={self.workers}", "--log", str(self.log), most=draw.choice((1, 10, 1000)))
+        auction = Told(
+            self.tester.program,
+            *PLAIN,
+            f"--workers={self.workers}",
+            "--log",
+            str(self.log),
+            most=draw.choice((1, 10, 1000)),
+        )
         timer = threading.Timer(draw.random() * (0.05 if self.is_small else 0.2), auction.process.kill)
         timer.start()
         with suppress(Refused):
@@ -137,7 +146,9 @@ class Era:
             with suppress(BrokenPipeError):
                 stream.close()
         what = f"kill {number}, of {self.workers} workers"
-        self.tester.tally.check(auction.process.returncode == -signal.SIGKILL, f"{what}: status {auction.process.returncode}")
+        self.tester.tally.check(
+            auction.process.returncode == -signal.SIGKILL, f"{what}: status {auction.process.returncode}"
+        )
         self.nothing_lost(what, auction)
         if self.is_small:
             self.as_model(what, auction)
@@ -152,7 +163,11 @@ class Era:
             worker, kind, fields = line.split(",", 2)
             serial = counts[worker, kind] = counts.get((worker, kind), -1) + 1
             kept[f"{kind[1:]} {worker}.{serial}"] = f"{kind[1:]},{fields}"
-        lost = [(told, asked) for told, asked in self.stored.items() if asked.replace('"', "") != kept.get(told, "").replace('"', "")]
+        lost = [
+            (told, asked)
+            for told, asked in self.stored.items()
+            if asked.replace('"', "") != kept.get(told, "").replace('"', "")
+        ]
         self.tester.tally.check(not lost, f"{what}: {len(lost)} of {len(self.stored)} rows lost, {lost[:3]}")
 
     def as_model(self, what: str, auction: Told) -> None:
@@ -160,7 +175,10 @@ class Era:
         asked = [(auction.asked[place], auction.replied.get(place)) for place in sorted(auction.asked)]
         sure = len(self.performed) + len(auction.replied)
         records = [f"0,{request}\n" for request, _ in (*self.performed, *asked)]
-        replies = [line.split(",", 2)[2] for line in expected("".join(records).encode(), Options(hot=0)).stdout.decode().splitlines()]
+        replies = [
+            line.split(",", 2)[2]
+            for line in expected("".join(records).encode(), Options(hot=0)).stdout.decode().splitlines()
+        ]
         rows, done, count = whole_lines(self.log).count(b"\n"), 0, 0
         # What was performed last and not answered is known by its rows.
         while done < sure or count < rows and done < len(replies):
@@ -168,6 +186,8 @@ class Era:
             done += 1
         self.performed = [*self.performed, *asked][:done]
         wrong = [(one, due) for one, due in zip(self.performed, replies) if one[1] not in (None, due)]
-        self.tester.tally.check(not wrong, f"{what}: {len(self.performed)} requests, replies that are not the model's: {wrong[:3]}")
+        self.tester.tally.check(
+            not wrong, f"{what}: {len(self.performed)} requests, replies that are not the model's: {wrong[:3]}"
+        )
         model = expected("".join(records[:done]).encode(), Options(hot=0, rows=True)).stdout
         self.tester.tally.check(whole_lines(self.log) == model, f"{what}: the log is the model's {count} rows")

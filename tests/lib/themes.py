@@ -1,4 +1,5 @@
-"""Whether what an SVG picture has can be seen, in the light theme and in the dark one that its style makes, and on a small screen."""
+"""Whether what an SVG picture has can be seen, in the light theme and in the dark one that its style
+makes, and on a small screen."""
 
 import re
 from runpy import run_path
@@ -25,6 +26,7 @@ Colour = tuple[str, str]
 
 class Pair(NamedTuple):
     """Two colours of a picture, one on the other, and their least contrast."""
+
     colour: Colour
     ground: Colour
     least: float
@@ -58,7 +60,11 @@ def faults(picture: str) -> Iterator[str]:
 
 def colours(element: ElementTree.Element) -> list[Colour]:
     """The colours of an element; words and shapes that name none are black in each theme."""
-    usual = {"fill": "black"} if element.tag.removeprefix(SVG) in ("text", "rect", "circle", "polygon", "polyline", "path") else {}
+    usual = (
+        {"fill": "black"}
+        if element.tag.removeprefix(SVG) in ("text", "rect", "circle", "polygon", "polyline", "path")
+        else {}
+    )
     found = usual | {where: element.attrib[where] for where in ("fill", "stroke") if where in element.attrib}
     return [(where, colour) for where, colour in found.items() if colour != "none"]
 
@@ -72,7 +78,8 @@ def faint(seen: set[Pair], dark: dict[Colour, str]) -> Iterator[str]:
 
 
 def pairs(root: ElementTree.Element) -> set[Pair]:
-    """Words with the last rectangle before them on which they stand; each colour of lines and marks with each ground of the picture."""
+    """Words with the last rectangle before them on which they stand; each colour of lines and marks with
+    each ground of the picture."""
     rectangles, words, marks = [], set(), set()
     for element in root.iter():
         if element.tag == f"{SVG}text":
@@ -99,4 +106,6 @@ def is_in(x: float, y: float, rectangle: ElementTree.Element) -> bool:
 def smallest(picture: str) -> float:
     """How many pixels the smallest words of a picture have on a narrow screen."""
     root = ElementTree.fromstring(picture)
-    return min(float(text.attrib["font-size"]) for text in root.iter(f"{SVG}text")) * NARROW / float(root.attrib["width"])
+    return (
+        min(float(text.attrib["font-size"]) for text in root.iter(f"{SVG}text")) * NARROW / float(root.attrib["width"])
+    )

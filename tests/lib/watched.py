@@ -1,4 +1,5 @@
-"""A load of many clients that note what they see of a front; and whether what they saw, what the front kept and the log are one auction, strictly serializable."""
+"""A load of many clients that note what they see of a front; and whether what they saw, what the front kept and the log
+are one auction, strictly serializable."""
 
 import asyncio
 import csv
@@ -71,7 +72,8 @@ class Outcome:
 
 
 def watched(front: Front, *events: Callable[[], None]) -> Outcome:
-    """A load of 100 clients: an event each time that so many replies have come, and then so many more, if the front lives on."""
+    """A load of 100 clients: an event each time that so many replies have come, and then so many
+    more, if the front lives on."""
     commands = load.commands_of(mix()[1])
     asked = SimpleNamespace(pipeline=PIPELINE, seconds=SECONDS * (len(events) + 1))
     watchers = [Watcher(commands, at, asked) for at in range(0, len(commands), len(commands) // CLIENTS)]
@@ -85,7 +87,9 @@ def watched(front: Front, *events: Callable[[], None]) -> Outcome:
         asked.until = 0
 
     async def drive() -> None:
-        await asyncio.wait_for(asyncio.gather(load.drive(watchers, asked, host="127.0.0.1", port=front.port), lead()), asked.seconds)
+        await asyncio.wait_for(
+            asyncio.gather(load.drive(watchers, asked, host="127.0.0.1", port=front.port), lead()), asked.seconds
+        )
 
     asyncio.run(drive())
     outcome = Outcome()
@@ -156,7 +160,9 @@ def referee(tester: FrontTester, start: Start) -> str:
 
 def seen_otherwise(starts: list[Start], outcome: Outcome) -> str:
     texts = {(start.number, worker, index): text for start in starts for worker, index, text in start.history}
-    wrong = [(place, seen.text, texts.get(place)) for place, seen in outcome.seen.items() if texts.get(place) != seen.text]
+    wrong = [
+        (place, seen.text, texts.get(place)) for place, seen in outcome.seen.items() if texts.get(place) != seen.text
+    ]
     return f"{len(wrong)} seen otherwise: {wrong[0]}" if wrong else ""
 
 
@@ -172,7 +178,8 @@ def against_time(starts: list[Start], outcome: Outcome) -> str:
 
 
 def log_is_exact(starts: list[Start], log: list[str]) -> str:
-    """Behind the rows that a start began with are the answered writes of its history, and then at most what was under way, but nothing at the end."""
+    """Behind the rows that a start began with are the answered writes of its history, and then at most what was under
+    way, but nothing at the end."""
     ends = [*(len(start.rows) for start in starts[1:]), len(log)]
     for start, end in zip(starts, ends):
         rows, writes = len(start.rows), start.writes()
@@ -193,13 +200,24 @@ def fields(record: str) -> list[str]:
 def judge(tester: FrontTester, front: Front, outcome: Outcome) -> list[Start]:
     """Whether a served auction is strictly serializable and its log exact. Gives what was kept of it."""
     starts, log = starts_of(front.audit), whole_lines(front.log)
-    found = [*(referee(tester, start) for start in starts), seen_otherwise(starts, outcome), against_time(starts, outcome), log_is_exact(starts, log)]
-    tester.tally.check(len(outcome.seen) >= BETWEEN and not any(found), f"{front.folder.name}: {len(outcome.seen)} replies seen; {found}; {front.said.read_text()[-300:]}")
+    found = [
+        *(referee(tester, start) for start in starts),
+        seen_otherwise(starts, outcome),
+        against_time(starts, outcome),
+        log_is_exact(starts, log),
+    ]
+    tester.tally.check(
+        len(outcome.seen) >= BETWEEN and not any(found),
+        f"{front.folder.name}: {len(outcome.seen)} replies seen; {found}; {front.said.read_text()[-300:]}",
+    )
     return starts
 
 
 def judged_by_itself(tester: FrontTester, front: Front, starts: str = "*") -> None:
     """The referee takes the files as they are, if the front was not killed."""
     for path in front.audit.glob(f"{starts}.csv"):
-        got = run([tester.referee, "--workers", str(WORKERS), "--order", "--history", path.with_suffix(".history")], path.read_bytes())
+        got = run(
+            [tester.referee, "--workers", str(WORKERS), "--order", "--history", path.with_suffix(".history")],
+            path.read_bytes(),
+        )
         tester.tally.check(got.status == 0, f"{path.name} of {front.folder.name}: {got.stdout!r} {got.stderr!r}")
