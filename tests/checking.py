@@ -479,19 +479,12 @@ def changes(rng: random.Random, history: list[bytes]) -> Iterator[tuple[str, lis
     worker, index = place[2:]
     yield "a line twice", [*before, line, line, *after], f"line {at + 2}: {worker},{index} stands in an earlier line"
     yield "a line cut off", [*before, line[:-1]], f"line {at + 1}: {UNREADABLE}"
-    yield "a line of no script", [
-        *before,
-        b"0 0 16 0 latest\n",
-        line,
-        *after,
-    ], f"line {at + 1}: 16,0 stands in no script"
+    more = [*before, b"0 0 16 0 latest\n", line, *after]
+    yield "a line of no script", more, f"line {at + 1}: 16,0 stands in no script"
     for text in (due + "0", due[:-1], due.replace(".", ".1", 1) if "." in due else due.upper(), "refused 8 Other"):
-        changed = f"{' '.join(place)} {text}\n".encode()
-        yield f"{text!r} in place of {due!r}", [
-            *before,
-            changed,
-            *after,
-        ], f"line {at + 1}: {worker},{index} {text} but {due} was due"
+        changed = [*before, f"{' '.join(place)} {text}\n".encode(), *after]
+        found = f"line {at + 1}: {worker},{index} {text} but {due} was due"
+        yield f"{text!r} in place of {due!r}", changed, found
 
 
 def loads(tester: CheckerTester) -> None:
@@ -503,9 +496,8 @@ def loads(tester: CheckerTester) -> None:
         tester.finds(what, scripts, history, REPLAYS, LARGE, "--order")
         place = history.rindex(b" bid ", 0, len(history) * 9 // 10)
         number = history.count(b"\n", 0, place) + 1
-        worker, index, due = history[:place].rsplit(b"\n", 1)[-1].split()[2:] + [
-            history[place + 1 :].split(b"\n", 1)[0]
-        ]
+        worker, index = history[:place].rsplit(b"\n", 1)[-1].split()[2:]
+        due = history[place + 1 :].split(b"\n", 1)[0]
         changed = history[:place] + b" bid 3.999999" + history[place + 1 + len(due) :]
         found = f"line {number}: {worker.decode()},{index.decode()} bid 3.999999 but {due.decode()} was due"
         tester.finds(f"{what}, with a line changed", scripts, changed, found, LARGE)

@@ -10,6 +10,7 @@ from pathlib import Path
 from typing import Any, Iterator
 
 from lib.checks import MILLION, AuctionTester, main
+from lib.model import Outcome
 from lib.program import described, in_little_memory, run
 from lib.sessions import Auction, Refused
 
@@ -169,11 +170,8 @@ def late_faults(tester: AuctionTester) -> None:
                 f"a cut row behind many rows: {described(got)}",
             )
         else:
-            right = (got.status, got.stderr.decode()) == (
-                5,
-                f"rubis_auction: {log}: {words}\n",
-            ) and log.stat().st_size == size
-            tester.tally.check(right, f"{words}: {described(got)}")
+            is_told = (got.status, got.stderr.decode()) == (5, f"rubis_auction: {log}: {words}\n")
+            tester.tally.check(is_told and log.stat().st_size == size, f"{words}: {described(got)}")
 
 
 def late_lines(tester: AuctionTester) -> None:
@@ -196,12 +194,8 @@ def late_lines(tester: AuctionTester) -> None:
         written(given, ITEM, ROW * 2 * few, b"0,+bid,1,0.7,20,5\n0,viewuser,2\n")
         with given.open("rb") as lines:
             got = run([tester.program, *words, "--log", log], lines)
-        right = (got.status, got.stdout, got.stderr) == (
-            3,
-            b"",
-            f"rubis_auction: row {2 * few + 2}: refused 3 NoSuchItem\n".encode(),
-        )
-        tester.tally.check(right, f"a row that is refused behind many, {words}: {described(got)}")
+        wanted = Outcome(3, b"", f"rubis_auction: row {2 * few + 2}: refused 3 NoSuchItem\n".encode())
+        tester.tally.check(got == wanted, f"a row that is refused behind many, {words}: {described(got)}")
         tester.tally.check(
             (ITEM + ROW * 2 * few).startswith(log.read_bytes()) and log.read_bytes().endswith(ROW),
             f"rows before a refused one are logged, {words}",

@@ -256,9 +256,10 @@ OPTION_LIMITS = {
     "users": (0, MILLION),
     "categories": (0, MILLION),
 }
-BEYOND_OPTIONS = tuple(
-    str(number) for number in (2**31, 2**32, 2**32 + 4, 2**63 - 1, 2**63, 2**64 - 1, 2**64, 2**64 + 4)
-) + ("9" * 100_000,)
+BEYOND_OPTIONS = (
+    *map(str, (2**31, 2**32, 2**32 + 4, 2**63 - 1, 2**63, 2**64 - 1, 2**64, 2**64 + 4)),
+    "9" * 100_000,
+)
 NO_OPTION_NUMBERS = ("", " 4", "4 ", "-1", "--4", "++4", "4.0", "0x4", "1e1", "four", "4,0", "1_0")
 
 
@@ -358,9 +359,8 @@ def help_and_version(tester: AuctionTester) -> None:
     its examples, and the version"""
     said = helps.help_and_version(tester.tally, tester.program, "rubis_auction", "FORMATS.md")
     numbers = {option: (int(least), int(most), int(usual)) for option, least, most, usual in helps.NUMBER.findall(said)}
-    wanted = {option: (*limits, getattr(Options(), option)) for option, limits in OPTION_LIMITS.items()} | {
-        "live": (0, MILLION, 0)
-    }
+    wanted = {option: (*limits, getattr(Options(), option)) for option, limits in OPTION_LIMITS.items()}
+    wanted["live"] = (0, MILLION, 0)
     tester.tally.check(numbers == wanted, f"what --help says of numbers: {numbers}")
     flags = {option.name for option in fields(Options)} - set(OPTION_LIMITS)
     tester.tally.check(

@@ -513,11 +513,8 @@ def full_disks(tester: AuctionTester) -> None:
         lost_nothing(tester, f"a log of at most {size} bytes", log, answered, at_most=len(answered))
     disk = tester.folder / "disk"
     disk.mkdir()
-    if (
-        os.geteuid() != 0
-        or subprocess.run(["mount", "-t", "tmpfs", "-o", "size=16k", "tmpfs", disk], capture_output=True).returncode
-        != 0
-    ):
+    mount = ["mount", "-t", "tmpfs", "-o", "size=16k", "tmpfs", disk]
+    if os.geteuid() != 0 or subprocess.run(mount, capture_output=True).returncode != 0:
         return tester.tally.skip("a small disk that is full", "none can be mounted")
     try:
         auction = Auction(tester.program, "--log", str(disk / "log"), most=100)

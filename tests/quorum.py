@@ -124,18 +124,8 @@ class Machine(Front):
             "initial-advertise-peer": self.agrees_at,
         }
         urls = (word for name, place in places.items() for word in (f"--{name}-urls", f"http://{place}"))
-        words = [
-            *self.inside,
-            "etcd",
-            "--name",
-            str(self.number),
-            "--data-dir",
-            self.folder / "etcd",
-            "--initial-cluster",
-            members,
-            *urls,
-            *ELECTION,
-        ]
+        command = [*self.inside, "etcd", "--name", str(self.number), "--data-dir", self.folder / "etcd"]
+        words = [*command, "--initial-cluster", members, *urls, *ELECTION]
         with (self.folder / "etcd_said").open("ab") as said:
             self.etcd = subprocess.Popen(words, stdout=said, stderr=said)
         self.started.append(self.etcd)
@@ -174,18 +164,8 @@ class Cluster:
     def words(self, machine: Machine) -> list[str]:
         """The command of a front."""
         place = ("--host", machine.address, "--port", machine.port, "--log", machine.log, "--audit", self.audit)
-        words = (
-            sys.executable,
-            "-B",
-            EXAMPLES / "front_quorum.py",
-            "--etcd",
-            self.etcd,
-            "--workers",
-            WORKERS,
-            *place,
-            self.tester.program,
-            "--fast",
-        )
+        front = (sys.executable, "-B", EXAMPLES / "front_quorum.py", "--etcd", self.etcd, "--workers", WORKERS)
+        words = (*front, *place, self.tester.program, "--fast")
         return [*machine.inside, *map(str, words)]
 
     def start(self, rows: bytes) -> None:
@@ -208,11 +188,8 @@ class Cluster:
         """The machine of the front that leads, as the first server of etcd says that can tell."""
         fronts = {f"{machine.address}:{machine.port}": machine for machine in self.machines}
         for machine in self.machines * SECONDS:
-            place = (
-                self.etcdctl("get", "leader", "--print-value-only", "--command-timeout", "1s", at=machine.asked_at)
-                .decode()
-                .strip()
-            )
+            words = ("get", "leader", "--print-value-only", "--command-timeout", "1s")
+            place = self.etcdctl(*words, at=machine.asked_at).decode().strip()
             if place in fronts:
                 return fronts[place]
         raise LookupError("no front leads")

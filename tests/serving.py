@@ -148,26 +148,26 @@ def commands(tester: FrontTester) -> None:
     judged_by_itself(tester, front)
 
 
+# Commands of a pipeline beside bids, and their replies.
+AT_ONCE = (
+    (b"PING", b"+PONG"),
+    (b"BID 1", b"-ERR wrong number of fields"),
+    (b"VIEWUSER 1", SEEN),
+    (b"", None),
+    (b"X", UNKNOWN_COMMAND),
+)
+
+
 def pipelines(tester: FrontTester) -> None:
     """pipelines of thousands of commands on one connection, cut anywhere: each reply in its place"""
     front, draw = Front(tester, "pipelines", rows=mix()[0]), random.Random(1)
     with front.client() as client:
         data, wanted = b"", []
         for number in range(1500):
-            command, reply = draw.choice(
-                (
-                    (b"PING", b"+PONG"),
-                    (b"BID 1", b"-ERR wrong number of fields"),
-                    (b"VIEWUSER 1", SEEN),
-                    (b"", None),
-                    (b"X", UNKNOWN_COMMAND),
-                )
-            )
+            command, reply = draw.choice(AT_ONCE)
             if draw.random() < 0.5:
-                command, reply = (
-                    b"BID 1 0.0 500 %d" % number,
-                    b"+bid 0.%d" % sum(line[:4] == b"+bid" for line in wanted),
-                )
+                bids = sum(line[:4] == b"+bid" for line in wanted)
+                command, reply = b"BID 1 0.0 500 %d" % number, b"+bid 0.%d" % bids
             data += packed(*command.split()) + b"\n" if command and draw.random() < 0.5 else command + b"\r\n"
             wanted += [] if reply is None else [reply]
         threading.Thread(target=in_pieces, args=(client, data, draw), daemon=True).start()

@@ -292,9 +292,8 @@ def slow_inputs(tester: TerminalTester) -> None:
 def slow_histories(tester: TerminalTester) -> None:
     """a slow input and a slow history of rubis_check: notes of both, and the verdict on the same terminal after them"""
     views = PARTS * 100
-    scripts, history = [VIEW * 100] * PARTS, [
-        b"".join(b"0 0 0 %d %s" % (part * 100 + at, SEEN) for at in range(100)) for part in range(PARTS)
-    ]
+    scripts = [VIEW * 100] * PARTS
+    history = [b"".join(b"0 0 0 %d %s" % (part * 100 + at, SEEN) for at in range(100)) for part in range(PARTS)]
     fifo = tester.folder / "fifo"
     os.mkfifo(fifo)
     for shared in (False, True):

@@ -528,11 +528,8 @@ def drawn_hostile(make: Maker, browser: Browser) -> None:
 
 
 def drawn_large(make: Maker, browser: Browser, page: str) -> None:
-    lines, late, check = (
-        data_of(page)["history"].split("\n"),
-        [at + 1 for at, _ in data_of(page)["deferred"]],
-        make.tally.check,
-    )
+    data, check = data_of(page), make.tally.check
+    lines, late = data["history"].split("\n"), [at + 1 for at, _ in data["deferred"]]
     bids = [number for number, line in enumerate(lines, 1) if line.endswith(" bid 2.77")]
     stages = [
         "",

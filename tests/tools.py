@@ -49,24 +49,9 @@ NONE = str(TESTS / "none")
 OF_A_PROGRAM = [
     TESTS / f"{name}.py"
     for name in (
-        "checking",
-        "ends",
-        "failover",
-        "joined",
-        "lasting",
-        "library_calls",
-        "limits",
-        "live",
-        "logs",
-        "postgres",
-        "quorum",
-        "refused_memory",
-        "second_opinion",
-        "serving",
-        "timeline",
-        "tools",
-        "worked",
-    )
+        "checking ends failover joined lasting library_calls limits live logs postgres quorum"
+        " refused_memory second_opinion serving timeline tools worked"
+    ).split()
 ]
 OF_EXAMPLES = [
     EXAMPLES / f"{name}.py"

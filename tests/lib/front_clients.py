@@ -25,33 +25,9 @@ def other_clients(tester: FrontTester) -> None:
         (["redis-cli", "-p", port, "ITEM", "1", "2", 'Old, "red" vase', "10", "100", "1"], b"", b"item "),
         (["redis-cli", "-p", port, "BID", "3"], b"", b"ERR wrong number of fields"),
         (["redis-cli", "-p", port], b"PING\nVIEWUSER 0\n", b"PONG\nuser rating=0 comments=0"),
-        (
-            [
-                "redis-benchmark",
-                "-p",
-                port,
-                "-c",
-                "20",
-                "-n",
-                "2000",
-                "-P",
-                "4",
-                "--csv",
-                "BID",
-                "1",
-                "0.0",
-                "500",
-                "5",
-            ],
-            b"",
-            b'"BID 1 0.0 500 5"',
-        ),
+        (f"redis-benchmark -p {port} -c 20 -n 2000 -P 4 --csv BID 1 0.0 500 5".split(), b"", b'"BID 1 0.0 500 5"'),
         (["nc", "-N", "127.0.0.1", port], b"VIEWUSER 0\r\nPING\r\n", b"+user rating=0 comments=0\r\n+PONG\r\n"),
-        (
-            [*LOAD, "--port", port, "--clients", "10", "--pipeline", "2", "--seconds", "0.3"],
-            b"",
-            b" replies, 0 errors, ",
-        ),
+        ([*LOAD, *f"--port {port} --clients 10 --pipeline 2 --seconds 0.3".split()], b"", b" replies, 0 errors, "),
     )
     for words, given, wanted in said:
         if shutil.which(words[0]) is None:

@@ -62,18 +62,9 @@ class Front:
         self.log, self.audit, self.said = log or self.folder / "rows", self.folder / "audit", self.folder / "said"
         if log is None:
             self.log.write_bytes(rows)
-        self.words = [
-            *FRONT,
-            "--log",
-            str(self.log),
-            "--audit",
-            str(self.audit),
-            "--workers",
-            str(WORKERS),
-            *words,
-            str(program or tester.program),
-            "--fast",
-        ]
+        places = ("--log", str(self.log), "--audit", str(self.audit))
+        served = (str(program or tester.program), "--fast")
+        self.words = [*FRONT, *places, "--workers", str(WORKERS), *words, *served]
         self.port, self.how = 0, how
         self.start()
         if waits:

@@ -60,11 +60,8 @@ def faults(picture: str) -> Iterator[str]:
 
 def colours(element: ElementTree.Element) -> list[Colour]:
     """The colours of an element; words and shapes that name none are black in each theme."""
-    usual = (
-        {"fill": "black"}
-        if element.tag.removeprefix(SVG) in ("text", "rect", "circle", "polygon", "polyline", "path")
-        else {}
-    )
+    is_filled = element.tag.removeprefix(SVG) in ("text", "rect", "circle", "polygon", "polyline", "path")
+    usual = {"fill": "black"} if is_filled else {}
     found = usual | {where: element.attrib[where] for where in ("fill", "stroke") if where in element.attrib}
     return [(where, colour) for where, colour in found.items() if colour != "none"]
 
@@ -106,6 +103,5 @@ def is_in(x: float, y: float, rectangle: ElementTree.Element) -> bool:
 def smallest(picture: str) -> float:
     """How many pixels the smallest words of a picture have on a narrow screen."""
     root = ElementTree.fromstring(picture)
-    return (
-        min(float(text.attrib["font-size"]) for text in root.iter(f"{SVG}text")) * NARROW / float(root.attrib["width"])
-    )
+    least = min(float(text.attrib["font-size"]) for text in root.iter(f"{SVG}text"))
+    return least * NARROW / float(root.attrib["width"])
