@@ -238,7 +238,7 @@ def words_of(options: Options) -> list[str]:
 class CheckerTester(Tester):
     """Runs the referee, on histories of the program."""
 
-    def __init__(self, asked: Namespace, folder: Path, tally: Tally):
+    def __init__(self, asked: Namespace, folder: Path, tally: Tally) -> None:
         super().__init__(folder, tally)
         self.checker, self.program = asked.checker, asked.program
 

@@ -78,7 +78,7 @@ def with_late_row(rng: random.Random, data: bytes) -> bytes:
 class Session:
     """The comparisons of one seed."""
 
-    def __init__(self, programs: list[Path], seed: int, shim: Path | None, tally: Tally):
+    def __init__(self, programs: list[Path], seed: int, shim: Path | None, tally: Tally) -> None:
         self.programs = programs
         self.seed = seed
         self.shim = shim

@@ -61,7 +61,7 @@ LOST = re.compile(rb"[0-7],[0-9]+ stands in no line\n")
 class Servers:
     """A primary and two standbys in a folder."""
 
-    def __init__(self, folder: Path):
+    def __init__(self, folder: Path) -> None:
         self.folder = folder
 
     def three(self, command: str, *words: str) -> str:

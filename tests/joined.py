@@ -64,7 +64,7 @@ def text_of(lines: Iterable[str]) -> bytes:
 
 
 class Trial:
-    def __init__(self, program: Path, checker: Path, folder: Path, tally: Tally):
+    def __init__(self, program: Path, checker: Path, folder: Path, tally: Tally) -> None:
         self.program, self.checker, self.folder, self.tally = program, checker, folder, tally
 
     def execute(self, process: int, given: list[str]) -> Share:

@@ -77,7 +77,7 @@ LINE_ENDS = ("\n", "\r\n", "\n\n", "\r\n\r\n")
 class LiveTester(AuctionTester):
     """Also knows how often the program is to be killed, and by which seed."""
 
-    def __init__(self, asked: Namespace, folder: Path, tally: Tally):
+    def __init__(self, asked: Namespace, folder: Path, tally: Tally) -> None:
         super().__init__(asked, folder, tally)
         self.kills, self.seed = asked.kills, asked.seed
 

@@ -50,7 +50,7 @@ SKEWED_OPTIONS = Options(workers=4, joined=8, split=24, threshold=3, users=6, ca
 class GeneratorTester(Tester):
     """Runs the generator, and compares what loads have with what they should have."""
 
-    def __init__(self, asked: Namespace, folder: Path, tally: Tally):
+    def __init__(self, asked: Namespace, folder: Path, tally: Tally) -> None:
         super().__init__(folder, tally)
         self.generator, self.auction = asked.generator, asked.auction
 

@@ -66,7 +66,7 @@ def sum_of(name: str) -> str:
 class Clone:
     """A clone whose programs are built, as `rt ci` leaves them."""
 
-    def __init__(self, folder: Path):
+    def __init__(self, folder: Path) -> None:
         self.folder = folder
         self.into = folder.with_name("packed")
         self.archive = Path()

@@ -95,7 +95,7 @@ class Server:
     """A PostgreSQL server that lives as long as a `with` over it. It does not run as root: then
     it is Debian's user for it."""
 
-    def __init__(self, tools: Path):
+    def __init__(self, tools: Path) -> None:
         self.tools = tools
         self.leave = ["runuser", "-u", "postgres", "--"] if os.geteuid() == 0 else []
 

@@ -40,7 +40,7 @@ LIBC, NEW_NETWORK = ctypes.CDLL(None), 0x40000000
 class Network:
     """A namespace for each machine, and this one, on a bridge; or none, and all are on loopback."""
 
-    def __init__(self):
+    def __init__(self) -> None:
         home, self.spaces = os.open("/proc/self/ns/net", os.O_RDONLY), {}
         if not (shutil.which("ip") and shutil.which("nsenter") and self.make()):
             LIBC.setns(home, NEW_NETWORK)
@@ -102,7 +102,7 @@ def free_ports(count: int) -> list[int]:
 class Machine(Front):
     """A server of etcd, and a front."""
 
-    def __init__(self, number: int, cluster: "Cluster"):
+    def __init__(self, number: int, cluster: "Cluster") -> None:
         self.number, self.folder, self.inside = number, cluster.folder / str(number), cluster.network.inside(number)
         self.folder.mkdir()
         self.log, self.said, self.address = self.folder / "rows", self.folder / "said", cluster.network.address(number)
@@ -149,7 +149,7 @@ class Cluster:
 
     is_over = threading.Event()
 
-    def __init__(self, tester: FrontTester, network: Network):
+    def __init__(self, tester: FrontTester, network: Network) -> None:
         self.tester, self.network, self.folder = tester, network, tester.folder / "machines"
         self.audit = self.folder / "audit"
         self.folder.mkdir()

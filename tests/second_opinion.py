@@ -32,7 +32,7 @@ TOLD_EVERY = 20
 
 
 class Comparer:
-    def __init__(self, program: Path):
+    def __init__(self, program: Path) -> None:
         self.program = program
         self.kinds: Counter[str] = Counter()
 
@@ -157,7 +157,7 @@ def with_digit_changed(text: str) -> Iterator[str]:
 class Session:
     """The comparisons of one seed."""
 
-    def __init__(self, seed: int, program: Path, tally: Tally):
+    def __init__(self, seed: int, program: Path, tally: Tally) -> None:
         self.seed = seed
         self.program = program
         self.tally = tally

@@ -54,7 +54,7 @@ from lib.watched import (
 class ServingTester(FrontTester):
     """Also knows how often programs and fronts are to be killed."""
 
-    def __init__(self, asked: Namespace, folder: Path, tally: Tally):
+    def __init__(self, asked: Namespace, folder: Path, tally: Tally) -> None:
         super().__init__(asked, folder, tally)
         self.kills = asked.kills
 

@@ -69,7 +69,7 @@ class Ended:
 class TerminalTester(Tester):
     """Judges what the three programs say on a terminal."""
 
-    def __init__(self, asked: Namespace, folder: Path, tally: Tally):
+    def __init__(self, asked: Namespace, folder: Path, tally: Tally) -> None:
         super().__init__(folder, tally)
         self.auction, self.checker, self.generator = asked.program, asked.checker, asked.generator
         self.history = folder / "history"

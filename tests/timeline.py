@@ -104,7 +104,7 @@ SHAPES = [
 class Maker:
     """Makes pages of histories and of what the referee says of them."""
 
-    def __init__(self, tally: Tally, checker: Path, folder: Path):
+    def __init__(self, tally: Tally, checker: Path, folder: Path) -> None:
         self.tally, self.checker, self.folder = tally, checker, folder
 
     def page(

@@ -15,7 +15,7 @@ VOID = {"meta", "input", "br", "img", "link"}
 
 
 class Element:
-    def __init__(self, tag: str, attributes: dict):
+    def __init__(self, tag: str, attributes: dict) -> None:
         self.tag, self.attributes, self.parts = tag, attributes, []
 
     def text(self) -> str:
@@ -40,7 +40,7 @@ class Element:
 class Document(HTMLParser):
     """The elements of a page. Tags that do not match are faults."""
 
-    def __init__(self, page: str):
+    def __init__(self, page: str) -> None:
         super().__init__()
         self.root = Element("", {})
         self.open, self.faults = [self.root], []
@@ -67,7 +67,7 @@ class Document(HTMLParser):
 class Browser:
     """Opens pages, and gives what they have become and what the console says."""
 
-    def __init__(self, tally: Tally, folder: Path):
+    def __init__(self, tally: Tally, folder: Path) -> None:
         self.tally, self.folder = tally, folder
         self.command = next(filter(None, map(shutil.which, BROWSERS)), None)
 

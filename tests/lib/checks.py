@@ -22,7 +22,7 @@ FEW = Options(joined=3, split=4, threshold=1, users=5, categories=2)
 class Tester:
     """What the checks of a script are given: a folder for files, and the count of what passed and failed."""
 
-    def __init__(self, folder: Path, tally: Tally):
+    def __init__(self, folder: Path, tally: Tally) -> None:
         self.folder = folder
         self.tally = tally
 
@@ -33,7 +33,7 @@ class Tester:
 class AuctionTester(Tester):
     """Runs the auction's program, that of the words of a script."""
 
-    def __init__(self, asked: Namespace, folder: Path, tally: Tally):
+    def __init__(self, asked: Namespace, folder: Path, tally: Tally) -> None:
         super().__init__(folder, tally)
         self.program = asked.program
         self.input = folder / "input"

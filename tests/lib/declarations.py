@@ -20,7 +20,7 @@ OF_VALUES = dict.fromkeys("([{", 1) | dict.fromkeys(")]}", -1)
 class Tokens:
     """What is left to read of a text, without comments and lifetimes."""
 
-    def __init__(self, text: str):
+    def __init__(self, text: str) -> None:
         # The next one is the last.
         self.left = [token for token in TOKEN.findall(text) if not PASSED_OVER.fullmatch(token)][::-1]
 

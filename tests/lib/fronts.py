@@ -32,7 +32,7 @@ SEEN = b"+user rating=0 comments=0"
 class FrontTester(AuctionTester):
     """Also knows the referee. Fronts that were started end with it."""
 
-    def __init__(self, asked: Namespace, folder: Path, tally: Tally):
+    def __init__(self, asked: Namespace, folder: Path, tally: Tally) -> None:
         super().__init__(asked, folder, tally)
         self.referee = asked.check
 
@@ -56,7 +56,7 @@ class Front:
         waits: bool = True,
         program: Path | None = None,
         **how: Any,
-    ):
+    ) -> None:
         self.folder = tester.folder / name
         self.folder.mkdir()
         self.log, self.audit, self.said = log or self.folder / "rows", self.folder / "audit", self.folder / "said"
@@ -131,7 +131,7 @@ class Front:
 class Client:
     """A client that waits for its replies."""
 
-    def __init__(self, place: int | Path, receive: int = 0):
+    def __init__(self, place: int | Path, receive: int = 0) -> None:
         self.socket = socket.socket(socket.AF_UNIX if isinstance(place, Path) else socket.AF_INET)
         self.socket.settimeout(SECONDS)
         if receive:

@@ -222,7 +222,7 @@ class Search:
     right, and where the workers stand in their turns says all of a state.
     """
 
-    def __init__(self, turns: list[list[Entry]], book: Book):
+    def __init__(self, turns: list[list[Entry]], book: Book) -> None:
         self.turns = turns
         self.book = book
         self.tried: set[tuple[int, ...]] = set()

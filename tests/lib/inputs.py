@@ -95,7 +95,7 @@ def random_options(rng: random.Random) -> Options:
 class Text:
     """One random input in the making, with scripts of such lengths."""
 
-    def __init__(self, rng: random.Random, options: Options, lengths: tuple[int, int]):
+    def __init__(self, rng: random.Random, options: Options, lengths: tuple[int, int]) -> None:
         self.rng = rng
         self.options = options
         self.lengths = lengths

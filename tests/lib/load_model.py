@@ -50,7 +50,7 @@ def turned(word: int, bits: int) -> int:
 class Draws:
     """Xoshiro256++ (Blackman and Vigna, 2021), whose first state SplitMix64 makes of the seed."""
 
-    def __init__(self, seed: int):
+    def __init__(self, seed: int) -> None:
         words = split_mix(seed)
         self.state = [next(words) for _ in range(4)]
 
@@ -97,7 +97,7 @@ def weight(rank: int, skew: int) -> int:
 
 
 class Market:
-    def __init__(self, plan: Plan):
+    def __init__(self, plan: Plan) -> None:
         self.plan, self.draws = plan, Draws(plan.seed)
         self.sums = list(accumulate(weight(rank, plan.skew) for rank in range(1, plan.items + 1))) if plan.skew else []
 

@@ -27,7 +27,7 @@ T = TypeVar("T")
 class Fault(Exception):
     """A fault of the program: its exit status and its text, as docs/FORMATS.md has them."""
 
-    def __init__(self, status: int, text: str):
+    def __init__(self, status: int, text: str) -> None:
         super().__init__(text)
         self.status = status
         self.text = text

@@ -84,7 +84,7 @@ def wait_until(holds: Callable[[], bool]) -> None:
 class Told(Auction):
     """A client that notes what it sends and what is replied, up to the moment at which the program is no more."""
 
-    def __init__(self, *words: str | Path, **how: Any):
+    def __init__(self, *words: str | Path, **how: Any) -> None:
         self.asked: dict[tuple[int, int], str] = {}
         self.replied: dict[tuple[int, int], str] = {}
         super().__init__(*words, **how)
@@ -107,7 +107,7 @@ class Era:
 
     MOST_OF_THE_MODEL = 250
 
-    def __init__(self, tester: AuctionTester, draw: random.Random):
+    def __init__(self, tester: AuctionTester, draw: random.Random) -> None:
         self.tester, self.draw = tester, draw
         self.log = tester.folder / "killed"
         self.log.unlink(missing_ok=True)

@@ -32,7 +32,7 @@ class Seen:
 class Watcher(load.Client):
     """A client of a load that notes what it sees, and connects again if it is cut off."""
 
-    def __init__(self, *words: Any):
+    def __init__(self, *words: Any) -> None:
         super().__init__(*words)
         self.seen: dict[tuple[int, int, int], Seen] = {}
         self.refused: Counter[bytes] = Counter()
