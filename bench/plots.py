@@ -3,11 +3,11 @@ import re
 from textwrap import wrap
 from typing import NamedTuple
 
+from axes import WIDTH, Axis, decades, frame, heading, mark, path, rounds, short, spread, steps
 from figures import (ALONE, AT_ONCE, AUCTION, DELAY, EXECUTING, LATEST, MOST_OF_PARTS, PHASES, POSTGRES_LOGGED, REDIS, REDIS_LOGGED, SHARDS, UNSPLIT,
                      WHOLE_RATE, live_words)
 from measures import BIDDING
-from svg import (BLUE, BROWN, GREEN, GREY, NAVY, RED, ROSE, UMBER, VIOLET, WIDTH, Axis, decades, frame, heading, line, mark, path, picture, rounds, short, spread,
-                 steps, text)
+from svg import BLUE, BROWN, GREEN, GREY, NAVY, RED, ROSE, UMBER, VIOLET, line, picture, text
 
 
 class Style(NamedTuple):
