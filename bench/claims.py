@@ -2,7 +2,7 @@
 differ, and the pages say so."""
 import clients
 import plots
-from cells import OVERLAP, are_apart, figure, in_words, in_workers, millions, table, times, times_if_apart, times_told, two, values
+from cells import OVERLAP, are_apart, figure, in_words, in_workers, loads_of, millions, table, times, times_if_apart, times_told, two, values
 from figures import ALONE, AUCTION, CLIENTS_RATE, FRONT_LOGGED, IN_C, LOCK, PHASES, SHARDS, UNSPLIT, WHOLE_RATE, Figure
 from measures import BIDDING, Policy
 
@@ -23,10 +23,6 @@ def most_workers(rows: list[Figure]) -> int:
 
 def whole_commands(rows: list[Figure]) -> list[Figure]:
     return values(rows, table="workers", measure=WHOLE_RATE)
-
-
-def loads_of(rows: list[Figure]) -> list[str]:
-    return list(dict.fromkeys(row.load for row in rows))
 
 
 def rates(rows: list[Figure]) -> str:

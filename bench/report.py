@@ -16,7 +16,7 @@ import lite
 import measures
 import plots
 import redis_server
-from cells import count, figure, heads_of, in_workers, millions, ranged, table, times, times_if_apart, two, value, values
+from cells import count, figure, heads_of, in_workers, loads_of, millions, ranged, table, times, times_if_apart, two, value, values
 from figures import (ALL_THREADS, AUCTION, CLIENT_WAITS, CLIENTS_RATE, DELAY, EXECUTING, FAULTS, INSTRUCTIONS, LATEST,
                      LONGEST_THREAD, MEMORY, OPENING, PROCESSORS, PUBLISHING, RUN, SECONDS, SYSTEMS, UNSPLIT, VIEW, WAITS, WHOLE_RATE, Figure, live_words)
 from measures import BIDDING, ONE_ITEM, UNIFORM, Policy
@@ -80,7 +80,7 @@ def over_one(rows: list[Figure], columns: list[Column]) -> list[str]:
 def by_workers(rows: list[Figure]) -> str:
     """All systems with two numbers of workers, and the auction's gain by workers."""
     shown, rows = sorted({1, claims.most_workers(rows)}), values(rows, table="workers", measure=WHOLE_RATE)
-    loads, counts = claims.loads_of(rows), sorted({row.workers for row in rows} - {1})
+    loads, counts = loads_of(rows), sorted({row.workers for row in rows} - {1})
     columns: list[Column] = [{"load": load, "workers": workers} for load in loads for workers in shown]
     heads = heads_of((column["load"], column["workers"]) for column in columns)
     rates = table(["Millions of requests per second, whole command", *heads], rate_lines(rows, columns))
@@ -90,7 +90,7 @@ def by_workers(rows: list[Figure]) -> str:
 
 def executing(rows: list[Figure]) -> str:
     rows = values(rows, table="executing", measure=EXECUTING)
-    loads, most = claims.loads_of(rows), max(row.workers for row in rows)
+    loads, most = loads_of(rows), max(row.workers for row in rows)
     columns: list[Column] = [{"load": load, "workers": most} for load in loads]
     own, *others = rate_lines(rows, columns)
     return table([f"Millions of requests per second, executing, {in_workers(most)}", *loads], [own, [OVER_ONE, *over_one(rows, columns)], *others])
@@ -99,7 +99,7 @@ def executing(rows: list[Figure]) -> str:
 def by_skew(rows: list[Figure]) -> str:
     """The ends of the plot, all items alike and one item, are in the table by workers."""
     rows = [row for row in values(rows, table="skew", measure=WHOLE_RATE) if row.skew > 0]
-    names = list(dict.fromkeys(row.load for row in rows))
+    names = loads_of(rows)
     heads = [name.split("exponent ")[-1] for name in names]
     most = max(row.workers for row in rows)
     lines = rate_lines(rows, [{"load": name, "workers": most} for name in names])
@@ -121,7 +121,7 @@ def by_rates(rows: list[Figure]) -> str:
     """For each load what it is done with by quotas, and below what that is worth over one worker."""
     rows, most = values(rows, hot=Policy().hot), max(row.workers for row in rows)
     quotas, lines = dict.fromkeys((row.joined, row.split) for row in rows), []
-    for load in claims.loads_of(rows):
+    for load in loads_of(rows):
         columns: list[Column] = [{"load": load, "joined": joined, "split": split, "workers": most} for joined, split in quotas]
         lines += [[load, *(millions(figure(rows, **column)) for column in columns)], [OVER_ONE, *over_one(rows, columns)]]
     heads = [f"Millions of requests per second, {in_workers(most)}, by quotas", *(f"{joined} / {split}" for joined, split in quotas)]
@@ -168,7 +168,7 @@ def checking(rows: list[Figure]) -> str:
     counts = sorted({row.requests for row in rows})
     words = {SECONDS: "whole command, s", MEMORY: "peak memory, MB"}
     lines = [[f"{load}: {words[measure]}", *(ranged(figure(rows, load=load, measure=measure, requests=requests)) for requests in counts)]
-             for load in dict.fromkeys(row.load for row in rows) for measure in words]
+             for load in loads_of(rows) for measure in words]
     return table(["By requests", *(f"{requests:,}" for requests in counts)], lines)
 
 
@@ -208,7 +208,7 @@ def work(rows: list[Figure]) -> str:
     lines = []
     for name, made in OF_WORK.items():
         lines += [[f"**{name}**", *[""] * len(ways)]]
-        lines += [[load, *(made(values(rows, load=load), *way) for way in ways)] for load in claims.loads_of(rows)]
+        lines += [[load, *(made(values(rows, load=load), *way) for way in ways)] for load in loads_of(rows)]
     return table(["Of a request", *heads_of(ways)], lines)
 
 
@@ -262,7 +262,7 @@ def opened(rows: list[Figure]) -> str:
 def many_clients(rows: list[Figure]) -> str:
     """For each server the rate by clients, and how long a reply takes."""
     rows = values(rows, table="clients")
-    ways, systems = list(dict.fromkeys(row.load for row in rows)), list(dict.fromkeys(row.system for row in rows))
+    ways, systems = loads_of(rows), list(dict.fromkeys(row.system for row in rows))
     rates = [[system, *(ranged(figure(rows, system=system, load=way, measure=CLIENTS_RATE), 1e3) for way in ways)] for system in systems]
     waits = [[system, *(" / ".join(two(value(rows, system=system, load=way, measure=measure)) for measure in CLIENT_WAITS) for way in ways)]
              for system in systems]
