@@ -5,7 +5,7 @@ from pathlib import Path
 from typing import Collection, Iterable, Iterator, NamedTuple
 
 sys.path.append(str(Path(__file__).resolve().parents[1] / "examples"))
-from svg import GREY, GRID, INK, line, text
+from svg import GREY, INK, line, text
 
 # Of a picture that a page shows.
 WIDTH = 600
