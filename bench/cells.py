@@ -57,15 +57,19 @@ def table(heads: list[str], rows: list[list[str]]) -> str:
     return "\n".join([first, "|" + "---|" * len(heads), *others]) + "\n"
 
 
-def values(rows: list[Figure], **wanted) -> list[Figure]:
+def values(rows: list[Figure], **wanted: str | int) -> list[Figure]:
     return [row for row in rows if all(getattr(row, name) == value for name, value in wanted.items())]
 
 
-def figure(rows: list[Figure], **wanted) -> Figure | None:
+def loads_of(rows: Iterable[Figure]) -> list[str]:
+    return list(dict.fromkeys(row.load for row in rows))
+
+
+def figure(rows: list[Figure], **wanted: str | int) -> Figure | None:
     return next(iter(values(rows, **wanted)), None)
 
 
-def value(rows: list[Figure], **wanted) -> float | None:
+def value(rows: list[Figure], **wanted: str | int) -> float | None:
     found = figure(rows, **wanted)
     return found.value if found else None
 

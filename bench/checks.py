@@ -19,12 +19,14 @@ BIDS, WORKERS = 40_000, 4
 
 def same(name: str, wanted: str, got: str) -> None:
     if wanted != got:
-        at = next((place for place, pair in enumerate(zip(wanted, got)) if pair[0] != pair[1]), min(len(wanted), len(got)))
+        differ = (place for place, (one, other) in enumerate(zip(wanted, got)) if one != other)
+        at = next(differ, min(len(wanted), len(got)))
         sys.exit(f"{name} does other work: {wanted[max(0, at - 60):at + 60]!r} and {got[max(0, at - 60):at + 60]!r}")
 
 
 def same_replies(systems: measures.Systems) -> None:
-    """With one worker each system gives the same replies, byte for byte; with two, PostgreSQL ends with the same views."""
+    """With one worker each system gives the same replies, byte for byte; with two, PostgreSQL ends with the same
+    views."""
     path = systems.load(MIXED, 1, REQUESTS)
     never, split = measures.Policy(hot=0), measures.Policy(quotas=(100, 300))
     for policy, modes in ((never, ("serial", "lock", "shards", "phases", measures.ONE_PASS)), (split, ("phases",))):
@@ -51,7 +53,8 @@ def same_bids(systems: measures.Systems) -> None:
     path = systems.load(measures.UNIFORM, WORKERS, BIDS)
     wanted = programs.output_of(systems.command("program", measures.Policy(), WORKERS), path)
     for mode in filter(systems.has, ("serial", "lock", "shards", "phases")):
-        same(f"{mode}, {WORKERS} workers", wanted, programs.output_of(systems.command(mode, measures.Policy(), WORKERS), path))
+        words = systems.command(mode, measures.Policy(), WORKERS)
+        same(f"{mode}, {WORKERS} workers", wanted, programs.output_of(words, path))
 
 
 def same_end(systems: measures.Systems) -> None:
@@ -61,4 +64,5 @@ def same_end(systems: measures.Systems) -> None:
     rows, scripts = loads.read_load(path, 2)
     systems.server.open(rows, scripts, measures.USERS, measures.CATEGORIES)
     systems.server.clients(2, REQUESTS // 2, 0)
-    same("PostgreSQL at its end", "".join(line for line in shown if line.startswith(("category ", "user "))), systems.server.closing())
+    views = "".join(line for line in shown if line.startswith(("category ", "user ")))
+    same("PostgreSQL at its end", views, systems.server.closing())

@@ -1,4 +1,5 @@
-"""Many clients of a server, for bench/run: bids on one item that redis-benchmark sends to examples/front.py over the program, and to Redis."""
+"""Many clients of a server, for bench/run: bids on one item that redis-benchmark sends to examples/front.py over the
+program, and to Redis."""
 import csv
 import os
 import re
@@ -17,17 +18,20 @@ BENCHMARK, FRONT = "redis-benchmark", f"{ROOT}/examples/front.py"
 WORKERS = 4
 
 # The item that all bid on, as a row of a log and as a request.
-ROW, ITEM = '0,+item,0,0,"Vase",1,100000000,1,1000000\n', ("ITEM", "0", "0", "Vase", "1", "100000000", "1", "1000000")
+ROW = '0,+item,0,0,"Vase",1,100000000,1,1000000\n'
+ITEM = ("ITEM", "0", "0", "Vase", "1", "100000000", "1", "1000000")
 
 
 class Way(NamedTuple):
     """How many clients there are, how many requests of each are under way, and how many are sent in all."""
+
     clients: int
     pipeline: int
     requests: int
 
-    def name(self):
-        return f"{self.clients} client{'s' * (self.clients > 1)}" + f", pipelines of {self.pipeline}" * (self.pipeline > 1)
+    def name(self) -> str:
+        pipelines = f", pipelines of {self.pipeline}" * (self.pipeline > 1)
+        return f"{self.clients} client{'s' * (self.clients > 1)}{pipelines}"
 
 
 WAYS = (Way(1, 1, 10_000), Way(16, 1, 50_000), Way(100, 1, 60_000), Way(100, 16, 200_000))
@@ -35,34 +39,38 @@ WAYS = (Way(1, 1, 10_000), Way(16, 1, 50_000), Way(100, 1, 60_000), Way(100, 16,
 
 class Found(NamedTuple):
     """What redis-benchmark tells: requests a second, and milliseconds until a reply."""
+
     rate: float
     median: float
     late: float
 
 
-def are_there():
+def are_there() -> bool:
     return redis_server.is_there() and shutil.which(BENCHMARK) is not None
 
 
-def load(server, way):
+def load(server: "Front | Redis", way: Way) -> Found:
     """One load of a server: each client waits for its replies before it sends more."""
-    words = [BENCHMARK, "-p", server.port, "-c", way.clients, "-P", way.pipeline, "-n", way.requests, "--csv", *server.bid]
-    said = subprocess.run([str(word) for word in words], capture_output=True, text=True, check=True).stdout
+    numbers = {"-p": server.port, "-c": way.clients, "-P": way.pipeline, "-n": way.requests}
+    words = [str(word) for pair in numbers.items() for word in pair]
+    command = [BENCHMARK, *words, "--csv", *server.bid]
+    said = subprocess.run(command, capture_output=True, text=True, check=True).stdout
     told = next(csv.DictReader(line for line in said.splitlines() if line.startswith('"')))
     return Found(*(float(told[name]) for name in ("rps", "p50_latency_ms", "p99_latency_ms")))
 
 
 class Front:
-    """examples/front.py over the program, with the item, as long as a `with` over it. Its log, if it has one, is synced before each reply."""
+    """examples/front.py over the program, with the item, as long as a `with` over it. Its log, if it has one, is synced
+    before each reply."""
 
     bid = ("BID", "1", "0.0", "500", "5")
 
-    def __init__(self, program, folder, is_logged):
+    def __init__(self, program: str, folder: str, is_logged: bool):
         self.log = f"{folder}/front.log" if is_logged else None
-        words = ["--port", "0", "--workers", str(WORKERS), *(["--log", self.log] if is_logged else [])]
+        words = ["--port", "0", "--workers", str(WORKERS), *(["--log", self.log] if self.log else [])]
         self.words = [sys.executable, "-B", FRONT, *words, program, "--fast"]
 
-    def __enter__(self):
+    def __enter__(self) -> "Front":
         if self.log:
             write_row(self.log)
         self.process = subprocess.Popen(self.words, stderr=subprocess.PIPE, text=True)
@@ -71,13 +79,13 @@ class Front:
             self.put_up_the_item()
         return self
 
-    def put_up_the_item(self):
+    def put_up_the_item(self) -> None:
         with socket.create_connection(("127.0.0.1", self.port)) as client:
             client.sendall(redis_server.packed(*ITEM))
             if not client.recv(100).startswith(b"+item 0.0"):
                 raise SystemExit(f"{FRONT}: no item")
 
-    def __exit__(self, *_):
+    def __exit__(self, *_: object) -> None:
         self.process.terminate()
         self.process.communicate()
         if self.log:
@@ -87,11 +95,11 @@ class Front:
 class Redis(redis_server.Server):
     """Redis with the item, as long as a `with` over it; a bid is a call of its script."""
 
-    def __init__(self, _, folder, is_logged):
+    def __init__(self, _: str, folder: str, is_logged: bool):
         super().__init__(is_logged)
         self.row = f"{folder}/row"
 
-    def __enter__(self):
+    def __enter__(self) -> "Redis":
         super().__enter__()
         write_row(self.row)
         self.open(loads.read_load(self.row, 1)[0])
@@ -100,6 +108,6 @@ class Redis(redis_server.Server):
         return self
 
 
-def write_row(path):
+def write_row(path: str) -> None:
     with open(path, "w") as text:
         text.write(ROW)

@@ -13,8 +13,8 @@ import loads
 import postgres
 import redis_server
 import serving
-from measures import (BIDDING, CATEGORIES, FEW_TRIES, LARGE, MOST_SHARDS, ONE_ITEM, ONE_PASS, PROGRAM, SERVING, SMALL, UNIFORM, USERS, VIEWED, Load, Policy,
-                      Systems, Tries)
+from measures import BIDDING, CATEGORIES, ONE_ITEM, ONE_PASS, PROGRAM, UNIFORM, USERS, VIEWED, Load
+from measures import FEW_TRIES, LARGE, MOST_SHARDS, SERVING, SMALL, Policy, Systems, Tries
 from programs import in_seconds, say
 
 AUCTION, UNSPLIT = "Fundreivo", "Fundreivo, without splitting"
@@ -28,7 +28,15 @@ SYSTEMS = (AUCTION, UNSPLIT, PHASES, SHARDS, LOCK, ALONE, IN_C, SQLITE, POSTGRES
 DATABASES = (SQLITE, POSTGRES)
 
 # What a system that is not a database is called on a command line.
-MODES = {AUCTION: PROGRAM, UNSPLIT: PROGRAM, PHASES: "phases", SHARDS: "shards", LOCK: "lock", ALONE: "serial", IN_C: ONE_PASS}
+MODES = {
+    AUCTION: PROGRAM,
+    UNSPLIT: PROGRAM,
+    PHASES: "phases",
+    SHARDS: "shards",
+    LOCK: "lock",
+    ALONE: "serial",
+    IN_C: ONE_PASS,
+}
 
 # Of a whole command, from its start to its end, and of executing, from the last bytes of the input to the end.
 WHOLE_RATE, EXECUTING = "requests a second, whole command", "requests a second, executing"
@@ -38,12 +46,22 @@ SECONDS, MEMORY = "seconds, whole command", "megabytes at most"
 RUN, PUBLISHING, VIEW = "seconds of a run", "seconds of publishing", "nanoseconds a view"
 DELAY, LATEST = "requests until a deferred reply, median", "requests until a deferred reply, 99th percentile"
 # Of replies while requests come, with a log that is synced and without: systems, and what is measured.
-AT_ONCE, REDIS, REDIS_LOGGED, POSTGRES_LOGGED = "all read first", "Redis, no log", "Redis, log synced", "PostgreSQL, log synced"
-WAITS = {"microseconds until a reply, median": 0.5, "microseconds until a reply, 99th percentile": 0.99, "microseconds until a reply, 99.9th percentile": 0.999}
+AT_ONCE, REDIS, REDIS_LOGGED = "all read first", "Redis, no log", "Redis, log synced"
+POSTGRES_LOGGED = "PostgreSQL, log synced"
+WAITS = {
+    "microseconds until a reply, median": 0.5,
+    "microseconds until a reply, 99th percentile": 0.99,
+    "microseconds until a reply, 99.9th percentile": 0.999,
+}
 OPENING = "seconds to open a log"
 # Of many clients of a server.
 FRONT, FRONT_LOGGED = "examples/front.py, no log", "examples/front.py, log synced"
-SERVERS = {FRONT: (clients.Front, False), REDIS: (clients.Redis, False), FRONT_LOGGED: (clients.Front, True), REDIS_LOGGED: (clients.Redis, True)}
+SERVERS = {
+    FRONT: (clients.Front, False),
+    REDIS: (clients.Redis, False),
+    FRONT_LOGGED: (clients.Front, True),
+    REDIS_LOGGED: (clients.Redis, True),
+}
 CLIENTS_RATE = "requests a second"
 CLIENT_WAITS = ("milliseconds until a reply, median", "milliseconds until a reply, 99th percentile")
 
@@ -57,7 +75,12 @@ SCRIPTS, SCRIPT_SIZE, HISTORY_SIZE = "seconds for the scripts alone", "megabytes
 REQUESTS = "requests"
 
 # What a request's instructions are for.
-INSTRUCTIONS = ("reading", "of it the kit's reader of records", "performing", "writing replies, and memory moved or cleared")
+INSTRUCTIONS = (
+    "reading",
+    "of it the kit's reader of records",
+    "performing",
+    "writing replies, and memory moved or cleared",
+)
 
 # Of a whole command: of all threads, and of the one that has most.
 ALL_THREADS, LONGEST_THREAD = "instructions", "instructions of the longest thread"
@@ -90,6 +113,7 @@ KINDS = {"table": str, "load": str, "system": str, "measure": str, "value": floa
 
 class Setup(NamedTuple):
     """What is measured: a system with its options at a load."""
+
     system: str
     load: Load
     workers: int
@@ -98,15 +122,20 @@ class Setup(NamedTuple):
 
     def key(self) -> tuple[str, Load, int, int, Policy]:
         """What it is, by whatever name a table calls it."""
-        return MODES.get(self.system, self.system), self.load._replace(name=""), self.workers, self.requests, self.policy.of_workers(self.workers)
+        mode, policy = MODES.get(self.system, self.system), self.policy.of_workers(self.workers)
+        return mode, self.load._replace(name=""), self.workers, self.requests, policy
 
     def ways(self) -> list["Setup"]:
-        """What is tried, of which the fastest counts: locks of as many shards as the auction's, and of as many as it may have."""
-        return [self, self._replace(policy=self.policy._replace(shards=MOST_SHARDS))] if self.system == SHARDS else [self]
+        """What is tried, of which the fastest counts: locks of as many shards as the auction's, and of as many as it
+        may have."""
+        if self.system != SHARDS:
+            return [self]
+        return [self, self._replace(policy=self.policy._replace(shards=MOST_SHARDS))]
 
 
 class Wanted(NamedTuple):
     """A figure of a table."""
+
     table: str
     setup: Setup
     measure: str
@@ -134,49 +163,73 @@ def one_and_all(asked: Namespace) -> list[int]:
 
 
 def by_workers(asked: Namespace) -> list[Wanted]:
-    return [Wanted("workers", Setup(system, load, workers, asked.requests, policy_of(system)), measure)
-            for load in LOADS for system in SYSTEMS if system not in DATABASES
-            for workers in worker_counts(asked, system) for measure in (WHOLE_RATE, MEMORY)]
+    return [
+        Wanted("workers", Setup(system, load, workers, asked.requests, policy_of(system)), measure)
+        for load in LOADS
+        for system in SYSTEMS
+        if system not in DATABASES
+        for workers in worker_counts(asked, system)
+        for measure in (WHOLE_RATE, MEMORY)
+    ]
 
 
 def executing(asked: Namespace) -> list[Wanted]:
     """C, in one pass, executes each request as it is read."""
-    return [Wanted("executing", Setup(system, load, workers, asked.requests, policy_of(system)), EXECUTING)
-            for load in LOADS for system in SYSTEMS if system not in (LOCK, IN_C)
-            for workers in (one_and_all(asked) if system == AUCTION else [asked.workers])]
+    return [
+        Wanted("executing", Setup(system, load, workers, asked.requests, policy_of(system)), EXECUTING)
+        for load in LOADS
+        for system in SYSTEMS
+        if system not in (LOCK, IN_C)
+        for workers in (one_and_all(asked) if system == AUCTION else [asked.workers])
+    ]
 
 
 def of_processors(asked: Namespace) -> list[Wanted]:
-    return [Wanted("work", Setup(system, load, workers, asked.requests), measure)
-            for load, system, workers in ways_counted(asked) for measure in (PROCESSORS, FAULTS)]
+    return [
+        Wanted("work", Setup(system, load, workers, asked.requests), measure)
+        for load, system, workers in ways_counted(asked)
+        for measure in (PROCESSORS, FAULTS)
+    ]
 
 
 def ways_counted(asked: Namespace) -> list[tuple[Load, str, int]]:
     """What has its counts: with one worker all, with more what executes on as many threads."""
     counts = sorted({1, asked.workers} | (set() if asked.fast else {8}))
-    return [(load, system, workers) for load in ((ONE_ITEM,) if asked.fast else LOADS) for workers in counts
-            for system in (AUCTION, PHASES, ALONE, IN_C) if workers == 1 or system == AUCTION or system == PHASES and workers == asked.workers]
+    return [
+        (load, system, workers)
+        for load in ((ONE_ITEM,) if asked.fast else LOADS)
+        for workers in counts
+        for system in (AUCTION, PHASES, ALONE, IN_C)
+        if workers == 1 or system == AUCTION or system == PHASES and workers == asked.workers
+    ]
 
 
 def skewed(asked: Namespace) -> list[Load]:
     """From all items alike to one item."""
     exponents = (0, 100) if asked.fast else (0, 50, 100, 150, 200)
-    return [UNIFORM._replace(name=f"bids on 10,000 items, exponent {skew / 100}", skew=skew) for skew in exponents] + [ONE_ITEM]
+    loads = [UNIFORM._replace(name=f"bids on 10,000 items, exponent {skew / 100}", skew=skew) for skew in exponents]
+    return [*loads, ONE_ITEM]
 
 
 def by_skew(asked: Namespace) -> list[Wanted]:
-    return [Wanted("skew", Setup(system, load, asked.workers, asked.requests, policy_of(system)), WHOLE_RATE)
-            for load in skewed(asked) for system in (AUCTION, UNSPLIT, PHASES, SHARDS, ALONE)]
+    return [
+        Wanted("skew", Setup(system, load, asked.workers, asked.requests, policy_of(system)), WHOLE_RATE)
+        for load in skewed(asked)
+        for system in (AUCTION, UNSPLIT, PHASES, SHARDS, ALONE)
+    ]
 
 
-def of_policy(asked: Namespace, table: str, load: Load, policy: Policy, measure: str, workers: int | None = None) -> Wanted:
+def of_policy(
+    asked: Namespace, table: str, load: Load, policy: Policy, measure: str, workers: int | None = None
+) -> Wanted:
     return Wanted(table, Setup(AUCTION, load, workers or asked.workers, asked.requests, policy), measure)
 
 
 def by_quotas(asked: Namespace) -> list[Wanted]:
     """Of one worker too, and with the program's own quotas without splitting."""
     quotas = (SMALL, LARGE) if asked.fast else (SMALL, (64, 256), (64, 1024), LARGE, (64, 16384), (1024, 4096))
-    ways = [(Policy(pair), workers) for pair in quotas for workers in one_and_all(asked)] + [(Policy(SMALL, 0), asked.workers)]
+    ways = [(Policy(pair), workers) for pair in quotas for workers in one_and_all(asked)]
+    ways.append((Policy(SMALL, 0), asked.workers))
     return [of_policy(asked, "quotas", load, policy, WHOLE_RATE, workers) for load in LOADS for policy, workers in ways]
 
 
@@ -197,13 +250,25 @@ def request_counts(asked: Namespace, load: Load, workers: int, quarters: tuple[i
 
 
 def by_requests(asked: Namespace) -> list[Wanted]:
-    return [Wanted("memory", Setup(system, load, asked.workers, requests), MEMORY) for load in (UNIFORM, BIDDING)
-            for requests in request_counts(asked, load, asked.workers, (1, 4) if asked.fast else (1, 2, 4, 6, 8)) for system in (AUCTION, PHASES)]
+    return [
+        Wanted("memory", Setup(system, load, asked.workers, requests), MEMORY)
+        for load in (UNIFORM, BIDDING)
+        for requests in request_counts(asked, load, asked.workers, (1, 4) if asked.fast else (1, 2, 4, 6, 8))
+        for system in (AUCTION, PHASES)
+    ]
 
 
 # What the tables want whose figures are measured together: each setup once, in turns with all others.
-TOGETHER = {"workers": by_workers, "executing": executing, "work": of_processors, "skew": by_skew, "quotas": by_quotas, "delay": by_delay,
-            "shards": by_shards, "memory": by_requests}
+TOGETHER = {
+    "workers": by_workers,
+    "executing": executing,
+    "work": of_processors,
+    "skew": by_skew,
+    "quotas": by_quotas,
+    "delay": by_delay,
+    "shards": by_shards,
+    "memory": by_requests,
+}
 
 
 def measured(systems: Systems, way: str, key: tuple) -> dict[str, float]:
@@ -214,8 +279,13 @@ def measured(systems: Systems, way: str, key: tuple) -> dict[str, float]:
         return {REQUESTS: done, EXECUTING: done / seconds}
     use = systems.whole(mode, load, workers, requests, policy)
     each = max(1, requests)
-    return {REQUESTS: requests, WHOLE_RATE: requests / use.seconds, MEMORY: use.megabytes, PROCESSORS: (use.user + use.system) * 1e9 / each,
-            FAULTS: use.faults * 1e3 / each}
+    return {
+        REQUESTS: requests,
+        WHOLE_RATE: requests / use.seconds,
+        MEMORY: use.megabytes,
+        PROCESSORS: (use.user + use.system) * 1e9 / each,
+        FAULTS: use.faults * 1e3 / each,
+    }
 
 
 def executed(systems: Systems, mode: str, load: Load, workers: int, requests: int, policy: Policy) -> tuple[int, float]:
@@ -235,9 +305,10 @@ def is_there(systems: Systems, setup: Setup) -> bool:
 
 
 def in_turns(systems: Systems, wanted: list[Wanted]) -> dict[tuple, list[dict[str, float]]]:
-    """Of each way and setup that is wanted its tries: each has its first before any has its second. After a few tries there is another turn
-    only if there is time for it; an interrupt ends the turns, and those that are done count."""
-    asked, own = systems.asked, sorted({(one.way(), setup.key()) for one in wanted for setup in one.setup.ways()}, key=str)
+    """Of each way and setup that is wanted its tries: each has its first before any has its second. After a few tries
+    there is another turn only if there is time for it; an interrupt ends the turns, and those that are done count."""
+    asked = systems.asked
+    own = sorted({(one.way(), setup.key()) for one in wanted for setup in one.setup.ways()}, key=str)
     told = {one: [] for one in own}
     for turn in range(asked.tries if own else 0):
         begun = time.monotonic()
@@ -268,11 +339,22 @@ def figure_of(one: Wanted, told: dict[tuple, list[dict[str, float]]]) -> Figure:
     return row_of(one.table, setup.load, setup.policy, one.measure, found, setup.workers, requests, setup.system)
 
 
-def row_of(table: str, load: Load, policy: Policy, measure: str, found: Tries | float, workers: int, requests: int, system: str = AUCTION) -> Figure:
+def row_of(
+    table: str,
+    load: Load,
+    policy: Policy,
+    measure: str,
+    found: Tries | float,
+    workers: int,
+    requests: int,
+    system: str = AUCTION,
+) -> Figure:
     """A row of figures.csv; what was measured once has no spread."""
     found = found if isinstance(found, Tries) else Tries(found, found, found)
     quotas, hot, threshold, shards = policy.of_workers(workers)
-    return Figure(table, load.name, system, workers, load.skew, *quotas, hot, threshold, shards, requests, measure, *found)
+    return Figure(
+        table, load.name, system, workers, load.skew, *quotas, hot, threshold, shards, requests, measure, *found
+    )
 
 
 def together(systems: Systems, asked: Namespace, names: list[str]) -> list[Figure]:
@@ -288,7 +370,8 @@ def late_replies(systems: Systems, asked: Namespace) -> Iterator[Figure]:
     for setup in (one.setup for one in by_delay(asked)):
         found = sorted(systems.delays(setup.load, setup.workers, setup.requests, setup.policy))
         for measure, part in ((DELAY, 0.5), (LATEST, 0.99)) if found else ():
-            yield row_of("delay", setup.load, setup.policy, measure, found[int(part * (len(found) - 1))], setup.workers, setup.requests)
+            wait = serving.part(found, part)
+            yield row_of("delay", setup.load, setup.policy, measure, wait, setup.workers, setup.requests)
 
 
 def checking(systems: Systems, asked: Namespace) -> Iterator[Figure]:
@@ -312,8 +395,12 @@ def by_instructions(systems: Systems, asked: Namespace) -> Iterator[Figure]:
     if not instructions.is_there():
         return
     requests = few_requests(asked)
-    ways = [(load, system, policy_of(system)) for load in ((ONE_ITEM,) if asked.fast else LOADS)
-            for system in (AUCTION, UNSPLIT) if system == AUCTION or load == ONE_ITEM]
+    ways = [
+        (load, system, policy_of(system))
+        for load in ((ONE_ITEM,) if asked.fast else LOADS)
+        for system in (AUCTION, UNSPLIT)
+        if system == AUCTION or load == ONE_ITEM
+    ]
     make_loads(systems, {(load, 1) for load, *_ in ways}, requests)
     counts = at_once(ways, lambda load, system, policy: systems.instructions(load, requests, policy))
     for (load, system, policy), found in zip(ways, counts):
@@ -373,9 +460,12 @@ def live_words(most: int, is_logged: bool) -> str:
 
 
 def live(systems: Systems, asked: Namespace) -> Iterator[Figure]:
-    """Replies while requests come: of one worker, by the most requests of a part, with a log and without, beside Redis and PostgreSQL."""
+    """Replies while requests come: of one worker, by the most requests of a part, with a log and without, beside Redis
+    and PostgreSQL."""
     words, path = systems.command("program", Policy(SERVING), 1), systems.load(VIEWED, 1, asked.requests)
-    yield live_row(AT_ONCE, WHOLE_RATE, rate_of(systems, path, lambda: serving.whole(words, path, None).seconds), asked.requests)
+    yield live_row(
+        AT_ONCE, WHOLE_RATE, rate_of(systems, path, lambda: serving.whole(words, path, None).seconds), asked.requests
+    )
     for is_logged in (False, True):
         for most in (1, 1000) if asked.fast else MOST_OF_PARTS:
             yield from live_program(systems, asked, words, most, is_logged)
@@ -387,7 +477,8 @@ def live(systems: Systems, asked: Namespace) -> Iterator[Figure]:
 
 def live_program(systems: Systems, asked: Namespace, words: list[str], most: int, is_logged: bool) -> Iterator[Figure]:
     """One request at a time, and many at once."""
-    name, words, log = live_words(most, is_logged), [*words, f"--live={most}"], f"{systems.folder}/log" if is_logged else None
+    name, words = live_words(most, is_logged), [*words, f"--live={most}"]
+    log = f"{systems.folder}/log" if is_logged else None
     say(f"{VIEWED.name}, one worker, {name}")
     yield from wait_rows(name, serving.session(words, systems.load(VIEWED, 1, session_requests(asked, is_logged)), log))
     count = min(asked.requests, (PARTS_LOGGED if is_logged else PARTS_UNLOGGED) * most)
@@ -435,7 +526,9 @@ def live_redis(systems: Systems, asked: Namespace) -> Iterator[Figure]:
         say(f"{VIEWED.name}, {system}")
         few = systems.load(VIEWED, 1, session_requests(asked, is_logged))
         yield from wait_rows(system, serving.redis_session(is_logged, few))
-        yield live_row(system, WHOLE_RATE, rate_of(systems, path, lambda: serving.redis_whole(is_logged, path)), systems.few())
+        yield live_row(
+            system, WHOLE_RATE, rate_of(systems, path, lambda: serving.redis_whole(is_logged, path)), systems.few()
+        )
 
 
 def live_postgres(systems: Systems, asked: Namespace) -> Iterator[Figure]:
@@ -459,14 +552,18 @@ def many_clients(systems: Systems, asked: Namespace) -> Iterator[Figure]:
     for way in clients.WAYS:
         way = way._replace(requests=way.requests // 10) if asked.fast else way
         say(f"{ONE_ITEM.name}, {way.name()}")
-        tries = [{system: served(systems, way, *server) for system, server in SERVERS.items()} for _ in range(systems.few_tries())]
+        tries = [
+            {system: served(systems, way, *server) for system, server in SERVERS.items()}
+            for _ in range(systems.few_tries())
+        ]
         for system in SERVERS:
             (done, *_), found = zip(*(told[system] for told in tries))
             yield from (client_row(done, system, *one) for one in zip((CLIENTS_RATE, *CLIENT_WAITS), zip(*found)))
 
 
 def served(systems: Systems, way: clients.Way, made: Callable, is_logged: bool) -> tuple[clients.Way, clients.Found]:
-    """What one new server makes of a load, which is shorter if each request waits for the disk; and which load that was."""
+    """What one new server makes of a load, which is shorter if each request waits for the disk; and which load that
+    was."""
     few = way._replace(requests=way.requests // 4) if is_logged and way.clients == 1 else way
     with made(systems.built["program"], systems.folder, is_logged) as server:
         return few, clients.load(server, few)
@@ -474,12 +571,28 @@ def served(systems: Systems, way: clients.Way, made: Callable, is_logged: bool) 
 
 def client_row(way: clients.Way, system: str, measure: str, found: Iterable[float]) -> Figure:
     policy = Policy().of_workers(clients.WORKERS)
-    return row_of("clients", ONE_ITEM._replace(name=way.name()), policy, measure, Tries.of(found), way.clients, way.requests, system)
+    return row_of(
+        "clients",
+        ONE_ITEM._replace(name=way.name()),
+        policy,
+        measure,
+        Tries.of(found),
+        way.clients,
+        way.requests,
+        system,
+    )
 
 
 # What measures the figures of other tables, and of "delay" what no clock says.
-APART = {"delay": late_replies, "checking": checking, "instructions": by_instructions, "work": work_counted, "windows": windows, "live": live,
-         "clients": many_clients}
+APART = {
+    "delay": late_replies,
+    "checking": checking,
+    "instructions": by_instructions,
+    "work": work_counted,
+    "windows": windows,
+    "live": live,
+    "clients": many_clients,
+}
 
 PARTS = list(dict.fromkeys((*TOGETHER, *APART)))
 
@@ -489,4 +602,7 @@ def all_figures(systems: Systems, asked: Namespace) -> list[Figure]:
     names = asked.only or PARTS
     figures = [figure for name in names if name in APART for figure in APART[name](systems, asked)]
     figures += together(systems, asked, [name for name in names if name in TOGETHER])
-    return [figure._replace(**{name: float(f"{getattr(figure, name):.6g}") for name in ("value", "low", "high")}) for figure in figures]
+    return [
+        figure._replace(**{name: float(f"{getattr(figure, name):.6g}") for name in ("value", "low", "high")})
+        for figure in figures
+    ]

@@ -1,4 +1,5 @@
-"""How many instructions a request takes, and in which part of the program: counted by valgrind's callgrind, by crates of functions."""
+"""How many instructions a request takes, and in which part of the program: counted by valgrind's callgrind, by crates
+of functions."""
 import collections
 import glob
 import re
@@ -42,7 +43,8 @@ def counted(words: list[str], path: str, folder: str) -> collections.Counter[str
 def files_of_counts(words: list[str], path: str, folder: str, *options: str) -> list[str]:
     """The file that callgrind writes of a command over a file, or those of its threads."""
     with open(path, "rb") as given:
-        ran = subprocess.run([*VALGRIND, *options, f"--callgrind-out-file={folder}/counts", *words], stdin=given, capture_output=True, text=True)
+        command = [*VALGRIND, *options, f"--callgrind-out-file={folder}/counts", *words]
+        ran = subprocess.run(command, stdin=given, capture_output=True, text=True)
     found = sorted(glob.glob(f"{folder}/counts-*")) or glob.glob(f"{folder}/counts")
     return found or sys.exit(f"{' '.join(words)}: valgrind counts nothing, status {ran.returncode}\n{ran.stderr}")
 
@@ -62,7 +64,8 @@ def by_crates(told: str) -> collections.Counter[str]:
 
 
 def by_threads(words: list[str], path: str, folder: str) -> tuple[int, int]:
-    """The instructions of a command over a file, of all threads and of the longest; threads that follow each other may have one file, and count as one."""
+    """The instructions of a command over a file, of all threads and of the longest; threads that follow each other may
+    have one file, and count as one."""
     with tempfile.TemporaryDirectory(dir=folder) as own:
         counts = [total_of(one) for one in files_of_counts(words, path, own, "--separate-threads=yes")]
     return sum(counts), max(counts)
@@ -83,7 +86,8 @@ def with_bad_record(path: str, folder: str) -> str:
 
 
 def by_parts(words: list[str], path: str, engine: set[str], folder: str) -> tuple[int, int, int, int]:
-    """Of a command over a load: the instructions of reading, of these the reader's of records, of performing, and all others."""
+    """Of a command over a load: the instructions of reading, of these the reader's of records, of performing, and all
+    others."""
     whole = counted(words, path, folder)
     with tempfile.TemporaryDirectory(dir=folder) as own:
         reading = counted(words, with_bad_record(path, own), own)

@@ -1,6 +1,9 @@
-"""The auction in SQLite in memory, for bench/run alone: one connection, statements prepared once, a transaction for each
-request. Nothing is durable, and a transaction that fails is rolled back."""
+"""The auction in SQLite in memory, for bench/run alone: one connection, statements prepared once, a transaction for
+each request. Nothing is durable, and a transaction that fails is rolled back."""
 import time
+from typing import Any
+
+from loads import Record, Script
 
 try:
     import sqlite3
@@ -12,8 +15,8 @@ CREATE TABLE users (id INTEGER PRIMARY KEY, rating INTEGER NOT NULL, comments IN
 CREATE TABLE categories (id INTEGER PRIMARY KEY);
 CREATE TABLE items (
     worker INTEGER, serial INTEGER, seller INTEGER NOT NULL, category INTEGER NOT NULL, name TEXT NOT NULL,
-    start INTEGER NOT NULL, closes INTEGER NOT NULL, time INTEGER NOT NULL, remaining INTEGER NOT NULL, bids INTEGER NOT NULL,
-    PRIMARY KEY (worker, serial)) WITHOUT ROWID;
+    start INTEGER NOT NULL, closes INTEGER NOT NULL, time INTEGER NOT NULL, remaining INTEGER NOT NULL,
+    bids INTEGER NOT NULL, PRIMARY KEY (worker, serial)) WITHOUT ROWID;
 CREATE INDEX latest ON items (category, time DESC, worker DESC, serial DESC);
 CREATE TABLE bids (
     worker INTEGER, serial INTEGER, bidder INTEGER NOT NULL, item_worker INTEGER NOT NULL, item_serial INTEGER NOT NULL,
@@ -52,25 +55,37 @@ VIEW_USER = "SELECT rating, comments FROM users WHERE id = ?"
 EMPTY = "SELECT 1"
 
 
+# The kind of a reply, and its values.
+Reply = tuple[Any, ...]
+
+
 class Refused(Exception):
     """A request is refused; the transaction is rolled back."""
 
 
 class Auction:
-    def __init__(self, users, categories):
+    def __init__(self, users: int, categories: int):
         self.database = sqlite3.connect(":memory:", isolation_level=None, cached_statements=100)
         self.database.executescript(SCHEMA)
         self.run = self.database.execute
         self.run("BEGIN")
         self.database.executemany("INSERT INTO users VALUES (?, 0, 0)", ((user,) for user in range(users)))
-        self.database.executemany("INSERT INTO categories VALUES (?)", ((number,) for number in range(categories)))
+        numbers = ((number,) for number in range(categories))
+        self.database.executemany("INSERT INTO categories VALUES (?)", numbers)
         self.run("COMMIT")
-        self.serials = {}
-        self.acts = {"item": self.item, "bid": self.bid, "comment": self.comment, "buynow": self.buy,
-                     "viewitem": self.view_item, "viewbids": self.view_bids, "viewcategory": self.view_category,
-                     "viewuser": self.view_user}
+        self.serials: dict[tuple[str, int], int] = {}
+        self.acts = {
+            "item": self.item,
+            "bid": self.bid,
+            "comment": self.comment,
+            "buynow": self.buy,
+            "viewitem": self.view_item,
+            "viewbids": self.view_bids,
+            "viewcategory": self.view_category,
+            "viewuser": self.view_user,
+        }
 
-    def act(self, request):
+    def act(self, request: Record) -> Reply:
         """What a request does: its reply as values, which `text_of` makes a text of."""
         try:
             return self.acts[request.kind](request)
@@ -78,16 +93,16 @@ class Auction:
             self.run("ROLLBACK")
             return ("refused", str(refusal))
 
-    def serial(self, kind, worker):
+    def serial(self, kind: str, worker: int) -> int:
         serial = self.serials.get((kind, worker), 0)
         self.serials[kind, worker] = serial + 1
         return serial
 
-    def known(self, statement, number, refusal):
+    def known(self, statement: str, number: int | None, refusal: str) -> None:
         if self.run(statement, (number,)).fetchone() is None:
             raise Refused(refusal)
 
-    def item(self, r):
+    def item(self, r: Record) -> Reply:
         self.run("BEGIN")
         self.known(USER, r.who, "1 NoSuchUser")
         self.known(CATEGORY, r.other, "2 NoSuchCategory")
@@ -96,7 +111,7 @@ class Auction:
         self.run("COMMIT")
         return ("item", r.worker, serial)
 
-    def bid(self, r):
+    def bid(self, r: Record) -> Reply:
         self.run("BEGIN")
         self.known(USER, r.who, "1 NoSuchUser")
         if self.run(BID_COUNTED, (r.item_worker, r.item_serial, r.amount, r.time)).rowcount == 0:
@@ -106,7 +121,7 @@ class Auction:
         self.run("COMMIT")
         return ("bid", r.worker, serial)
 
-    def bid_refusal(self, r):
+    def bid_refusal(self, r: Record) -> str:
         found = self.run(ITEM, (r.item_worker, r.item_serial)).fetchone()
         if found is None:
             return "3 NoSuchItem"
@@ -114,7 +129,7 @@ class Auction:
             return "4 BelowStart"
         return "5 Closed" if r.time >= found[1] else "6 SoldOut"
 
-    def comment(self, r):
+    def comment(self, r: Record) -> Reply:
         self.run("BEGIN")
         self.known(USER, r.who, "1 NoSuchUser")
         self.known(USER, r.other, "1 NoSuchUser")
@@ -126,7 +141,7 @@ class Auction:
         self.run("COMMIT")
         return ("comment", r.worker, serial)
 
-    def buy(self, r):
+    def buy(self, r: Record) -> Reply:
         self.run("BEGIN")
         self.known(USER, r.who, "1 NoSuchUser")
         if self.run(TAKEN, (r.number, r.item_worker, r.item_serial, r.time, r.number)).rowcount == 0:
@@ -139,11 +154,11 @@ class Auction:
 
     # A view of one statement is a transaction; the others begin one.
 
-    def view_item(self, r):
+    def view_item(self, r: Record) -> Reply:
         found = self.run(VIEW_ITEM, (r.item_worker, r.item_serial)).fetchone()
         return ("refused", "3 NoSuchItem") if found is None else ("viewitem", found)
 
-    def view_bids(self, r):
+    def view_bids(self, r: Record) -> Reply:
         self.run("BEGIN")
         if self.run(ITEM, (r.item_worker, r.item_serial)).fetchone() is None:
             raise Refused("3 NoSuchItem")
@@ -151,19 +166,19 @@ class Auction:
         self.run("COMMIT")
         return ("bids", found)
 
-    def view_category(self, r):
+    def view_category(self, r: Record) -> Reply:
         self.run("BEGIN")
         self.known(CATEGORY, r.who, "2 NoSuchCategory")
         found = self.run(VIEW_CATEGORY, (r.who,)).fetchall()
         self.run("COMMIT")
         return ("latest", found)
 
-    def view_user(self, r):
+    def view_user(self, r: Record) -> Reply:
         found = self.run(VIEW_USER, (r.who,)).fetchone()
         return ("refused", "1 NoSuchUser") if found is None else ("user", found)
 
 
-def text_of(reply):
+def text_of(reply: Reply) -> str:
     """The reply as the auction writes it."""
     kind, values = reply[0], reply[1:]
     if kind == "refused":
@@ -181,22 +196,22 @@ def text_of(reply):
     return "{} {}.{}".format(kind, *values)
 
 
-def perform(rows, scripts, users, categories):
-    """Stores the rows, then performs the scripts, 64 requests of each worker in turn. Gives each worker's replies and the
-    nanoseconds of the scripts."""
+def perform(rows: list[Record], scripts: list[Script], users: int, categories: int) -> tuple[list[list[Reply]], int]:
+    """Stores the rows, then performs the scripts, 64 requests of each worker in turn. Gives each worker's replies and
+    the nanoseconds of the scripts."""
     auction = Auction(users, categories)
     for row in rows:
         auction.act(row)
-    act, replies = auction.act, [[] for _ in scripts]
+    act, replies = auction.act, [list[Reply]() for _ in scripts]
     longest = max((len(script) for script in scripts), default=0)
     begun = time.perf_counter_ns()
     for first in range(0, longest, 64):
         for own, script in zip(replies, scripts):
-            own.extend(map(act, script[first:first + 64]))
+            own.extend(map(act, script[first : first + 64]))
     return replies, time.perf_counter_ns() - begun
 
 
-def empty_statement():
+def empty_statement() -> float:
     """The nanoseconds of a statement that asks for nothing: what the way from Python to SQLite and back takes."""
     run, tries = sqlite3.connect(":memory:", isolation_level=None).execute, 200_000
     begun = time.perf_counter_ns()

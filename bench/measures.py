@@ -39,6 +39,7 @@ ENOUGH = 5
 
 class Tries(NamedTuple):
     """Of some tries the median and the quartiles; of a few the least and the greatest in place of these."""
+
     value: float
     low: float
     high: float
@@ -46,12 +47,15 @@ class Tries(NamedTuple):
     @staticmethod
     def of(found: Iterable[float]) -> "Tries":
         found = list(found)
-        low, middle, high = statistics.quantiles(found, method="inclusive") if len(found) >= ENOUGH else (min(found), statistics.median(found), max(found))
+        if len(found) < ENOUGH:
+            return Tries(statistics.median(found), min(found), max(found))
+        low, middle, high = statistics.quantiles(found, method="inclusive")
         return Tries(middle, low, high)
 
 
 class Load(NamedTuple):
     """What the generator is asked for, beside requests and workers."""
+
     name: str
     items: int = ITEMS
     skew: int = 0
@@ -61,8 +65,9 @@ class Load(NamedTuple):
     new_items: int = 0
 
     def words(self) -> list[str]:
-        shares = [f"--{word}={getattr(self, word.replace('-', '_'))}" for word in ("views", "comments", "purchases", "new-items")]
-        return [f"--items={self.items}", f"--skew={self.skew}", f"--users={USERS}", f"--categories={CATEGORIES}", *shares]
+        market = [f"--items={self.items}", f"--skew={self.skew}", f"--users={USERS}", f"--categories={CATEGORIES}"]
+        shares = [f"--views={self.views}", f"--comments={self.comments}", f"--purchases={self.purchases}"]
+        return [*market, *shares, f"--new-items={self.new_items}"]
 
 
 ONE_ITEM = Load("bids on one item", items=1)
@@ -73,7 +78,9 @@ BIDDING = Load("bidding mix", skew=100, views=85, comments=3, purchases=2, new_i
 
 
 class Policy(NamedTuple):
-    """Quotas, how many objects are hot at most and from how many stores on, and how many shards there are, if that is said."""
+    """Quotas, how many objects are hot at most and from how many stores on, and how many shards there are, if that is
+    said."""
+
     quotas: tuple = LARGE
     hot: int = 8
     threshold: int = 8
@@ -85,8 +92,8 @@ class Policy(NamedTuple):
 
     def words(self, workers: int) -> list[str]:
         joined, split = self.quotas
-        return [*auction_words(workers), f"--shards={self.of_workers(workers).shards}", f"--joined={joined}", f"--split={split}",
-                f"--threshold={self.threshold}", f"--hot={self.hot}"]
+        quotas = [f"--joined={joined}", f"--split={split}", f"--threshold={self.threshold}", f"--hot={self.hot}"]
+        return [*auction_words(workers), f"--shards={self.of_workers(workers).shards}", *quotas]
 
 
 def auction_words(workers: int) -> list[str]:
@@ -100,7 +107,8 @@ def split_words(words: list[str]) -> list[str]:
 
 
 class Systems:
-    """All systems, over loads that are made once. As a `with` it keeps a PostgreSQL server alive where one can be had."""
+    """All systems, over loads that are made once. As a `with` it keeps a PostgreSQL server alive where one can be
+    had."""
 
     def __init__(self, built: dict[str, str], asked: Namespace, folder: str, end: float):
         """No further try begins that would not be done by the end, a time of the clock that never goes back."""
@@ -167,46 +175,63 @@ class Systems:
     def whole(self, mode: str, load: Load, workers: int, requests: int, policy: Policy = Policy()) -> programs.Use:
         return programs.whole_of(self.command(mode, policy, workers), self.load(load, workers, requests))
 
-    def executing(self, mode: str, load: Load, workers: int, requests: int, policy: Policy = Policy()) -> tuple[int, float]:
+    def executing(
+        self, mode: str, load: Load, workers: int, requests: int, policy: Policy = Policy()
+    ) -> tuple[int, float]:
         """How many requests, and the seconds from the last bytes of the input to the end of the command."""
         return requests, programs.executing_of(self.command(mode, policy, workers), self.load(load, workers, requests))
 
     def history(self, load: Load, workers: int, requests: int, policy: Policy = Policy()) -> str:
         """The file of the history that the auction writes of a load. The one before it is overwritten."""
         path = f"{self.folder}/history"
-        programs.write_output([*self.command("program", policy, workers), "--history"], self.load(load, workers, requests), path)
+        words = [*self.command("program", policy, workers), "--history"]
+        programs.write_output(words, self.load(load, workers, requests), path)
         return path
 
     def rows(self, load: Load, workers: int, requests: int) -> bytes:
         """The rows that the auction writes of a load."""
-        return programs.output_of([*self.command("program", Policy(), workers), "--rows"], self.load(load, workers, requests)).encode()
+        words = [*self.command("program", Policy(), workers), "--rows"]
+        return programs.output_of(words, self.load(load, workers, requests)).encode()
 
     def referee_words(self, workers: int, history: str) -> list[str]:
         return [self.built["referee"], *auction_words(workers), "--order", f"--history={history}"]
 
     def check(self, load: Load, workers: int, requests: int) -> tuple[float, float, Tries, Tries, Tries]:
-        """How many megabytes a load and the auction's history of it are, and of tries of the referee over them: the seconds, those for the
-        scripts alone, which are read before an empty history is found to lack a request, and the megabytes."""
-        path, history = self.load(load, workers, requests), self.history(load, workers, requests)
-        whole = [programs.whole_of(self.referee_words(workers, history), path) for _ in range(self.few_tries())]
-        alone = [programs.whole_of(self.referee_words(workers, os.devnull), path, LACKING) for _ in range(self.few_tries())]
-        return (os.path.getsize(path) / 1e6, os.path.getsize(history) / 1e6, Tries.of(use.seconds for use in whole),
-                Tries.of(use.seconds for use in alone), Tries.of(use.megabytes for use in whole))
+        """How many megabytes a load and the auction's history of it are, and of tries of the referee over them: the
+        seconds, those for the scripts alone, which are read before an empty history is found to lack a request, and
+        the megabytes."""
+        path, history, tries = (
+            self.load(load, workers, requests),
+            self.history(load, workers, requests),
+            self.few_tries(),
+        )
+        words, of_scripts = self.referee_words(workers, history), self.referee_words(workers, os.devnull)
+        whole = [programs.whole_of(words, path) for _ in range(tries)]
+        alone = [programs.whole_of(of_scripts, path, LACKING) for _ in range(tries)]
+        seconds, of_scripts_alone = (Tries.of(use.seconds for use in uses) for uses in (whole, alone))
+        megabytes = Tries.of(use.megabytes for use in whole)
+        return os.path.getsize(path) / 1e6, os.path.getsize(history) / 1e6, seconds, of_scripts_alone, megabytes
 
     def delays(self, load: Load, workers: int, requests: int, policy: Policy) -> list[int]:
         """Of each deferred request, how many others are answered between it and its reply."""
         return delays.of_history(self.history(load, workers, requests, policy), *policy.quotas)
 
     def instructions(self, load: Load, requests: int, policy: Policy) -> list[float]:
-        """The instructions of each part for a request, with one worker: those of a load less those of its rows alone."""
+        """The instructions of each part for a request, with one worker: those of a load less those of its rows
+        alone."""
         words, engine = self.command("program", policy, 1), instructions.crates_of_engine(programs.ROOT)
-        full, rows = (instructions.by_parts(words, self.load(load, 1, count), engine, self.folder) for count in (requests, 0))
+        full, rows = (
+            instructions.by_parts(words, self.load(load, 1, count), engine, self.folder) for count in (requests, 0)
+        )
         return [(of_full - of_rows) / requests for of_full, of_rows in zip(full, rows)]
 
     def work(self, mode: str, load: Load, workers: int, requests: int, policy: Policy) -> list[float]:
-        """The instructions of a whole command for a request, of all threads and of the longest: those of a load less those of its rows alone."""
+        """The instructions of a whole command for a request, of all threads and of the longest: those of a load less
+        those of its rows alone."""
         words = self.command(mode, policy, workers)
-        full, rows = (instructions.by_threads(words, self.load(load, workers, count), self.folder) for count in (requests, 0))
+        full, rows = (
+            instructions.by_threads(words, self.load(load, workers, count), self.folder) for count in (requests, 0)
+        )
         return [(of_full - of_rows) / requests for of_full, of_rows in zip(full, rows)]
 
     def few(self) -> int:

@@ -1,5 +1,5 @@
-"""The auction in PostgreSQL, for bench/run alone: a server of its own in a folder of its own, over a socket, with nothing
-durable unless that is asked for, and `pgbench` with a client for each worker."""
+"""The auction in PostgreSQL, for bench/run alone: a server of its own in a folder of its own, over a socket, with
+nothing durable unless that is asked for, and `pgbench` with a client for each worker."""
 import glob
 import os
 import re
@@ -7,15 +7,26 @@ import shutil
 import subprocess
 import tempfile
 
+from loads import Record, Script
+
 HERE = os.path.dirname(os.path.abspath(__file__))
 # The tables, and what a request does over them.
 CODE = [f"{HERE}/auction.postgres.sql", f"{HERE}/../examples/sql/views.sql", f"{HERE}/../examples/sql/transactions.sql"]
 
 SETTINGS = {
-    "listen_addresses": "", "fsync": "off", "synchronous_commit": "off", "full_page_writes": "off", "wal_level": "minimal",
-    "max_wal_senders": "0", "shared_buffers": "1GB", "max_wal_size": "16GB", "checkpoint_timeout": "1h", "jit": "off",
-    # Tables are empty as their first plans are made, which are kept: each look-up is to go by an index from the first on.
-    "enable_seqscan": "off", "enable_bitmapscan": "off",
+    "listen_addresses": "",
+    "fsync": "off",
+    "synchronous_commit": "off",
+    "full_page_writes": "off",
+    "wal_level": "minimal",
+    "max_wal_senders": "0",
+    "shared_buffers": "1GB",
+    "max_wal_size": "16GB",
+    "checkpoint_timeout": "1h",
+    "jit": "off",
+    # Tables are empty as their first plans are made, which are kept: each look-up is to go by an index from the first.
+    "enable_seqscan": "off",
+    "enable_bitmapscan": "off",
 }
 
 DURABLE = SETTINGS | {"fsync": "on", "synchronous_commit": "on", "full_page_writes": "on"}
@@ -34,113 +45,124 @@ CLOSING = """SELECT line FROM (
 ) AS lines ORDER BY part, id"""
 
 
-def tools():
+def tools() -> str | None:
     """The folder of the server's programs, or None."""
     found = sorted(glob.glob("/usr/lib/postgresql/*/bin/initdb"), key=lambda path: int(path.split("/")[4]))
-    at_hand = shutil.which("initdb")
-    folder = os.path.dirname(found[-1] if found else at_hand) if found or at_hand else None
-    if folder and os.path.exists(f"{folder}/postgres") and (os.path.exists(f"{folder}/pgbench") or shutil.which("pgbench")):
-        return folder
-    return None
+    initdb = found[-1] if found else shutil.which("initdb")
+    if initdb is None:
+        return None
+    folder = os.path.dirname(initdb)
+    has_client = os.path.exists(f"{folder}/pgbench") or shutil.which("pgbench")
+    return folder if os.path.exists(f"{folder}/postgres") and has_client else None
 
 
 class Server:
     """A server that lives as long as a `with` over it."""
 
-    def __init__(self, settings=None):
-        self.settings, self.tools = settings or SETTINGS, tools()
+    def __init__(self, settings: dict[str, str] = SETTINGS):
+        self.settings, self.tools = settings, tools()
         # The server does not run as root: Debian's package has made a user for it.
         self.leave = ["runuser", "-u", "postgres", "--"] if os.geteuid() == 0 else []
 
-    def __enter__(self):
+    def __enter__(self) -> "Server":
         self.folder = tempfile.mkdtemp(prefix="bench-")
         if self.leave:
             shutil.chown(self.folder, "postgres")
-        self.call("initdb", "-D", f"{self.folder}/data", "-A", "trust", "-U", "bench", "--no-sync", "--locale=C", "-E", "UTF8")
-        settings = " ".join(f"-c {name}='{value}'" for name, value in self.settings.items())
-        self.call("pg_ctl", "-D", f"{self.folder}/data", "-w", "-l", f"{self.folder}/log", "-o",
-                  f"{settings} -c unix_socket_directories='{self.folder}'", "start")
+        data = f"{self.folder}/data"
+        self.call("initdb", "-D", data, "-A", "trust", "-U", "bench", "--no-sync", "--locale=C", "-E", "UTF8")
+        settings = self.settings | {"unix_socket_directories": self.folder}
+        words = " ".join(f"-c {name}='{value}'" for name, value in settings.items())
+        self.call("pg_ctl", "-D", data, "-w", "-l", f"{self.folder}/log", "-o", words, "start")
         return self
 
-    def __exit__(self, *_):
+    def __exit__(self, *_: object) -> None:
         self.call("pg_ctl", "-D", f"{self.folder}/data", "-m", "immediate", "stop")
         shutil.rmtree(self.folder, ignore_errors=True)
 
-    def call(self, tool, *words, text=None):
+    def call(self, tool: str, *words: str, text: str | None = None) -> str:
         path = f"{self.tools}/{tool}"
-        path = path if os.path.exists(path) else shutil.which(tool)
+        path = path if os.path.exists(path) else shutil.which(tool) or tool
         ran = subprocess.run([*self.leave, path, *words], input=text, capture_output=True, text=True, cwd="/")
         if ran.returncode != 0:
             raise SystemExit(f"{tool}: {ran.stdout}{ran.stderr}")
         return ran.stdout
 
-    def ask(self, text):
-        return self.call("psql", "-h", self.folder, "-U", "bench", "-d", "postgres", "-qAtX", "-v", "ON_ERROR_STOP=1", text=text)
+    def ask(self, text: str) -> str:
+        words = ("-h", self.folder, "-U", "bench", "-d", "postgres", "-qAtX", "-v", "ON_ERROR_STOP=1")
+        return self.call("psql", *words, text=text)
 
-    def version(self):
+    def version(self) -> str:
         return self.ask("SHOW server_version").split()[0]
 
-    def open(self, rows, scripts, users, categories):
+    def open(self, rows: list[Record], scripts: list[Script], users: int, categories: int) -> None:
         """A new auction with these rows, whose input has the scripts."""
         code = "".join(map(text_of, CODE))
         if self.settings["fsync"] == "on":
             code = code.replace("UNLOGGED TABLE", "TABLE")
         self.ask("DROP SCHEMA public CASCADE; CREATE SCHEMA public;" + code)
-        lines = ("\t".join(map(column, record)) for record in [*rows, *(record for script in scripts for record in script)])
-        self.ask("COPY input FROM stdin;\n" + "".join(f"{line}\n" for line in lines) + "\\.\n")
-        self.ask(f"""
+        records = (record for own in (rows, *scripts) for record in own)
+        lines = "".join("\t".join(map(column, record)) + "\n" for record in records)
+        self.ask(f"COPY input FROM stdin;\n{lines}\\.\n")
+        filling = f"""
             INSERT INTO users SELECT generate_series(0, {users - 1});
             INSERT INTO categories SELECT generate_series(0, {categories - 1});
             SELECT make_serials({len(scripts)});
             SELECT count(act(r)) FROM (SELECT * FROM input WHERE is_row ORDER BY place) AS r;
-            ANALYZE users, categories, items, input;""")
+            ANALYZE users, categories, items, input;"""
+        self.ask(filling)
 
-    def perform_anew(self, rows, scripts, users, categories, seconds):
+    def perform_anew(
+        self, rows: list[Record], scripts: list[Script], users: int, categories: int, seconds: float
+    ) -> tuple[int, float]:
         self.open(rows, scripts, users, categories)
         return self.perform(scripts, seconds)
 
-    def perform(self, scripts, seconds):
-        """Performs the scripts, each by a client of pgbench, or as much of them as it does in about so many seconds. Gives how
-        many requests were done, and how many a second after the first ones, which fill the server's caches."""
+    def perform(self, scripts: list[Script], seconds: float) -> tuple[int, float]:
+        """Performs the scripts, each by a client of pgbench, or as much of them as it does in about so many seconds.
+        Gives how many requests were done, and how many a second after the first ones, which fill the server's caches.
+        """
         each = min(map(len, scripts))
         first = min(FIRST, each // 2)
         rate = self.clients(len(scripts), first, 0)
         rest = max(1, min(each - first, int(rate * seconds / len(scripts))))
         return (first + rest) * len(scripts), self.clients(len(scripts), rest, first)
 
-    def waits(self, script, seconds):
-        """Of one client the microseconds of each request, sorted, of as much of a script as it does in about so many seconds."""
+    def waits(self, script: Script, seconds: float) -> list[float]:
+        """Of one client the microseconds of each request, sorted, of as much of a script as it does in about so many
+        seconds."""
         first = min(FIRST, len(script) // 2)
         rest = max(1, min(len(script) - first, int(self.clients(1, first, 0) * seconds)))
         self.clients(1, rest, first, "-l", f"--log-prefix={self.folder}/waits")
         lines = [line for path in glob.glob(f"{self.folder}/waits.*") for line in text_of(path).splitlines()]
         return sorted(float(line.split()[2]) for line in lines)
 
-    def clients(self, workers, each, place, *words):
+    def clients(self, workers: int, each: int, place: int, *words: str) -> float:
         """Requests a second where each worker's client does so many from a place of its script on."""
         path = f"{self.folder}/script"
         with open(path, "w") as script:
             script.write(SCRIPT)
         os.chmod(path, 0o644)
-        said = self.call("pgbench", "-h", self.folder, "-U", "bench", "-n", "-M", "prepared", "-c", str(workers), "-j", str(workers),
-                         "-t", str(each), "-D", f"place={place - 1}", *words, "-f", path, "postgres")
-        if f"actually processed: {each * workers}/{each * workers}" not in said:
+        many = ("-c", str(workers), "-j", str(workers), "-t", str(each), "-D", f"place={place - 1}")
+        how = ("-h", self.folder, "-U", "bench", "-n", "-M", "prepared", *many, *words, "-f", path)
+        said = self.call("pgbench", *how, "postgres")
+        rate = re.search(r"tps = ([0-9.]+) \(without initial connection time\)", said)
+        if f"actually processed: {each * workers}/{each * workers}" not in said or rate is None:
             raise SystemExit(said)
-        return float(re.search(r"tps = ([0-9.]+) \(without initial connection time\)", said).group(1))
+        return float(rate[1])
 
-    def replies(self, script):
+    def replies(self, script: Script) -> str:
         """One worker's replies, as the auction writes them, a transaction for each."""
         said = self.ask("".join(f"SELECT act(0, {place});\n" for place in range(len(script))))
         return "".join(f"0,{place},{line}\n" for place, line in enumerate(said.splitlines()))
 
-    def closing(self):
+    def closing(self) -> str:
         return self.ask(CLOSING)
 
 
-def text_of(path):
+def text_of(path: str) -> str:
     with open(path) as text:
         return text.read()
 
 
-def column(value):
+def column(value: object) -> str:
     return "\\N" if value is None else "t" if value is True else "f" if value is False else str(value)

@@ -36,7 +36,9 @@ def say(words: str) -> None:
 def add_program(parser: ArgumentParser) -> None:
     """The options of a script that needs the auction alone."""
     parser.add_argument("--program", metavar="PATH", type=executable, help="rubis_auction, built elsewhere")
-    parser.add_argument("--build", action="store_true", help="prove and build rubis_auction by `rt run` if it is not built")
+    parser.add_argument(
+        "--build", action="store_true", help="prove and build rubis_auction by `rt run` if it is not built"
+    )
 
 
 def program_of(asked: Namespace) -> str:
@@ -69,12 +71,13 @@ def built_path(crate: str) -> str:
 RUSTC = ("rustc", "-C", "opt-level=3", "-C", "codegen-units=1", "--edition", "2021")
 
 # What is compiled for each run, and by which words, if the first of them is there.
-COMPILED = {"plain": (*RUSTC, f"{HERE}/plain/main.rs", "-o"),
-            "one_pass": ("cc", "-O3", f"{HERE}/one_pass.c", "-o")}
+COMPILED = {"plain": (*RUSTC, f"{HERE}/plain/main.rs", "-o"), "one_pass": ("cc", "-O3", f"{HERE}/one_pass.c", "-o")}
 
 
 class Use(NamedTuple):
-    """What a whole command took: time by the clock, memory at most, time of processors for it and for the system's part, page faults."""
+    """What a whole command took: time by the clock, memory at most, time of processors for it and for the system's
+    part, page faults."""
+
     seconds: float
     megabytes: float
     user: float
@@ -95,7 +98,9 @@ def all_paths(asked: Namespace, folder: str) -> dict[str, str]:
 
 def watched(what: str, path: str, words: list[str], status: int = 0) -> list[int]:
     """What watched.py tells of a command over a file, which is to end with this status."""
-    ran = subprocess.run([sys.executable, "-S", "-E", f"{HERE}/watched.py", what, path, *words], capture_output=True, text=True)
+    ran = subprocess.run(
+        [sys.executable, "-S", "-E", f"{HERE}/watched.py", what, path, *words], capture_output=True, text=True
+    )
     if ran.returncode != status:
         said = ran.stderr.strip().splitlines() or [f"status {ran.returncode}"]
         end(f"{' '.join(words)}: {said[-1]}")
@@ -110,6 +115,12 @@ def whole_of(words: list[str], path: str, status: int = 0) -> Use:
 def executing_of(words: list[str], path: str) -> float:
     """The seconds from the last bytes of the input to the end of the command."""
     return watched("executing", path, words)[0] / 1e9
+
+
+def peak_memory(process: int) -> float:
+    """The most megabytes that a process has had."""
+    with open(f"/proc/{process}/status") as status:
+        return int(re.search(r"VmHWM:\s+(\d+)", status.read())[1]) * 1024 / 1e6
 
 
 def in_seconds(text: str) -> float:

@@ -1,10 +1,13 @@
-"""Bids and views in Redis, for bench/run alone: a server of its own on loopback, a sorted set of the highest bids of each item and its counters, a sorted set of the
-latest items of each category, and a script in Lua for each request, which the server executes as one transaction. No load of it has comments or new items."""
+"""Bids and views in Redis, for bench/run alone: a server of its own on loopback, a sorted set of the highest bids of
+each item and its counters, a sorted set of the latest items of each category, and a script in Lua for each request,
+which the server executes as one transaction. No load of it has comments or new items."""
 import shutil
 import socket
 import subprocess
 import tempfile
 import time
+
+from loads import Record
 
 SERVER = "redis-server"
 
@@ -43,32 +46,33 @@ if kind == 'viewbids' then
 end
 local top, highest, bidder = redis.call('ZREVRANGE', 'top:' .. item, 0, 0, 'WITHSCORES'), '-', '-'
 if top[1] then highest, bidder = top[2], string.match(top[1], '[^:]*$') end
-return 'viewitem seller=' .. row[1] .. ' category=' .. row[2] .. ' start=' .. row[3] .. ' closes=' .. row[4] .. ' highest=' .. highest
-  .. ' bidder=' .. bidder .. ' bids=' .. row[5] .. ' left=' .. row[6] .. ' name=' .. row[7]
+return 'viewitem seller=' .. row[1] .. ' category=' .. row[2] .. ' start=' .. row[3] .. ' closes=' .. row[4]
+  .. ' highest=' .. highest .. ' bidder=' .. bidder .. ' bids=' .. row[5] .. ' left=' .. row[6] .. ' name=' .. row[7]
 """
 
 
-def is_there():
+def is_there() -> bool:
     return shutil.which(SERVER) is not None
 
 
-def version():
+def version() -> str:
     said = subprocess.run([SERVER, "--version"], capture_output=True, text=True).stdout
     return next((word[2:] for word in said.split() if word.startswith("v=")), "")
 
 
-def packed(*words):
+def packed(*words: object) -> bytes:
     """A command as the server reads it."""
-    return b"".join([b"*%d\r\n" % len(words), *(b"$%d\r\n%s\r\n" % (len(word), word) for word in (str(word).encode() for word in words))])
+    parts = [str(word).encode() for word in words]
+    return b"".join([b"*%d\r\n" % len(parts), *(b"$%d\r\n%s\r\n" % (len(part), part) for part in parts)])
 
 
 class Server:
     """A server that lives as long as a `with` over it. Its log, if it has one, is synced before each reply."""
 
-    def __init__(self, is_logged):
+    def __init__(self, is_logged: bool):
         self.is_logged = is_logged
 
-    def __enter__(self):
+    def __enter__(self) -> "Server":
         self.folder = tempfile.mkdtemp(prefix="bench-")
         with socket.socket() as free:
             free.bind(("127.0.0.1", 0))
@@ -82,7 +86,7 @@ class Server:
         self.script = self.ask("SCRIPT", "LOAD", SCRIPT)
         return self
 
-    def connected(self, port):
+    def connected(self, port: int) -> socket.socket:
         for _ in range(200):
             try:
                 return socket.create_connection(("127.0.0.1", port))
@@ -90,21 +94,21 @@ class Server:
                 time.sleep(0.05)
         raise SystemExit(f"{SERVER} does not answer")
 
-    def __exit__(self, *_):
+    def __exit__(self, *_: object) -> None:
         self.replies.close()
         self.socket.close()
         self.process.terminate()
         self.process.wait()
         shutil.rmtree(self.folder, ignore_errors=True)
 
-    def ask(self, *words):
+    def ask(self, *words: object) -> str:
         return self.ask_packed(packed(*words))
 
-    def ask_packed(self, command):
+    def ask_packed(self, command: bytes) -> str:
         self.socket.sendall(command)
         return self.reply()
 
-    def reply(self):
+    def reply(self) -> str:
         line = self.replies.readline()
         if line[:1] == b"$":
             return self.replies.read(int(line[1:]) + 2)[:-2].decode()
@@ -112,21 +116,21 @@ class Server:
             raise SystemExit(f"{SERVER}: {line!r}")
         return line[1:-2].decode()
 
-    def pass_by(self, count):
+    def pass_by(self, count: int) -> None:
         """Reads so many replies of two lines each, and none of their words."""
         ends = 0
         while ends < 2 * count:
             ends += self.socket.recv(1 << 16).count(b"\n")
 
-    def open(self, rows):
+    def open(self, rows: list[Record]) -> None:
         """A new auction with these items."""
         self.ask("FLUSHALL")
         for serial, row in enumerate(rows):
-            self.ask("HSET", f"item:0.{serial}", "seller", row.who, "category", row.other, "start", row.start, "closes", row.closes, "bids", 0,
-                     "left", row.number, "name", row.name)
+            fields = ("seller", row.who, "category", row.other, "start", row.start, "closes", row.closes)
+            self.ask("HSET", f"item:0.{serial}", *fields, "bids", 0, "left", row.number, "name", row.name)
             self.ask("ZADD", f"category:{row.other}", row.time, f"0.{serial}")
 
-    def command(self, record):
+    def command(self, record: Record) -> bytes:
         if record.kind in ("viewuser", "viewcategory"):
             return packed("EVALSHA", self.script, 0, record.kind, record.who)
         item = f"{record.item_worker}.{record.item_serial}"

@@ -16,9 +16,11 @@ import lite
 import measures
 import plots
 import redis_server
-from cells import count, figure, heads_of, in_workers, millions, ranged, table, times, times_if_apart, two, value, values
-from figures import (ALL_THREADS, AUCTION, CLIENT_WAITS, CLIENTS_RATE, DELAY, EXECUTING, FAULTS, INSTRUCTIONS, LATEST,
-                     LONGEST_THREAD, MEMORY, OPENING, PROCESSORS, PUBLISHING, RUN, SECONDS, SYSTEMS, UNSPLIT, VIEW, WAITS, WHOLE_RATE, Figure, live_words)
+from cells import count, figure, heads_of, in_workers, loads_of, millions, ranged, table, times, times_if_apart, two
+from cells import value, values
+from figures import ALL_THREADS, CLIENT_WAITS, CLIENTS_RATE, DELAY, EXECUTING, FAULTS, INSTRUCTIONS, LATEST
+from figures import LONGEST_THREAD, MEMORY, OPENING, PROCESSORS, PUBLISHING, RUN, SECONDS, VIEW, WAITS, WHOLE_RATE
+from figures import AUCTION, SYSTEMS, UNSPLIT, Figure, live_words
 from measures import BIDDING, ONE_ITEM, UNIFORM, Policy
 from programs import ROOT
 
@@ -39,9 +41,13 @@ def machine() -> str:
         processors = text.read()
     with open("/proc/meminfo") as text:
         kilobytes = int(re.search(r"^MemTotal:\s*(\d+)", text.read()).group(1))
-    names, is_virtual = re.findall(r"(?m)^model name\s*: (.*)$", processors), re.search(r"(?m)^flags\s*:.*\bhypervisor\b", processors)
-    return (f"{os.cpu_count()} {'virtual ' if is_virtual else ''}processors ({names[0] if names else platform.machine()}), {kilobytes / 2 ** 20:.0f} GB, "
-            f"Linux {platform.release().partition('-')[0]}, {file_system(tempfile.gettempdir())}")
+    names = re.findall(r"(?m)^model name\s*: (.*)$", processors) or [platform.machine()]
+    is_virtual = re.search(r"(?m)^flags\s*:.*\bhypervisor\b", processors) is not None
+    kernel = platform.release().partition("-")[0]
+    return (
+        f"{os.cpu_count()} {'virtual ' * is_virtual}processors ({names[0]}), {kilobytes / 2**20:.0f} GB, "
+        f"Linux {kernel}, {file_system(tempfile.gettempdir())}"
+    )
 
 
 def file_system(folder: str) -> str:
@@ -52,9 +58,12 @@ def file_system(folder: str) -> str:
 
 
 def command(asked: Namespace) -> str:
-    words = ["bench/run", *(["--fast"] if asked.fast else []), f"--requests {asked.requests}", f"--tries {asked.tries}",
-             f"--minutes {asked.minutes:g}", f"--seconds {asked.seconds:g}", f"--workers {asked.workers}"]
-    return " ".join(words + [f"--{word} {','.join(chosen)}" for word, chosen in (("skip", asked.skip), ("only", asked.only)) if chosen])
+    numbers = (
+        f"--requests {asked.requests} --tries {asked.tries} --minutes {asked.minutes:g} --seconds {asked.seconds:g}"
+    )
+    words = ["bench/run", *(["--fast"] if asked.fast else []), numbers, f"--workers {asked.workers}"]
+    lists = {"--skip": asked.skip, "--only": asked.only}
+    return " ".join(words + [f"{option} {','.join(chosen)}" for option, chosen in lists.items() if chosen])
 
 
 def present(rows: list[Figure]) -> list[str]:
@@ -69,7 +78,8 @@ Column = dict[str, str | int]
 
 def rate_lines(rows: list[Figure], columns: list[Column]) -> list[list[str]]:
     """For each system its rates in these columns."""
-    return [[system, *(millions(figure(rows, system=system, **column)) for column in columns)] for system in present(rows)]
+    own = {system: values(rows, system=system) for system in present(rows)}
+    return [[system, *(millions(figure(found, **column)) for column in columns)] for system, found in own.items()]
 
 
 def over_one(rows: list[Figure], columns: list[Column]) -> list[str]:
@@ -80,7 +90,7 @@ def over_one(rows: list[Figure], columns: list[Column]) -> list[str]:
 def by_workers(rows: list[Figure]) -> str:
     """All systems with two numbers of workers, and the auction's gain by workers."""
     shown, rows = sorted({1, claims.most_workers(rows)}), values(rows, table="workers", measure=WHOLE_RATE)
-    loads, counts = claims.loads_of(rows), sorted({row.workers for row in rows} - {1})
+    loads, counts = loads_of(rows), sorted({row.workers for row in rows} - {1})
     columns: list[Column] = [{"load": load, "workers": workers} for load in loads for workers in shown]
     heads = heads_of((column["load"], column["workers"]) for column in columns)
     rates = table(["Millions of requests per second, whole command", *heads], rate_lines(rows, columns))
@@ -90,16 +100,17 @@ def by_workers(rows: list[Figure]) -> str:
 
 def executing(rows: list[Figure]) -> str:
     rows = values(rows, table="executing", measure=EXECUTING)
-    loads, most = claims.loads_of(rows), max(row.workers for row in rows)
+    loads, most = loads_of(rows), max(row.workers for row in rows)
     columns: list[Column] = [{"load": load, "workers": most} for load in loads]
     own, *others = rate_lines(rows, columns)
-    return table([f"Millions of requests per second, executing, {in_workers(most)}", *loads], [own, [OVER_ONE, *over_one(rows, columns)], *others])
+    heads = [f"Millions of requests per second, executing, {in_workers(most)}", *loads]
+    return table(heads, [own, [OVER_ONE, *over_one(rows, columns)], *others])
 
 
 def by_skew(rows: list[Figure]) -> str:
     """The ends of the plot, all items alike and one item, are in the table by workers."""
     rows = [row for row in values(rows, table="skew", measure=WHOLE_RATE) if row.skew > 0]
-    names = list(dict.fromkeys(row.load for row in rows))
+    names = loads_of(rows)
     heads = [name.split("exponent ")[-1] for name in names]
     most = max(row.workers for row in rows)
     lines = rate_lines(rows, [{"load": name, "workers": most} for name in names])
@@ -108,8 +119,8 @@ def by_skew(rows: list[Figure]) -> str:
 
 def by_quotas(rows: list[Figure]) -> str:
     """What quotas make of whole commands, and then of the delay of views; either may not be there."""
-    parts = [made(own) for own, made in ((values(rows, table="quotas", measure=WHOLE_RATE), by_rates), (delayed(rows), by_delay)) if own]
-    return "\n".join(parts)
+    both = ((values(rows, table="quotas", measure=WHOLE_RATE), by_rates), (delayed(rows), by_delay))
+    return "\n".join(made(own) for own, made in both if own)
 
 
 def delayed(rows: list[Figure]) -> list[Figure]:
@@ -121,29 +132,38 @@ def by_rates(rows: list[Figure]) -> str:
     """For each load what it is done with by quotas, and below what that is worth over one worker."""
     rows, most = values(rows, hot=Policy().hot), max(row.workers for row in rows)
     quotas, lines = dict.fromkeys((row.joined, row.split) for row in rows), []
-    for load in claims.loads_of(rows):
-        columns: list[Column] = [{"load": load, "joined": joined, "split": split, "workers": most} for joined, split in quotas]
-        lines += [[load, *(millions(figure(rows, **column)) for column in columns)], [OVER_ONE, *over_one(rows, columns)]]
-    heads = [f"Millions of requests per second, {in_workers(most)}, by quotas", *(f"{joined} / {split}" for joined, split in quotas)]
-    return table(heads, lines)
+    for load in loads_of(rows):
+        own, columns = values(rows, load=load, workers=most), [
+            {"joined": joined, "split": split} for joined, split in quotas
+        ]
+        lines.append([load, *(millions(figure(own, **column)) for column in columns)])
+        lines.append([OVER_ONE, *over_one(rows, [{"load": load, "workers": most, **column} for column in columns])])
+    pairs = [f"{joined} / {split}" for joined, split in quotas]
+    return table([f"Millions of requests per second, {in_workers(most)}, by quotas", *pairs], lines)
 
 
 def by_delay(rows: list[Figure]) -> str:
-    """For each split quota the throughput, and how long a deferred view waits: in requests, and at that throughput in milliseconds."""
+    """For each split quota the throughput, and how long a deferred view waits: in requests, and at that throughput in
+    milliseconds."""
     quotas = plots.quotas_of(rows)
     rates = [figure(rows, measure=EXECUTING, split=split) for split in quotas]
     waits = [[value(rows, measure=measure, split=split) for measure in (DELAY, LATEST)] for split in quotas]
-    lines = [["millions of requests per second", *map(millions, rates)],
-             ["requests until a deferred reply, median / 99th percentile", *(" / ".join(map(two, pair)) for pair in waits)],
-             ["the same in ms", *(" / ".join(two(wait / rate.value * 1e3) for wait in pair) for pair, rate in zip(waits, rates))]]
+    in_ms = [[wait / rate.value * 1e3 for wait in pair] for pair, rate in zip(waits, rates)]
+    lines = [
+        ["millions of requests per second", *map(millions, rates)],
+        ["requests until a deferred reply, median / 99th percentile", *(" / ".join(map(two, pair)) for pair in waits)],
+        ["the same in ms", *(" / ".join(map(two, pair)) for pair in in_ms)],
+    ]
     heads = [f"{rows[0].load.capitalize()}, executing, {in_workers(rows[0].workers)}, `--split`", *map(str, quotas)]
     return table(heads, lines) + f"\n{shown_plot('delay')}"
 
 
 def by_shards(rows: list[Figure]) -> str:
     rows = values(rows, table="shards", measure=WHOLE_RATE)
-    heads = [f"{rows[0].load.capitalize()}, {in_workers(rows[0].workers)}, `--shards`", *(str(row.shards) for row in rows)]
-    return table(heads, [["millions of requests per second", *map(millions, rows)]])
+    title = f"{rows[0].load.capitalize()}, {in_workers(rows[0].workers)}, `--shards`"
+    return table(
+        [title, *(str(row.shards) for row in rows)], [["millions of requests per second", *map(millions, rows)]]
+    )
 
 
 def growth(rows: list[Figure]) -> str:
@@ -155,7 +175,9 @@ def growth(rows: list[Figure]) -> str:
             return ""
         least, most = min(found, key=lambda row: row.requests), max(found, key=lambda row: row.requests)
         grown.append(round((most.value - least.value) * 1e6 / (most.requests - least.requests), -1))
-    return f"Fundreivo's memory grows by about {grown[0]:.0f} bytes per bid and {grown[1]:.0f} per request of the bidding mix.\n"
+    of_bid, of_mix = grown
+    growing = f"{of_bid:.0f} bytes per bid and {of_mix:.0f} per request of the bidding mix"
+    return f"Fundreivo's memory grows by about {growing}.\n"
 
 
 def memory(rows: list[Figure]) -> str:
@@ -167,8 +189,11 @@ def checking(rows: list[Figure]) -> str:
     rows = values(rows, table="checking")
     counts = sorted({row.requests for row in rows})
     words = {SECONDS: "whole command, s", MEMORY: "peak memory, MB"}
-    lines = [[f"{load}: {words[measure]}", *(ranged(figure(rows, load=load, measure=measure, requests=requests)) for requests in counts)]
-             for load in dict.fromkeys(row.load for row in rows) for measure in words]
+    lines = []
+    for load in loads_of(rows):
+        for measure, name in words.items():
+            own = values(rows, load=load, measure=measure)
+            lines.append([f"{load}: {name}", *(ranged(figure(own, requests=requests)) for requests in counts)])
     return table(["By requests", *(f"{requests:,}" for requests in counts)], lines)
 
 
@@ -179,9 +204,10 @@ NAMED = {"of it the kit's reader of records": "of which the kit's CSV reader", "
 def instructions(rows: list[Figure]) -> str:
     rows = values(rows, table="instructions")
     shown = [measure for measure in INSTRUCTIONS if any(row.value for row in values(rows, measure=measure))]
-    lines = [[f"{load}{', without splitting' * (system == UNSPLIT)}",
-              *(count(value(rows, load=load, system=system, measure=measure)) for measure in shown)]
-             for load, system in dict.fromkeys((row.load, row.system) for row in rows)]
+    lines = []
+    for load, system in dict.fromkeys((row.load, row.system) for row in rows):
+        own, name = values(rows, load=load, system=system), load + ", without splitting" * (system == UNSPLIT)
+        lines.append([name, *(count(value(own, measure=measure)) for measure in shown)])
     return table(["Instructions per request, one worker", *(NAMED.get(measure, measure) for measure in shown)], lines)
 
 
@@ -189,15 +215,20 @@ def windows(rows: list[Figure]) -> str:
     rows = values(rows, table="windows")
     alone, beside = (values(rows, load=f"windows {where}") for where in ("alone", "beside a run"))
     lines = [[str(row.workers), two(row.value), two(row.workers * 1e3 / row.value)] for row in alone]
-    text = table(["Windows, one thread each, no run", "Nanoseconds per view", "Millions of views per second, all windows"], lines)
+    heads = ["Windows, one thread each, no run", "Nanoseconds per view", "Millions of views per second, all windows"]
+    text = table(heads, lines)
     lines = []
     for row in values(beside, measure=RUN):
         at = beside.index(row)
         end = next((place for place in range(at + 1, len(beside)) if beside[place].measure == RUN), len(beside))
         own = beside[at:end]
-        shown = "nobody" if row.workers == 0 else f"{row.workers} window{'s' * (row.workers > 1)}" + ("" if value(own, measure=VIEW) else ", no views")
-        lines.append([shown, *(two(found) for found in (row.value, value(own, measure=PUBLISHING), value(own, measure=VIEW)))])
-    return text + "\n" + table(["1,000,000 bids by 4 workers on one item, published to", "Seconds", "Publishing, s", "Nanoseconds per view meanwhile"], lines)
+        view = value(own, measure=VIEW)
+        shown = (
+            f"{row.workers} window{'s' * (row.workers > 1)}{'' if view else ', no views'}" if row.workers else "nobody"
+        )
+        lines.append([shown, two(row.value), two(value(own, measure=PUBLISHING)), two(view)])
+    of_run = "1,000,000 bids by 4 workers on one item, published to"
+    return text + "\n" + table([of_run, "Seconds", "Publishing, s", "Nanoseconds per view meanwhile"], lines)
 
 
 def work(rows: list[Figure]) -> str:
@@ -208,7 +239,7 @@ def work(rows: list[Figure]) -> str:
     lines = []
     for name, made in OF_WORK.items():
         lines += [[f"**{name}**", *[""] * len(ways)]]
-        lines += [[load, *(made(values(rows, load=load), *way) for way in ways)] for load in claims.loads_of(rows)]
+        lines += [[load, *(made(values(rows, load=load), *way) for way in ways)] for load in loads_of(rows)]
     return table(["Of a request", *heads_of(ways)], lines)
 
 
@@ -227,13 +258,17 @@ def least_try(rows: list[Figure], system: str, workers: int, measure: str) -> st
 
 
 # What the table of a request's work has, by names.
-OF_WORK = {"instructions": all_threads, "bound": bound,
-           "CPU time, ns": partial(least_try, measure=PROCESSORS), "page faults per 1,000 requests": partial(least_try, measure=FAULTS)}
+OF_WORK = {
+    "instructions": all_threads,
+    "bound": bound,
+    "CPU time, ns": partial(least_try, measure=PROCESSORS),
+    "page faults per 1,000 requests": partial(least_try, measure=FAULTS),
+}
 
 
 def live(rows: list[Figure]) -> str:
-    """Replies while requests come: how long each takes, how many a second, and in words what memory views take and how long a log takes to open. Parts of few
-    requests are in the plot alone."""
+    """Replies while requests come: how long each takes, how many a second, and in words what memory views take and how
+    long a log takes to open. Parts of few requests are in the plot alone."""
     rows = values(rows, table="live")
     only_plotted = {live_words(10, is_logged) for is_logged in (False, True)}
     served = [row for row in values(rows, measure=WHOLE_RATE) if row.system not in only_plotted]
@@ -242,7 +277,8 @@ def live(rows: list[Figure]) -> str:
         waits = (value(rows, system=row.system, measure=measure) for measure in SHOWN_WAITS)
         clients = f", {row.workers} clients" if row.workers > 1 else ""
         lines.append([row.system, *map(two, waits), ranged(row, 1e3) + clients])
-    heads = [f"One worker, {served[0].load}", "µs until a reply, one at a time: median", "99th percentile", "Thousands of requests per second, many at once"]
+    waiting, rates = "µs until a reply, one at a time: median", "Thousands of requests per second, many at once"
+    heads = [f"One worker, {served[0].load}", waiting, "99th percentile", rates]
     return table(heads, lines) + kept_small(rows) + opened(rows)
 
 
@@ -251,33 +287,51 @@ SHOWN_WAITS = tuple(WAITS)[:2]
 
 
 def kept_small(rows: list[Figure]) -> str:
-    found = values(rows, measure=MEMORY)
-    return ("\nPeak memory with `--live 1000`: " + ", ".join(f"{two(row.value)} MB for {row.requests:,} views" for row in found) + ".\n") if found else ""
+    found = [f"{two(row.value)} MB for {row.requests:,} views" for row in values(rows, measure=MEMORY)]
+    return f"\nPeak memory with `--live 1000`: {', '.join(found)}.\n" if found else ""
 
 
 def opened(rows: list[Figure]) -> str:
-    return "".join(f"A log of {row.requests:,} rows is opened in {ranged(row)} s.\n" for row in values(rows, measure=OPENING))
+    found = values(rows, measure=OPENING)
+    return "".join(f"A log of {row.requests:,} rows is opened in {ranged(row)} s.\n" for row in found)
 
 
 def many_clients(rows: list[Figure]) -> str:
     """For each server the rate by clients, and how long a reply takes."""
     rows = values(rows, table="clients")
-    ways, systems = list(dict.fromkeys(row.load for row in rows)), list(dict.fromkeys(row.system for row in rows))
-    rates = [[system, *(ranged(figure(rows, system=system, load=way, measure=CLIENTS_RATE), 1e3) for way in ways)] for system in systems]
-    waits = [[system, *(" / ".join(two(value(rows, system=system, load=way, measure=measure)) for measure in CLIENT_WAITS) for way in ways)]
-             for system in systems]
-    return (table(["Thousands of requests per second, bids on one item", *ways], rates) + "\n"
-            + table(["ms until a reply, median / 99th percentile", *ways], waits))
+    ways, systems = loads_of(rows), list(dict.fromkeys(row.system for row in rows))
+    rates, waits = [], []
+    for system in systems:
+        found = [values(rows, system=system, load=way) for way in ways]
+        rates.append([system, *(ranged(figure(own, measure=CLIENTS_RATE), 1e3) for own in found)])
+        waits.append([system, *(" / ".join(two(value(own, measure=wait)) for wait in CLIENT_WAITS) for own in found)])
+    first = table(["Thousands of requests per second, bids on one item", *ways], rates)
+    return first + "\n" + table(["ms until a reply, median / 99th percentile", *ways], waits)
 
 
 # What the plots show. Those of tables stand above them.
-PLOTS = {"workers": "Requests per second of whole commands by number of workers", "skew": "Throughput by skew",
-         "memory": "Memory by requests", "delay": "Throughput against the delay of deferred views, by split quota",
-         "live": "Throughput by batch size, with a log and without"}
+PLOTS = {
+    "workers": "Requests per second of whole commands by number of workers",
+    "skew": "Throughput by skew",
+    "memory": "Memory by requests",
+    "delay": "Throughput against the delay of deferred views, by split quota",
+    "live": "Throughput by batch size, with a log and without",
+}
 
-TABLES = {"workers": by_workers, "executing": executing, "skew": by_skew, "quotas": by_quotas, "shards": by_shards,
-          "memory": memory, "checking": checking, "work": work, "instructions": instructions, "windows": windows, "live": live,
-          "clients": many_clients}
+TABLES = {
+    "workers": by_workers,
+    "executing": executing,
+    "skew": by_skew,
+    "quotas": by_quotas,
+    "shards": by_shards,
+    "memory": memory,
+    "checking": checking,
+    "work": work,
+    "instructions": instructions,
+    "windows": windows,
+    "live": live,
+    "clients": many_clients,
+}
 
 # Without a figure of one of these measures a table has nothing to show.
 NEEDED = {"workers": WHOLE_RATE, "executing": EXECUTING, "work": PROCESSORS, "skew": WHOLE_RATE, "shards": WHOLE_RATE}
@@ -298,30 +352,42 @@ def tables(rows: list[Figure]) -> Iterator[tuple[str, str]]:
 
 def tries_told(systems: measures.Systems) -> str:
     turns, few = systems.turns, systems.few_tries()
-    return (f"Whole commands and executing have {turns} tries, for which there was time, interleaved with those of all other commands, SQLite and PostgreSQL at most {few}.\n"
-            f"Histories, clients, and replies as requests arrive have {few}.")
+    return (
+        f"Whole commands and executing have {turns} tries, for which there was time, interleaved with those of all "
+        f"other commands, SQLite and PostgreSQL at most {few}.\n"
+        f"Histories, clients, and replies as requests arrive have {few}."
+    )
 
 
 def heading(asked: Namespace, systems: measures.Systems, when: str, seconds: float) -> str:
     """Date, machine, command and how long it took, and what was left out."""
-    lines = [f"Measured on {when}, on {machine()}, in {max(1, round(seconds / 60))} minutes, with", "", f"    {command(asked)}", "",
-             f"{tries_told(systems)}\nWindows, delays, sessions and instructions are measured once.",
-             f"LOAD is of `rubis_load` (the referee's with {figures.MOST_WORKERS} workers), HISTORY of `rubis_auction --history`:", ""]
+    most = figures.MOST_WORKERS
+    lines = [
+        f"Measured on {when}, on {machine()}, in {max(1, round(seconds / 60))} minutes, with\n",
+        f"    {command(asked)}\n",
+        f"{tries_told(systems)}\nWindows, delays, sessions and instructions are measured once.",
+        f"LOAD is of `rubis_load` (the referee's with {most} workers), HISTORY of `rubis_auction --history`:\n",
+    ]
     for load in (ONE_ITEM, UNIFORM, BIDDING):
         lines.append(f"    rubis_load --requests={asked.requests} --workers={asked.workers} {' '.join(load.words())}")
     lines.append(f"    rubis_auction {' '.join(measures.auction_words(asked.workers))} --fast < LOAD")
     if "referee" in systems.built:
-        lines.append(f"    rubis_check {' '.join(measures.auction_words(figures.MOST_WORKERS))} --order --history=HISTORY < LOAD")
+        words = " ".join(measures.auction_words(most))
+        lines.append(f"    rubis_check {words} --order --history=HISTORY < LOAD")
     if "windows" in systems.built:
         lines.append("    example_watch --measure")
     lines.append("")
     if systems.server:
-        lines.append(f"PostgreSQL {systems.server_version} executes as many of the first {systems.few():,} requests of a load as it can in about {asked.seconds:g} s.")
+        part = f"as many of the first {systems.few():,} requests of a load as it can in about {asked.seconds:g} s"
+        lines.append(f"PostgreSQL {systems.server_version} executes {part}.")
     if redis_server.is_there() and "redis" not in asked.skip:
         lines.append(f"Redis is {redis_server.version()}.")
     if "sqlite" not in asked.skip:
-        lines.append(f"SQLite {lite.sqlite3.sqlite_version} executes the first {systems.few():,}.\nAn empty statement, called from Python, "
-                     f"takes {systems.empty_statement / 1000:.2f} µs; a bid is five statements, a view one or four.")
+        spent = f"{systems.empty_statement / 1000:.2f} µs"
+        lines.append(f"SQLite {lite.sqlite3.sqlite_version} executes the first {systems.few():,}.")
+        lines.append(
+            f"An empty statement, called from Python, takes {spent}; a bid is five statements, a view one or four."
+        )
     return "\n".join(lines + systems.said) + "\n"
 
 
@@ -332,7 +398,8 @@ def put_between(text: str, name: str, new: str) -> str:
         sys.exit(f"the markers {start} and {end} are wanted once")
     before, rest = text.split(start)
     new = new.strip("\n")
-    return before + start + (f"\n\n{new}\n\n" if rest.startswith("\n") else new) + rest[rest.index(end):]
+    own_lines = f"\n\n{new}\n\n" if rest.startswith("\n") else new
+    return before + start + own_lines + rest[rest.index(end) :]
 
 
 def written(page: str, parts: list[Part]) -> str:
@@ -346,7 +413,8 @@ def written(page: str, parts: list[Part]) -> str:
 
 def pages(rows: list[Figure]) -> dict[str, list[Part]]:
     """The parts that each page has of these figures."""
-    readme, performance = ([(name, made(rows) or LEFT_OUT) for name, made in own.items()] for own in (claims.OF_README, claims.OF_PERFORMANCE))
+    readme = [(name, made(rows) or LEFT_OUT) for name, made in claims.OF_README.items()]
+    performance = [(name, made(rows) or LEFT_OUT) for name, made in claims.OF_PERFORMANCE.items()]
     return {README: readme, PERFORMANCE: [*performance, *tables(rows)]}
 
 
@@ -365,7 +433,8 @@ def read_figures(path: str) -> list[Figure]:
 
 
 def stale_parts() -> tuple[list[str], int]:
-    """The parts of the pages and the plots that are not what figures.csv makes of them, and how many there are. What was left out is none."""
+    """The parts of the pages and the plots that are not what figures.csv makes of them, and how many there are. What
+    was left out is none."""
     stale, count = [], 0
     rows = read_figures(f"{ROOT}/{FIGURES}")
     for page, parts in pages(rows).items():

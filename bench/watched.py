@@ -1,8 +1,9 @@
-"""Runs a command over an input, and tells what it took. A process of its own for each command, since what is told of a command's
-memory is never less than that of the process that started it.
+"""Runs a command over an input, and tells what it took. A process of its own for each command, since what is told of a
+command's memory is never less than that of the process that started it.
 
-    watched.py whole INPUT COMMAND..        `NANOSECONDS KILOBYTES USER SYSTEM FAULTS`: how long it ran, how much memory it had at most, the
-                                            microseconds of processors that it and the system took for it, and its page faults
+    watched.py whole INPUT COMMAND..        `NANOSECONDS KILOBYTES USER SYSTEM FAULTS`: how long it ran, how much memory
+                                            it had at most, the microseconds of processors that it and the system took
+                                            for it, and its page faults
     watched.py executing INPUT COMMAND..    `NANOSECONDS`: how long it took from the last bytes of its input to its end
 
 What the command writes is thrown away. The input is a file as a whole is timed, and a pipe as executing is."""

@@ -19,16 +19,13 @@ from pathlib import Path
 from typing import NamedTuple
 
 from command_line import parser_of
+from svg import BLUE, GREY, GRID, INK, RED, SAND, SLATE, WHITE, box, circle, picture, text
 
 LEFT, RIGHT, TOP = 92, 16, 84
 USUAL_WIDTH, WIDEST, NARROWEST, LEAST_OF_A_PHASE = 1000, 92, 10, 104
 # Narrower boxes have no words.
 WITH_WORDS = 66
-GROUND, SPLIT_GROUND, LINE, INK, GREY = "#ffffff", "#f6f1ea", "#dddddd", "#222222", "#595959"
-COLOURS = {"write": "#b3261e", "view": "#3d6e91", "refused": "#6b6b6b"}
-# Each colour of a picture, and what it is in a dark theme: words in boxes are dark there, and boxes bright.
-DARK = {GROUND: "#0d1117", SPLIT_GROUND: "#1d2026", LINE: "#30363d", INK: "#e6e6e6", GREY: "#a0a6ae", "#b3261e": "#ff7b72", "#3d6e91": "#6cb0e0",
-        "#6b6b6b": "#9aa0a8"}
+COLOURS = {"write": RED, "view": BLUE, "refused": SLATE}
 ORDER = "The serial order is by phase, number and worker."
 WRITES = {"item", "bid", "comment", "buynow"}
 # The template of a page and its scripts.
@@ -148,20 +145,9 @@ def chosen_phases(run, first, most):
     return chosen
 
 
-def text(x, y, words, size=15, anchor="middle", fill=INK, weight="normal"):
-    return f'<text x="{x:g}" y="{y:g}" font-size="{size}" text-anchor="{anchor}" fill="{fill}" font-weight="{weight}">{escape(words)}</text>'
-
-
-def line(x1, y1, x2, y2, stroke=LINE, dashes=""):
+def line(x1, y1, x2, y2, stroke=GRID, dashes=""):
     dashed = f' stroke-dasharray="{dashes}"' if dashes else ""
     return f'<line x1="{x1:g}" y1="{y1:g}" x2="{x2:g}" y2="{y2:g}" stroke="{stroke}"{dashed}/>'
-
-
-def themes(parts):
-    """A style that gives each colour of some parts the one that it is in a dark theme."""
-    used = sorted(set(re.findall(r'\b(fill|stroke)="(#\w+)"', "".join(parts))))
-    rules = [f'[{where}="{colour}"] {{ {where}: {DARK[colour]} }}' for where, colour in used]
-    return "\n".join(["<style>", "@media (prefers-color-scheme: dark) {", *rules, "}", "</style>"])
 
 
 def hot_words(objects, width):
@@ -209,16 +195,16 @@ class Picture:
         for phase, (begin, end) in self.bounds.items():
             kind = ("joined", "split")[phase % 2]
             if phase % 2:
-                yield f'<rect x="{begin:g}" y="{TOP - 14}" width="{end - begin:g}" height="{self.foot - TOP + 36}" fill="{SPLIT_GROUND}"/>'
+                yield f'<rect x="{begin:g}" y="{TOP - 14}" width="{end - begin:g}" height="{self.foot - TOP + 36}" fill="{SAND}"/>'
             yield text((begin + end) / 2, 40, f"{phase}: {kind}", 15, weight="bold")
             if phase in self.run.hot:
                 yield text((begin + end) / 2, 59, hot_words(self.run.hot[phase], end - begin), 14, fill=GREY)
         for x in sorted({x for pair in self.bounds.values() for x in pair}):
             yield line(x, 26, x, self.foot + 22)
-        yield text(14, 40, "phase", anchor="start", fill=GREY)
-        yield text(14, self.foot + 14, "number", anchor="start", fill=GREY)
+        yield text(14, 40, "phase", 15, "start", GREY)
+        yield text(14, self.foot + 14, "number", 15, "start", GREY)
         for worker in self.workers:
-            yield text(14, self.lane(worker) + 4, f"worker {worker}", anchor="start")
+            yield text(14, self.lane(worker) + 4, f"worker {worker}", 15, "start")
             yield line(LEFT, self.lane(worker), max(x for pair in self.bounds.values() for x in pair), self.lane(worker))
 
     def numbers(self):
@@ -241,13 +227,12 @@ class Picture:
 
     def entry(self, entry, x):
         width, lane = self.column - min(4, self.column / 5), self.lane(entry.worker)
-        late = f' stroke="{INK}" stroke-width="2"' if self.run.is_late(entry) else ""
-        yield (f'<g><title>{escape(" ".join(map(str, entry)))}</title><rect x="{x - width / 2:g}" y="{lane - self.box / 2:g}" width="{width:g}" '
-               f'height="{self.box}" rx="3" fill="{COLOURS[entry.kind()]}"{late}/>')
+        title = f"<g><title>{escape(' '.join(map(str, entry)))}</title>"
+        yield title + box(x - width / 2, lane - self.box / 2, width, self.box, COLOURS[entry.kind()], 3, INK if self.run.is_late(entry) else "")
         if self.column >= WITH_WORDS:
             words, most = entry.words(), int(width / 7)
-            yield text(x, lane - 2, words if len(words) <= most else words[:most - 1] + "…", 12, fill=GROUND)
-            yield text(x, lane + 13, f"index {entry.index}", 12, fill=GROUND)
+            yield text(x, lane - 2, words if len(words) <= most else words[:most - 1] + "…", 12, fill=WHITE)
+            yield text(x, lane + 13, f"index {entry.index}", 12, fill=WHITE)
         yield "</g>"
 
     def deferred(self, entry, x):
@@ -258,8 +243,7 @@ class Picture:
         yield line(x, lane + radius, x, under, INK, "2 3") + line(x, under, answered, under, INK, "2 3")
         if (entry, True) in self.at:
             yield line(answered, under, answered, lane + self.box / 2, INK, "2 3")
-        yield (f'<g><title>index {entry.index} of worker {entry.worker}, deferred</title><circle cx="{x:g}" cy="{lane:g}" r="{radius:g}" fill="{GROUND}" '
-               f'stroke="{INK}" stroke-width="2"/>')
+        yield f"<g><title>index {entry.index} of worker {entry.worker}, deferred</title>" + circle(x, lane, WHITE, radius)
         if self.column >= WITH_WORDS:
             yield text(x, lane + 4, str(entry.index), 12)
         yield "</g>"
@@ -267,13 +251,13 @@ class Picture:
     def legend(self):
         y, x = self.foot + 48, 14
         for colour, words in ((COLOURS["write"], "write"), (COLOURS["view"], "view"), (COLOURS["refused"], "refused")):
-            yield f'<rect x="{x}" y="{y - 9}" width="18" height="14" rx="3" fill="{colour}"/>' + text(x + 26, y + 3, words, anchor="start")
+            yield box(x, y - 9, 18, 14, colour, 3) + text(x + 26, y + 3, words, 15, "start")
             x += 56 + 8 * len(words)
         y += 27
-        yield f'<circle cx="23" cy="{y - 2}" r="7" fill="{GROUND}" stroke="{INK}" stroke-width="2"/>'
-        yield text(40, y + 3, "deferred: no number yet", anchor="start")
-        yield f'<rect x="262" y="{y - 9}" width="18" height="14" rx="3" fill="{GROUND}" stroke="{INK}" stroke-width="2"/>'
-        yield text(288, y + 3, "its reply, in a later phase", anchor="start")
+        yield circle(23, y - 2, WHITE, 7)
+        yield text(40, y + 3, "deferred: no number yet", 15, "start")
+        yield box(262, y - 9, 18, 14, WHITE, 3, INK)
+        yield text(288, y + 3, "its reply, in a later phase", 15, "start")
         yield text(14, y + 30, self.said(), 14, "start", GREY)
 
     def said(self):
@@ -283,15 +267,11 @@ class Picture:
         return ORDER
 
     def svg(self):
-        height = self.foot + 118
         title = f"Timeline of {self.name}"
         about = (f"{len(self.workers)} lanes, one for each worker, and {len(self.phases)} phases from left to right. Boxes are lines of the history, by their "
                  f"numbers; {sum(not committed for _, committed in self.at)} deferred requests are circles, each with a dashed line to its reply.")
-        head = (f'<svg xmlns="http://www.w3.org/2000/svg" viewBox="0 0 {self.width:g} {height}" width="{self.width:g}" height="{height}" '
-                f'font-family="Helvetica, Arial, DejaVu Sans, sans-serif" role="img" aria-labelledby="title description">')
-        parts = [f'<rect width="{self.width:g}" height="{height}" fill="{GROUND}"/>', *self.frame(), *self.numbers(), *self.boxes(), *self.legend()]
-        return "\n".join([head, f'<title id="title">{escape(title)}</title>', f'<desc id="description">{escape(about)}</desc>',
-                          themes(parts), *parts, "</svg>"]) + "\n"
+        parts = [*self.frame(), *self.numbers(), *self.boxes(), *self.legend()]
+        return picture(self.width, self.foot + 118, title, about, parts)
 
 
 class Verdict(NamedTuple):
@@ -371,7 +351,7 @@ def page(lines, split, name):
     return re.sub(r"\{\{([\w.]+)\}\}", lambda found: parts[found[1]], parts["page.html"])
 
 
-def picture(lines, asked, name):
+def picture_of(lines, asked, name):
     run = read_run(lines, asked.split)
     phases = chosen_phases(run, asked.first, asked.most)
     if not phases:
@@ -390,7 +370,7 @@ def main():
     name = asked.files[0].rsplit("/", 1)[-1] if asked.files else "a run"
     how = {"mode": "rb"} if asked.html else {"encoding": "utf-8", "errors": "replace"}
     with fileinput.input(asked.files or "-", **how) as lines:
-        drawn = page(lines, asked.split, name) if asked.html else picture(lines, asked, name)
+        drawn = page(lines, asked.split, name) if asked.html else picture_of(lines, asked, name)
     sys.stdout.write(drawn)
 
 

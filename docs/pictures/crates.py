@@ -9,7 +9,7 @@ import re
 import sys
 from pathlib import Path
 
-sys.path.append(str(Path(__file__).resolve().parents[2] / "bench"))
+sys.path.append(str(Path(__file__).resolve().parents[2] / "examples"))
 from svg import BLUE, EDGE, GREY, RED, SAND, WHITE, box, picture, text
 
 # From the lowest to the highest, each crate with its place across.

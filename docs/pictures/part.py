@@ -7,7 +7,7 @@
 import sys
 from pathlib import Path
 
-sys.path.append(str(Path(__file__).resolve().parents[2] / "bench"))
+sys.path.append(str(Path(__file__).resolve().parents[2] / "examples"))
 from svg import BLUE, GREY, INK, RED, SAND, TINT, WHITE, box, line, picture, text
 
 WIDTH, HEIGHT = 560, 690

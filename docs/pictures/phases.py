@@ -7,7 +7,7 @@
 import sys
 from pathlib import Path
 
-sys.path.append(str(Path(__file__).resolve().parents[2] / "bench"))
+sys.path.append(str(Path(__file__).resolve().parents[2] / "examples"))
 from svg import BLUE, GREY, INK, RED, ROSE, SAND, WHITE, box, circle, line, picture, text
 
 LEFT, WIDTH, HEIGHT = 14, 560, 546
