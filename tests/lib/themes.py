@@ -2,17 +2,12 @@
 makes, and on a small screen."""
 
 import re
-from runpy import run_path
 from typing import Iterator, NamedTuple
 from xml.etree import ElementTree
 
-from lib.program import BENCH
+from svg import FAINT, GROUNDS
 
 SVG = "{http://www.w3.org/2000/svg}"
-# Run by its path: bench/ is not where modules are imported from, since it has names that tests/ has, too.
-OF_PICTURES = run_path(str(BENCH / "svg.py"))
-# What pictures are drawn on, and what only guides the eye.
-GROUNDS, FAINT = OF_PICTURES["GROUNDS"], OF_PICTURES["FAINT"]
 RULE = re.compile(r'\[(fill|stroke)="(#[0-9a-f]{6})"\] \{ \1: (#[0-9a-f]{6}) \}')
 # By WCAG 2.1: the contrast of words, and that of lines and marks.
 OF_WORDS, OF_SHAPES = 4.5, 3
