@@ -434,11 +434,11 @@ def at_once(ways: list[tuple], count: Callable[..., list[float]]) -> list[list[f
 
 
 def windows(systems: Systems, asked: Namespace) -> Iterator[Figure]:
-    """What `example_watch --measure` tells: views of windows alone, and beside a run."""
+    """What `window_speed` tells: views of windows alone, and beside a run."""
     if "windows" not in systems.built:
         return
     say("windows")
-    said = subprocess.run([systems.built["windows"], "--measure"], capture_output=True, text=True, check=True).stdout
+    said = subprocess.run([systems.built["windows"]], capture_output=True, text=True, check=True).stdout
     beside = "alone"
     for line in said.splitlines():
         if found := re.match(r"shown to (nobody|(\d+) windows): ([^,]+)(?:, (\S+) of it to publish)?", line):

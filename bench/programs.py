@@ -16,7 +16,7 @@ sys.path.append(f"{ROOT}/examples")
 from command_line import end, executable, parser_of
 
 # What the options call the crates' programs.
-CRATES = {"program": "rubis_auction", "load": "rubis_load", "referee": "rubis_check", "windows": "example_watch"}
+CRATES = {"program": "rubis_auction", "load": "rubis_load", "referee": "rubis_check", "windows": "window_speed"}
 
 # The programs that are not needed where a part is left out.
 OF_PARTS = {"referee": "checking", "windows": "windows"}
@@ -62,8 +62,9 @@ def built_path(crate: str) -> str:
         print(f"{crate} is not built: rt run proves and builds it", file=sys.stderr)
         given = open(f"{folder}/stdin") if os.path.exists(f"{folder}/stdin") else subprocess.DEVNULL
         words = open(f"{folder}/args").read().split() if os.path.exists(f"{folder}/args") else []
+        status = int(open(f"{folder}/status").read()) if os.path.exists(f"{folder}/status") else 0
         ran = subprocess.run(["rt", "run", "--", *words], cwd=folder, stdin=given, capture_output=True, text=True)
-        if ran.returncode != 0 or not os.path.exists(path):
+        if ran.returncode != status or not os.path.exists(path):
             sys.exit(f"{crate}: not built\n{ran.stdout}{ran.stderr}")
     return path
 

@@ -375,7 +375,7 @@ def heading(asked: Namespace, systems: measures.Systems, when: str, seconds: flo
         words = " ".join(measures.auction_words(most))
         lines.append(f"    rubis_check {words} --order --history=HISTORY < LOAD")
     if "windows" in systems.built:
-        lines.append("    example_watch --measure")
+        lines.append("    window_speed")
     lines.append("")
     if systems.server:
         part = f"as many of the first {systems.few():,} requests of a load as it can in about {asked.seconds:g} s"

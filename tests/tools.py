@@ -1,7 +1,7 @@
 #!/usr/bin/env python3
-"""Shows that the tools do as they say: bench/tune, whose command has to run, bench/starts, the help of example_watch,
-loads of applications, man pages, bench/applications, the sentences of bench/claims.py, and what each script says of
-wrong words, of what is not there, and of an interruption.
+"""Shows that the tools do as they say: bench/tune, whose command has to run, bench/starts, the help of example_watch
+and window_speed, loads of applications, man pages, bench/applications, the sentences of bench/claims.py, and what each
+script says of wrong words, of what is not there, and of an interruption.
 
     tests/tools.py [PROGRAM]
 """
@@ -163,11 +163,13 @@ def starts(tally: Tally, program: Path) -> None:
 
 
 def helps_of_windows(tally: Tally, program: Path) -> None:
-    """help and version of example_watch, and what it makes of other words"""
-    watch = built("example_watch")
-    said = helps.help_and_version(tally, watch, "example_watch", None)
-    for words in (["x"], ["watch", "x"], [""]):
-        tally.same(f"example_watch {words}", run([watch, *words]), Outcome(1, b"", said.encode()))
+    """help and version of example_watch and window_speed, and the word that they refuse"""
+    for name in ("example_watch", "window_speed"):
+        helps.help_and_version(tally, built(name), name, None)
+        for words in (["x"], ["watch", "x"], [""], ["--measure"]):
+            got = run([built(name), *words])
+            is_named = got.status == 1 and not got.stdout and f"'{words[0]}'" in got.stderr.decode()
+            tally.check(is_named, f"{name} {words}: {described(got)}")
 
 
 def answers(tally: Tally, program: Path) -> None:

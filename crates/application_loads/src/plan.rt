@@ -1,4 +1,10 @@
 //! The options of a load that all applications have.
+ghost use Rattle.std.specs.List.{AllByRecursion};
+ghost use Rattle.std.specs.Prelude.{◌≡◌, ◌≤◌, ◌*◌, IfOk, false, map};
+ghost use Rattle.std.specs.Process.{exit_status};
+ghost use Rattle.clap.specs.Words.{found_of, one_text, rule_of};
+ghost use Rattle.application_loads.specs.inner.Plans.{SayPlan, load_rules};
+
 use clap::{Arg, ArgMatches};
 use program_options::{FROM_ONE, FROM_ZERO, NumberRange, UsageFault, described_number, number_of};
 use split_engine::Policy;
@@ -30,21 +36,25 @@ pub const SHARES: NumberRange = NumberRange {
 /// What a load is made of, and how it is run.
 #[derive(Clone, Copy)]
 pub struct LoadPlan {
-    /// The workers, each with a script of its own.
+    /// The workers, each with a script of its own, 1 to 64.
     pub workers: u32,
-    /// The requests of each script.
+    /// The requests of each script: of all together there are at most 16,000,000.
     pub each: u32,
-    /// The exponent of Zipf's law, in hundredths.
+    /// The exponent of Zipf's law, in hundredths, 0 to 200.
     pub skew: u32,
-    /// How many of a hundred requests only look.
+    /// How many of a hundred requests only look, 0 to 100.
     pub views: u32,
     /// Its phases, as many as it takes.
     pub policy: Policy,
 }
 
 /// The options of a load.
-pub fn load_options<'a>(alloc: Global) -> Result<Vec<Arg<'a>>, AllocError> {
-    Ok(vec![in alloc;
+pub(crate) fn load_options<'a>(alloc: Global) -> Result<Vec<Arg<'a>>, AllocError>
+    ensures rules { IfOk result (λ options. map rule_of options.items ≡ load_rules) }
+    ensures local { IfOk result (λ options.
+        AllByRecursion (λ option. option.global ≡ false) options.items) }
+{
+    let options = vec![in alloc;
         described_number(alloc, "workers", WORKERS, "1", WORKERS_HELP),
         described_number(alloc, "requests", REQUESTS, "480000", REQUESTS_HELP),
         described_number(alloc, "skew", SKEWS, "100", SKEW_HELP),
@@ -52,11 +62,14 @@ pub fn load_options<'a>(alloc: Global) -> Result<Vec<Arg<'a>>, AllocError> {
         described_number(alloc, "joined", FROM_ONE, "64", JOINED_HELP),
         described_number(alloc, "split", FROM_ZERO, "4096", SPLIT_HELP),
         described_number(alloc, "threshold", FROM_ZERO, "0", THRESHOLD_HELP),
-    ]?)
+    ]?;
+    Ok(options)
 }
 
 /// Tells why a program's words are refused, or what they ask for, and gives the program's status.
-pub fn tell_usage<R: Eprint>(rt: &R, fault: &UsageFault) -> io::Result<ExitCode> {
+pub(crate) fn tell_usage<R: Eprint>(rt: &R, fault: &UsageFault) -> io::Result<ExitCode>
+    ensures { IfOk result (λ status. exit_status status ≡ 1) }
+{
     match fault {
         UsageFault::Text(text) => eprint!(rt; "{text}")?,
         UsageFault::Memory => eprintln!(rt; "{fault}")?,
@@ -65,7 +78,14 @@ pub fn tell_usage<R: Eprint>(rt: &R, fault: &UsageFault) -> io::Result<ExitCode>
 }
 
 /// What these options say.
-pub fn load_plan(matches: &ArgMatches<'_>) -> LoadPlan {
+pub(crate) fn load_plan(matches: &ArgMatches<'_>) -> LoadPlan
+    ensures said { SayPlan (one_text (found_of matches.now)) result }
+    ensures workers { (1 ≤ result.workers) × (result.workers ≤ 64) }
+    ensures requests { result.workers * result.each ≤ 16000000 }
+    ensures skew { result.skew ≤ 200 }
+    ensures views { result.views ≤ 100 }
+    ensures joined { 1 ≤ result.policy.joined_quota }
+{
     let workers = number_of(matches, "workers", WORKERS);
     LoadPlan {
         workers,

@@ -1,13 +1,12 @@
 //! How a log is read: line by line, each as the request whose line it is.
-ghost use Rattle.std.specs.List.{AllByRecursion};
-ghost use Rattle.std.specs.Prelude.{◌≡◌, ◌<◌, ◌++◌, ◌∷◌, List, ℕ, true, false, Some, IfErr, IfOk, IfSome};
+ghost use Rattle.std.specs.Prelude.{◌≡◌, ◌↔◌, ◌++◌, ◌∷◌, List, ℕ, true, false, Some, IfErr, IfOk, IfSome, IsTrue};
 ghost use Rattle.std.specs.declared.io.Error.{Error as IoError};
 ghost use Rattle.split_engine.specs.Serial.{IsWithin};
 ghost use Rattle.application_log.specs.Lines.{HasNoEnd};
 
 use crate::loggable::Loggable;
 use crate::opening::OpenFault;
-use split_engine::Few;
+use split_engine::are_within;
 use std::alloc::AllocError;
 use std::io::BufRead;
 
@@ -58,23 +57,9 @@ pub(crate) fn request_of<A: Loggable>(
     Ok(Some(request))
 }
 
-// Whether some keys are all of a table of so many records.
-fn are_within(keys: &Few<u32>, records: usize) -> bool
-    ensures yes { result ≡ true → AllByRecursion (λ key. key < records) keys.now }
-    ensures no { result ≡ false → AllByRecursion (λ key. key < records) keys.now → ⊥ }
-{
-    for place in 0..keys.len() {
-        if keys.at(place) as usize >= records {
-            return false;
-        }
-    }
-    true
-}
-
 /// Whether a request names keys of a table of so many records.
 pub(crate) fn is_within<A: Loggable>(request: &A::Request, records: usize) -> bool
-    ensures yes { result ≡ true → IsWithin A.rules records request.now }
-    ensures no { result ≡ false → IsWithin A.rules records request.now → ⊥ }
+    ensures { IsTrue result ↔ IsWithin A.rules records request.now }
 {
     let keys = A::keys(request);
     are_within(&keys, records)

@@ -3,7 +3,8 @@ ghost use Rattle.std.specs.Prelude.{◌≡◌, [], ◌*◌, ◌≤◌};
 ghost use Rattle.application_tests.specs.Model.{decided};
 ghost use Rattle.application_tests.specs.declared.counters.CounterReply.TheVariants.{Shows};
 
-use split_engine::{Application, Checkable, Decision, Few};
+use application_check::Checkable;
+use split_engine::{Application, Decision, Few};
 
 /// What is asked of counters.
 #[derive(Clone, Copy)]

@@ -1,4 +1,4 @@
-//! Tests of `split_engine`, by an application with counters.
+//! Tests of `split_engine` and its referee, by an application with counters.
 #![tactic(auto)]
 
 #[cfg(test)]

@@ -3,8 +3,9 @@ ghost use Rattle.std.specs.Prelude.{◌<◌, length};
 
 use crate::counters::CounterRequest::{Add, Read};
 use crate::counters::{CounterReply, Counters};
-use split_engine::HistoryFault::{Lacking, Wrong};
-use split_engine::{HistoryFault, Line, check_history, perform};
+use application_check::HistoryFault::{Lacking, Wrong};
+use application_check::{HistoryFault, Line, check_history};
+use split_engine::perform;
 use std::alloc::{AllocError, Global};
 use std::test::Fail;
 

@@ -1,17 +1,27 @@
 -- One part more.
-use Rattle.std.proofs.Common.{◌≡◌, ℕ, suc, ◌+◌, ◌-◌, ◌*◌, ◌/◌, ◌<◌, ◌≤◌, List, [], ◌∷◌, ◌++◌, length, take, get_or, refl, ap, sym, ◌∙◌, subst, arith}
+use Rattle.std.proofs.Common.{◌≡◌, ◌⊎◌, false, inl, inr, ℕ, suc, ◌+◌, ◌-◌, ◌*◌, ◌/◌, ◌<◌, ◌≤◌, List, [], ◌∷◌, ◌++◌, length, length-append, take, get_or, refl, ap, sym, ◌∙◌, subst, arith}
 use mathlib.Core.List.{IsPrefix}
 use Rattle.std.{proofs.lemmas.List.{take_more}, specs.List.{AllByRecursion}}
 use Rattle.split_engine.proofs.{Counts.{total-append}, Splits.{length-acts}}
 use Rattle.split_engine.specs.{Rules.{Rules, most_acts}, Serial.{acts_at, next, table_after}}
 use Rattle.split_engine.specs.{Serving.{total}, declared.entry.Entry.{Entry}}
-use Rattle.application_window.specs.Published.{table_of, AreWithin}
+use Rattle.application_window.specs.Published.{Published, with_part, table_of, AreWithin}
 use Rattle.application_window.specs.inner.Copies.{HasParts, IsLastPart}
 use Rattle.published_parts.proofs.Growing.{before_last}
 
 -- so many commits do at most so many acts
 pub room_for : (acts more : ℕ) → acts ≤ most_acts → more ≤ (4294967296 - acts) / 4 → acts + 4 * more ≤ most_acts
 room_for acts more few room = omega arith
+
+-- of two lists of parts with so many, the longer is the one with more
+pub longer_next : {E : Type 0} (old new both : List (List E)) → (both ≡ old) ⊎ (both ≡ new) → IsPrefix new both → length old < length new → both ≡ new
+longer_next old new both (inl same) begins more = absurd (omega (arith, length-append new begins.0, ap length begins.1, ap length same))
+longer_next old new both (inr same) begins more = same
+
+-- what is published once a part is shown
+pub with_part-is : {Commit : Type 0} (old before : Published Commit) (part : List Commit) (parts : List (List Commit)) (more : ℕ) → old ≡ before → parts ≡ old.parts ++ part ∷ [] → more ≡ length part →
+    with_part before part ≡ record { parts = parts; room = old.room - more; failed = false }
+with_part-is old before part parts more same grown long = rw (grown, long, ← same) refl
 
 module _ {Record Slice Look Request Reply Act : Type 0} (rules : Rules Record Slice Look Request Reply Act) where
   -- a commit more

@@ -1,6 +1,6 @@
 -- Published parts of a history, and what windows show of them.
 use Rattle.std.specs.List.{AllByRecursion}
-use Rattle.std.specs.Prelude.{◌≡◌, ℕ, ◌-◌, ◌/◌, ◌<◌, Bool, true, List, length, fold}
+use Rattle.std.specs.Prelude.{◌≡◌, ℕ, ◌-◌, ◌/◌, ◌<◌, Bool, true, false, List, [], ◌∷◌, ◌++◌, length, fold}
 use Rattle.split_engine.specs.{Rules.{Rules, most_acts}, Serial.{IsWithin, table_after}}
 use Rattle.split_engine.specs.declared.{entry.Entry.{Entry}, few.TheConstants.{MOST_KEYS}}
 use Rattle.application_window.specs.declared.publisher.PublishFault.{PublishFault}
@@ -14,6 +14,18 @@ pub record Published (Commit : Type 0) : Type 0 where
   pub room : ℕ
   -- whether it was refused memory: then it publishes no more
   pub failed : Bool
+
+-- what was published, and one part more
+abbrev pub with_part : {Commit : Type 0} → Published Commit → List Commit → Published Commit
+with_part before part = record {
+  parts = before.parts ++ part ∷ [];
+  room = before.room - length part;
+  failed = false;
+}
+
+-- what was published, after a refusal of memory
+abbrev pub with_failure : {Commit : Type 0} → Published Commit → Published Commit
+with_failure before = record { parts = before.parts; room = before.room; failed = true }
 
 -- how many commits there can be after so many acts on a record: each may do one at each of its keys
 abbrev pub room_after : ℕ → ℕ
@@ -37,4 +49,4 @@ module _ {Record Slice Look Request Reply Act : Type 0}
   IsRefused records part before after Full =
       (after ≡ before) × (before.room < length part)
   IsRefused records part before after Memory =
-      after ≡ record { parts = before.parts; room = before.room; failed = true }
+      after ≡ with_failure before

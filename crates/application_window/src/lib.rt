@@ -11,5 +11,6 @@ mod table_copy;
 mod window;
 
 pub use parts::{PartLog, WindowName};
-pub use publisher::{MakeFault, Opening, PublishFault, Publisher};
-pub use window::{NoGuard, Seen, Told, Window};
+pub use published_parts::{MakeFault, NoGuard};
+pub use publisher::{Opening, PublishFault, Publisher};
+pub use window::{Seen, Told, Window};

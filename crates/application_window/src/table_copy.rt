@@ -7,12 +7,12 @@ ghost use Rattle.split_engine.specs.Rules.{most_acts};
 ghost use Rattle.split_engine.specs.Serial.{IsWithin, table_after, record_at, looks_at, reply};
 ghost use Rattle.split_engine.specs.Serving.{total};
 ghost use Rattle.application_window.specs.Published.{table_of, AreWithin};
-ghost use Rattle.application_window.specs.inner.Copies.{IsLastPart};
+ghost use Rattle.application_window.specs.inner.Copies.{IsLastPart, Shows};
 
 use crate::parts::{Part, Prefix, WindowName};
 use crate::window::Seen;
 use left_right::Absorb;
-use split_engine::{Application, Entry, Few, MOST_KEYS, perform};
+use split_engine::{Application, Entry, Few, MOST_KEYS, are_within, perform};
 use std::alloc::AllocError;
 use std::marker::Model;
 
@@ -91,18 +91,17 @@ impl<A: Application, J: WindowName<A::Record>> TableCopy<A, J> {
         }
     }
 
-    // The parts that it has. None comes where it lacks some that are known, which is not so of a
-    // copy that windows read.
+    // The parts that it has. None comes where it lacks some that are known: never so of a copy that
+    // windows read. By this test a window is proved never to go back.
     fn parts_after(&self, known: &Prefix<A, J>) -> Option<Prefix<A, J>>
         ensures parts { IfSome result (λ parts. parts ≡ self.now) }
         ensures onward { IfSome result (λ parts. IsPrefix known.now parts) }
     {
-        if self.parts.len() < known.len() {
+        let parts = self.parts.longer(known);
+        if parts.len() > self.parts.len() {
             return None;
         }
-        // The longer begins with the shorter.
-        known.agrees(&self.parts);
-        Some(self.parts.again())
+        Some(parts)
     }
 
     // What a request sees of a record, with the parts that the copy has. None comes as above.
@@ -112,10 +111,8 @@ impl<A: Application, J: WindowName<A::Record>> TableCopy<A, J> {
         key: u32,
     ) -> Option<(Prefix<A, J>, Seen<A::Look>)>
         requires { key < length J.opened }
-        ensures onward { IfSome result (λ shown. IsPrefix known.now shown.0) }
-        ensures commits { IfSome result (λ shown. shown.1.commits ≡ total shown.0) }
-        ensures value { IfSome result (λ shown. shown.1.value
-            ≡ A.rules.look (record_at A.rules (table_of A.rules J.opened shown.0) key)) }
+        ensures { IfSome result (Shows A.rules J.opened known.now
+            (λ table. A.rules.look (record_at A.rules table key))) }
     {
         let parts = self.parts_after(known)?;
         let seen = Seen {
@@ -132,10 +129,8 @@ impl<A: Application, J: WindowName<A::Record>> TableCopy<A, J> {
         request: &A::Request,
     ) -> Option<(Prefix<A, J>, Seen<A::Reply>)>
         requires { IsWithin A.rules (length J.opened) request.now }
-        ensures onward { IfSome result (λ shown. IsPrefix known.now shown.0) }
-        ensures commits { IfSome result (λ shown. shown.1.commits ≡ total shown.0) }
-        ensures value { IfSome result (λ shown. shown.1.value
-            ≡ reply A.rules (table_of A.rules J.opened shown.0) request.now) }
+        ensures { IfSome result (Shows A.rules J.opened known.now
+            (λ table. reply A.rules table request.now)) }
     {
         let parts = self.parts_after(known)?;
         let seen = Seen {
@@ -158,22 +153,20 @@ impl<A: Application, J: WindowName<A::Record>> Absorb<AddPart<A, J>> for TableCo
         added: &AddPart<A, J>,
         _other: &TableCopy<A, J>,
     ) -> Result<(), AllocError> {
-        // The count is always the next one: a writer applies each part once, in order.
         let count = added.parts.len();
-        if count == 0 || count - 1 != self.parts.len() {
-            return Err(AllocError);
-        }
-        // The publisher has seen to it that there is room.
         let more = added.commits.len() as u64;
-        if more > (MOST_ACTS - self.acts) / MOST_KEYS as u64 {
+        // Never so: a publisher adds each part once, in order, and only where there is room. By
+        // this test a copy's table is proved to be the one after its parts.
+        if count == 0
+            || count - 1 != self.parts.len()
+            || more > (MOST_ACTS - self.acts) / MOST_KEYS as u64
+        {
             return Err(AllocError);
         }
-        // The parts added begin with those that the copy has.
-        self.parts.agrees(&added.parts);
         perform_part::<A>(&mut self.table, &added.commits);
         self.acts += more * MOST_KEYS as u64;
         self.commits += more;
-        self.parts = added.parts.again();
+        self.parts = self.parts.longer(&added.parts);
         Ok(())
     }
 }
@@ -222,23 +215,11 @@ fn reply_to<A: Application>(table: &[A::Record], request: &A::Request) -> A::Rep
     A::decide(request, &looks).reply
 }
 
-// Whether some keys are all of a table of so many records.
-fn are_keys(keys: &Few<u32>, records: usize) -> bool
-    ensures yes { result ≡ true → AllByRecursion (λ key. key < records) keys.now }
-    ensures no { result ≡ false → AllByRecursion (λ key. key < records) keys.now → ⊥ }
-{
-    for place in 0..keys.len() {
-        if keys.at(place) as usize >= records {
-            return false;
-        }
-    }
-    true
-}
-
 // Whether a request names keys of a table of so many records alone.
 pub(crate) fn is_within<A: Application>(request: &A::Request, records: usize) -> bool
     ensures yes { result ≡ true → IsWithin A.rules records request.now }
     ensures no { result ≡ false → IsWithin A.rules records request.now → ⊥ }
 {
-    are_keys(&A::keys(request), records)
+    let keys = A::keys(request);
+    are_within(&keys, records)
 }

@@ -6,19 +6,9 @@ ghost use Rattle.application_window.specs.Published.{table_of};
 
 use crate::parts::{Prefix, WindowName};
 use crate::table_copy::{TableCopy, is_within};
-use core::mem::replace_with;
-use crossbeam_utils::rule::Unruled;
-use left_right::reader::Reader;
+use published_parts::{CopyReader, NoGuard};
 use split_engine::Application;
 use std::marker::Model;
-use thiserror::Error;
-
-type CopyReader<A, J> = Reader<TableCopy<A, J>, (), Unruled>;
-
-/// Nothing was seen, since the publisher has ended.
-#[derive(Clone, Copy, Debug, PartialEq, Eq, Error)]
-#[error("the publisher has ended")]
-pub struct NoGuard;
 
 /// What a window shows.
 #[derive(Clone, Copy, PartialEq, Eq, Debug)]
@@ -56,7 +46,7 @@ impl<A: Application, J: WindowName<A::Record>> Told<A, J> {
 /// showed last, or those that it was told of if they are more.
 #[derive(Drop)]
 pub struct Window<A: Application, J: WindowName<A::Record>> {
-    reader: CopyReader<A, J>,
+    reader: CopyReader<TableCopy<A, J>>,
     records: usize,
     parts: Prefix<A, J>,
 }
@@ -73,14 +63,18 @@ impl<A: Application, J: WindowName<A::Record>> Model for Window<A, J> {
 }
 
 impl<A: Application, J: WindowName<A::Record>> Window<A, J> {
-    pub(crate) fn new(reader: CopyReader<A, J>, records: usize, parts: Prefix<A, J>) -> Window<A, J>
+    pub(crate) fn new(
+        reader: CopyReader<TableCopy<A, J>>,
+        records: usize,
+        parts: &Prefix<A, J>,
+    ) -> Window<A, J>
         requires { records ≡ length J.opened }
-        ensures { result ≡ parts }
+        ensures { result ≡ parts.now }
     {
         Window {
             reader,
             records,
-            parts,
+            parts: parts.again(),
         }
     }
 
@@ -93,7 +87,8 @@ impl<A: Application, J: WindowName<A::Record>> Window<A, J> {
 
     /// What a request sees of the record at a key, after the parts that are published: at least all
     /// that this window has shown or was told of. `None` comes exactly where the table has no such
-    /// key, and `NoGuard` once the publisher has ended. It waits for nobody and takes no lock.
+    /// key. `NoGuard` comes once the publisher has ended; no clause says when. It waits for nobody
+    /// and takes no lock.
     pub fn look(&mut self, key: u32) -> Result<Option<Seen<A::Look>>, NoGuard>
         ensures none { (result ≡ Ok None) ↔ (length J.opened ≤ key) }
         ensures shown { IfOk result (λ shown. IfSome shown (λ seen. seen.value
@@ -107,31 +102,18 @@ impl<A: Application, J: WindowName<A::Record>> Window<A, J> {
         if key as usize >= self.records {
             return Ok(None);
         }
-        let shown = replace_with(
-            &mut self.reader,
-            &self.parts,
-            |reader: CopyReader<A, J>, known: &Prefix<A, J>| -> (
-                CopyReader<A, J>,
-                Option<(Prefix<A, J>, Seen<A::Look>)>,
-            )
-                requires { key < length J.opened }
-                ensures onward { IfSome result.1 (λ shown. IsPrefix known.now shown.0) }
-                ensures commits { IfSome result.1 (λ shown. shown.1.commits ≡ total shown.0) }
-                ensures value { IfSome result.1 (λ shown. shown.1.value
-                    ≡ A.rules.look (record_at A.rules (table_of A.rules J.opened shown.0) key)) }
-            { look_in(reader, known, key) },
-        );
-        let Some((parts, seen)) = shown else {
-            return Err(NoGuard);
-        };
+        let known = &self.parts;
+        let (parts, seen) = self
+            .reader
+            .read(|copy: &TableCopy<A, J>| copy.look(known, key))?;
         self.parts = parts;
         Ok(Some(seen))
     }
 
     /// The reply that a request would have after the parts that are published: at least all that
     /// this window has shown or was told of. The request is not performed. `None` comes exactly
-    /// where it names a key that the table does not have, and `NoGuard` once the publisher has
-    /// ended. It waits for nobody and takes no lock.
+    /// where it names a key that the table does not have. `NoGuard` comes once the publisher has
+    /// ended; no clause says when. It waits for nobody and takes no lock.
     pub fn answer(&mut self, request: A::Request) -> Result<Option<Seen<A::Reply>>, NoGuard>
         ensures none { (result ≡ Ok None) ↔ (IsWithin A.rules (length J.opened) request → ⊥) }
         ensures shown { IfOk result (λ shown. IfSome shown (λ seen. seen.value
@@ -145,23 +127,10 @@ impl<A: Application, J: WindowName<A::Record>> Window<A, J> {
         if !is_within::<A>(&request, self.records) {
             return Ok(None);
         }
-        let shown = replace_with(
-            &mut self.reader,
-            &self.parts,
-            |reader: CopyReader<A, J>, known: &Prefix<A, J>| -> (
-                CopyReader<A, J>,
-                Option<(Prefix<A, J>, Seen<A::Reply>)>,
-            )
-                requires { IsWithin A.rules (length J.opened) request }
-                ensures onward { IfSome result.1 (λ shown. IsPrefix known.now shown.0) }
-                ensures commits { IfSome result.1 (λ shown. shown.1.commits ≡ total shown.0) }
-                ensures value { IfSome result.1 (λ shown. shown.1.value
-                    ≡ reply A.rules (table_of A.rules J.opened shown.0) request) }
-            { answer_in(reader, known, request) },
-        );
-        let Some((parts, seen)) = shown else {
-            return Err(NoGuard);
-        };
+        let known = &self.parts;
+        let (parts, seen) = self
+            .reader
+            .read(|copy: &TableCopy<A, J>| copy.answer(known, &request))?;
         self.parts = parts;
         Ok(Some(seen))
     }
@@ -173,47 +142,5 @@ impl<A: Application, J: WindowName<A::Record>> Window<A, J> {
         ensures told { IsPrefix told self.new }
     {
         self.parts = self.parts.longer(&told.parts);
-    }
-}
-
-// One look at what is published.
-fn look_in<A: Application, J: WindowName<A::Record>>(
-    reader: CopyReader<A, J>,
-    known: &Prefix<A, J>,
-    key: u32,
-) -> (CopyReader<A, J>, Option<(Prefix<A, J>, Seen<A::Look>)>)
-    requires { key < length J.opened }
-    ensures onward { IfSome result.1 (λ shown. IsPrefix known.now shown.0) }
-    ensures commits { IfSome result.1 (λ shown. shown.1.commits ≡ total shown.0) }
-    ensures value { IfSome result.1 (λ shown. shown.1.value
-        ≡ A.rules.look (record_at A.rules (table_of A.rules J.opened shown.0) key)) }
-{
-    match reader.enter_as::<Unruled>() {
-        Ok(reading) => {
-            let shown = reading.get().look(known, key);
-            (reading.leave(), shown)
-        }
-        Err(reader) => (reader, None),
-    }
-}
-
-// One answer by what is published.
-fn answer_in<A: Application, J: WindowName<A::Record>>(
-    reader: CopyReader<A, J>,
-    known: &Prefix<A, J>,
-    request: A::Request,
-) -> (CopyReader<A, J>, Option<(Prefix<A, J>, Seen<A::Reply>)>)
-    requires { IsWithin A.rules (length J.opened) request }
-    ensures onward { IfSome result.1 (λ shown. IsPrefix known.now shown.0) }
-    ensures commits { IfSome result.1 (λ shown. shown.1.commits ≡ total shown.0) }
-    ensures value { IfSome result.1 (λ shown. shown.1.value
-        ≡ reply A.rules (table_of A.rules J.opened shown.0) request) }
-{
-    match reader.enter_as::<Unruled>() {
-        Ok(reading) => {
-            let shown = reading.get().answer(known, &request);
-            (reading.leave(), shown)
-        }
-        Err(reader) => (reader, None),
     }
 }

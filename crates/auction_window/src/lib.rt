@@ -11,5 +11,6 @@ mod publisher;
 mod window;
 
 pub use phases::{PhaseLog, WindowName, last_rows, rows_of};
-pub use publisher::{MakeFault, Publisher};
-pub use window::{NoGuard, Seen, Told, Window};
+pub use published_parts::{MakeFault, NoGuard};
+pub use publisher::Publisher;
+pub use window::{Seen, Told, Window};

@@ -8,38 +8,11 @@ use crate::auction_copy::{AddPhase, AuctionCopy};
 use crate::phases::{ListOf, PhaseCount, PhaseLog, Prefix, WindowName};
 use crate::window::{Told, Window};
 use auction_rows::{MOST_WORKERS, Row};
-use core::mem::replace_with;
-use crossbeam_utils::rule::Unruled;
 use item_shards::OpeningBook;
-use left_right::Absorb;
-use left_right::writer::Writer;
+use published_parts::{CopyWriter, MakeFault};
 use std::alloc::{AllocError, Global};
 use std::marker::Model;
 use std::sync::Wait;
-use thiserror::Error;
-
-type CopyWriter<J> = Writer<AuctionCopy<J>, AddPhase<J>, (), Unruled>;
-
-/// Why no publisher was made.
-#[derive(Clone, Copy, Debug, PartialEq, Eq, Drop, Error)]
-pub enum MakeFault {
-    /// No memory was left.
-    #[error("no memory")]
-    Memory,
-    /// `left_right` gave a window no reader.
-    #[error("no window")]
-    Reader,
-}
-
-impl From<AllocError> for MakeFault {
-    ghost use Rattle.auction_window.specs.declared.publisher.MakeFault.TheVariants.{Memory};
-
-    ghost from_gives = { λ _ fault. fault ≡ Memory };
-
-    fn from(_refused: AllocError) -> MakeFault {
-        MakeFault::Memory
-    }
-}
 
 /// Publishes the phases of an auction to its windows. It must be spent by `end`. Contracts see the
 /// phases that windows read, and whether it was refused memory.
@@ -48,20 +21,14 @@ impl From<AllocError> for MakeFault {
 /// of the phase published last: one copy lacks them, and takes them in at the next publish, which
 /// then lets them go. It keeps no other rows. After a refusal it keeps the refused rows too, until
 /// `end`.
-pub struct Publisher<J: WindowName>
-where
-    AuctionCopy<J>: Absorb<AddPhase<J>, State = [[Row; 0]; 0]>,
-{
-    writer: CopyWriter<J>,
+pub struct Publisher<J: WindowName> {
+    copies: CopyWriter<AuctionCopy<J>, AddPhase<J>>,
     count: PhaseCount<J>,
     phases: Prefix<J>,
     failed: bool,
 }
 
-impl<J: WindowName> Model for Publisher<J>
-where
-    AuctionCopy<J>: Absorb<AddPhase<J>, State = [[Row; 0]; 0]>,
-{
+impl<J: WindowName> Model for Publisher<J> {
     ghost use Rattle.std.specs.Prelude.{◌≡◌};
     ghost use Rattle.auction_window.specs.Published.{Published};
 
@@ -69,7 +36,7 @@ where
 
     ghost view = { λ p. record { phases = p.phases; failed = p.failed } };
 
-    ghost invariant = { λ p. p.writer.desk.shown.value ≡ p.phases };
+    ghost invariant = { λ p. p.copies ≡ p.phases };
 }
 
 impl<J: WindowName> Publisher<J> {
@@ -94,11 +61,11 @@ impl<J: WindowName> Publisher<J> {
         let (count, phases) = log.named::<ListOf<J>>();
         let first = AuctionCopy::new(alloc, book, phases.again())?;
         let second = AuctionCopy::new(alloc, book, phases.again())?;
-        let writer: CopyWriter<J> = Writer::new(alloc, first, second, windows as usize)?;
-        match open_windows(alloc, &writer, &phases, windows) {
+        let copies = CopyWriter::new(alloc, first, second, windows)?;
+        match copies.windows(alloc, windows, |reader| Window::new(reader, &phases)) {
             Ok(made) => {
                 let publisher = Publisher {
-                    writer,
+                    copies,
                     count,
                     phases,
                     failed: false,
@@ -106,7 +73,7 @@ impl<J: WindowName> Publisher<J> {
                 Ok((publisher, made))
             }
             Err(fault) => {
-                writer.take(rt);
+                copies.end(rt);
                 Err(fault)
             }
         }
@@ -148,12 +115,7 @@ impl<J: WindowName> Publisher<J> {
             return Err(AllocError);
         }
         let told = phases.again();
-        let added = AddPhase::new(rows, phases);
-        replace_with(
-            &mut self.writer,
-            added,
-            |writer, added| show(writer, rt, added),
-        )?;
+        self.copies.show(rt, AddPhase::new(rows, phases))?;
         self.phases = told.again();
         self.failed = false;
         Ok(Told::new(told))
@@ -171,48 +133,11 @@ impl<J: WindowName> Publisher<J> {
     /// done, and takes no memory.
     pub fn end<R: Wait>(self, rt: &R) {
         let Publisher {
-            writer,
+            copies,
             count: _,
             phases: _,
             failed: _,
         } = self;
-        writer.take(rt);
-    }
-}
-
-// So many windows that have shown nothing.
-fn open_windows<J: WindowName>(
-    alloc: Global,
-    writer: &CopyWriter<J>,
-    none: &Prefix<J>,
-    count: u32,
-) -> Result<Vec<Window<J>>, MakeFault>
-    ensures count { IfOk result (λ made. length made.items ≡ count) }
-    ensures nothing { IfOk result (λ made. All (λ window. window ≡ none.now) made.items) }
-{
-    let mut made = Vec::with_capacity(alloc, count as usize)?;
-    for _window in 0..count {
-        let Ok(reader) = writer.factory().reader() else {
-            return Err(MakeFault::Reader);
-        };
-        if made.push(Window::new(reader, none.again())).is_err() {
-            return Err(MakeFault::Memory);
-        }
-    }
-    Ok(made)
-}
-
-// Shows one phase more. Where memory is refused windows read what they read before.
-fn show<J: WindowName, R: Wait>(
-    mut writer: CopyWriter<J>,
-    rt: &R,
-    added: AddPhase<J>,
-) -> (CopyWriter<J>, Result<(), AllocError>)
-    ensures shown { OnOk result.1 (result.0.desk.shown.value ≡ added) }
-    ensures refused { OnErr result.1 (result.0.desk.shown.value ≡ writer.desk.shown.value) }
-{
-    match writer.append(added) {
-        Ok(()) => writer.publish_as::<Unruled, R>(rt),
-        Err(_refused) => (writer, Err(AllocError)),
+        copies.end(rt);
     }
 }

@@ -7,18 +7,8 @@ ghost use Rattle.auction_window.specs.Published.{book_of};
 use crate::auction_copy::AuctionCopy;
 use crate::phases::{Prefix, WindowName};
 use auction_rows::{Reply, Request, is_view};
-use core::mem::replace_with;
-use crossbeam_utils::rule::Unruled;
-use left_right::reader::Reader;
+use published_parts::{CopyReader, NoGuard};
 use std::marker::Model;
-use thiserror::Error;
-
-type CopyReader<J> = Reader<AuctionCopy<J>, (), Unruled>;
-
-/// A view was refused, since the publisher has ended.
-#[derive(Clone, Copy, Debug, PartialEq, Eq, Error)]
-#[error("the publisher has ended")]
-pub struct NoGuard;
 
 /// What a view shows.
 #[derive(Clone, Copy, PartialEq, Eq, Debug)]
@@ -56,7 +46,7 @@ impl<J: WindowName> Told<J> {
 /// last view, or those that it was told of if they are more.
 #[derive(Drop)]
 pub struct Window<J: WindowName> {
-    reader: CopyReader<J>,
+    reader: CopyReader<AuctionCopy<J>>,
     phases: Prefix<J>,
 }
 
@@ -70,10 +60,13 @@ impl<J: WindowName> Model for Window<J> {
 }
 
 impl<J: WindowName> Window<J> {
-    pub(crate) fn new(reader: CopyReader<J>, phases: Prefix<J>) -> Window<J>
-        ensures { result ≡ phases }
+    pub(crate) fn new(reader: CopyReader<AuctionCopy<J>>, phases: &Prefix<J>) -> Window<J>
+        ensures { result ≡ phases.now }
     {
-        Window { reader, phases }
+        Window {
+            reader,
+            phases: phases.again(),
+        }
     }
 
     // The phases that it has shown or was told of.
@@ -99,12 +92,10 @@ impl<J: WindowName> Window<J> {
         if !is_view(request) {
             return Ok(None);
         }
-        let shown = replace_with(&mut self.reader, &self.phases, |reader, known| {
-            look(reader, known, request)
-        });
-        let Some((phases, reply)) = shown else {
-            return Err(NoGuard);
-        };
+        let known = &self.phases;
+        let (phases, reply) = self
+            .reader
+            .read(|copy: &AuctionCopy<J>| copy.view(known, request))?;
         let count = phases.len();
         self.phases = phases;
         Ok(Some(Seen {
@@ -120,23 +111,5 @@ impl<J: WindowName> Window<J> {
         ensures told { IsPrefix told self.new }
     {
         self.phases = self.phases.longer(&told.phases);
-    }
-}
-
-// One view of what is published.
-fn look<J: WindowName>(
-    reader: CopyReader<J>,
-    known: &Prefix<J>,
-    request: Request,
-) -> (CopyReader<J>, Option<(Prefix<J>, Reply)>)
-    ensures onward { IfSome result.1 (λ seen. IsPrefix known.now seen.0) }
-    ensures reply { IfSome result.1 (λ seen. seen.1 ≡ reply J.opening (book_of J.rows seen.0) 0 request) }
-{
-    match reader.enter_as::<Unruled>() {
-        Ok(reading) => {
-            let seen = reading.get().view(known, request);
-            (reading.leave(), seen)
-        }
-        Err(reader) => (reader, None),
     }
 }

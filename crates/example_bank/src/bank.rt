@@ -2,7 +2,8 @@
 ghost use Rattle.std.specs.{List.{AllByRecursion}, Prelude.{◌≡◌, ◌*◌, ◌≤◌}};
 ghost use Rattle.example_bank.specs.Model.{deposited, unchanged, transferred, IsSmall};
 
-use split_engine::{Application, Checkable, Decision, Few};
+use application_check::Checkable;
+use split_engine::{Application, Decision, Few};
 
 /// What the bank is asked.
 #[derive(Clone, Copy)]

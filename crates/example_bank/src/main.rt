@@ -7,10 +7,12 @@ mod load;
 
 use crate::bank::BankRequest::{Balance, Close, Deposit, Transfer};
 use crate::bank::{Account, Bank, BankReply};
-use crate::load::measure;
+use crate::load::{FUNDED, Mix};
 use anyhow::Result;
+use application_check::{Line, check_history};
+use application_loads::measure;
 use program_options::program_words;
-use split_engine::{Line, Outcome, Policy, check_history, check_scripts, run};
+use split_engine::{Outcome, Policy, check_scripts, run};
 use std::alloc::Global;
 use std::io;
 use std::process::ExitCode;
@@ -59,7 +61,7 @@ where
 {
     let words = program_words(rt)?;
     if words.len() > 1 {
-        return measure(rt, &words);
+        return measure::<Bank, Mix, R>(rt, FUNDED, &words);
     }
     show(rt)?;
     Ok(ExitCode::SUCCESS)

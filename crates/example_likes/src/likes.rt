@@ -1,7 +1,8 @@
 //! Users who like pages. Each record is of a user or of a page; requests know which key is whose.
 ghost use Rattle.std.specs.Prelude.{◌≡◌, ◌≤◌};
 
-use split_engine::{Application, Checkable, Decision, Few};
+use application_check::Checkable;
+use split_engine::{Application, Decision, Few};
 
 /// What is asked.
 #[derive(Clone, Copy)]

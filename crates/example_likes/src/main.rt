@@ -5,8 +5,9 @@ mod likes;
 mod load;
 
 use crate::likes::{LikeRequest, Likes, NONE};
-use crate::load::measure;
+use crate::load::Names;
 use anyhow::Result;
+use application_loads::measure;
 use program_options::program_words;
 use split_engine::{Policy, run};
 use std::alloc::Global;
@@ -41,7 +42,7 @@ where
 {
     let words = program_words(rt)?;
     if words.len() > 1 {
-        return measure(rt, &words);
+        return measure::<Likes, Names, R>(rt, NONE, &words);
     }
     show(rt)?;
     Ok(ExitCode::SUCCESS)

@@ -4,8 +4,7 @@ ghost use Rattle.example_phases.specs.Auctions.{IsOfTwo};
 
 use crate::auction::Auction;
 use crate::client::Client;
-use crate::joined::joined_phase;
-use crate::split::split_phase;
+use crate::kinds::{joined_phase, split_phase};
 use anyhow::{Result, bail};
 use auction_rows::Object;
 use auction_run::choose_hot_after;

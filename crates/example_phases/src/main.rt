@@ -5,10 +5,8 @@
 mod auction;
 mod client;
 mod driving;
-mod joined;
-mod pairs;
+mod kinds;
 mod phase;
-mod split;
 
 use crate::auction::Auction;
 use crate::driving::drive;

@@ -1,11 +1,11 @@
 //! A phase of two workers, once it has begun.
-ghost use Rattle.std.specs.Prelude.{◌≡◌, ◌+◌, length, vec_len, IfOk};
+ghost use Rattle.std.specs.Prelude.{◌≡◌, ◌+◌, ◌<◌, ◌∷◌, [], length, vec_len, IfOk};
 ghost use Rattle.phase_floor.specs.Closings.{AreReceiptsOf, IsReceipt};
 ghost use Rattle.example_phases.specs.Auctions.{IsOfTwo};
 
 use crate::auction::Auction;
 use crate::client::Client;
-use crate::pairs::both;
+use auction_rows::{MOST_TRIES, Reply, Request};
 use phase_floor::{Floor, Joined};
 use phase_permits::{Kind, Permit, PermitFault, Receipt, Stash};
 use shard_boxes::PhaseName;
@@ -17,6 +17,20 @@ use worker_journals::History;
 
 /// A kind of phase, with what a worker does in it.
 pub trait Work: Kind {
+    /// Performs a request of the quota: None where it is deferred.
+    fn perform<N: PhaseName, R: Wait>(
+        rt: &R,
+        floor: &Floor<N, Self>,
+        worker: u32,
+        permit: &mut Permit<N, Self>,
+        request: &Request,
+        index: u32,
+    ) -> Result<Option<Reply>, PermitFault>
+        requires left { 0 < permit.old.left }
+        requires tries { permit.old.tries < MOST_TRIES }
+        requires receipt { IsReceipt floor.now worker permit.old }
+        ensures { IsReceipt floor.now worker permit.new };
+
     /// Performs requests of the worker's client, and answers them.
     fn perform_all<N: PhaseName, R: Wait>(
         rt: &R,
@@ -27,6 +41,29 @@ pub trait Work: Kind {
     ) -> Result<(), PermitFault>
         requires { IsReceipt floor.now worker permit.old }
         ensures { IsReceipt floor.now worker permit.new };
+}
+
+/// Performs the client's next request, if it has one, or defers it.
+pub fn perform_next<N: PhaseName, K: Work, R: Wait>(
+    rt: &R,
+    floor: &Floor<N, K>,
+    worker: u32,
+    permit: &mut Permit<N, K>,
+    client: &mut Client,
+) -> Result<(), PermitFault>
+    requires { IsReceipt floor.now worker permit.old }
+    ensures { IsReceipt floor.now worker permit.new }
+{
+    if permit.left() == 0 || permit.tries() >= MOST_TRIES {
+        return Ok(());
+    }
+    let Some((index, request)) = client.ask() else {
+        return Ok(());
+    };
+    match K::perform(rt, floor, worker, permit, &request, index)? {
+        Some(reply) => client.answer(index, reply),
+        None => Ok(()),
+    }
 }
 
 // What a worker has in the phase. Dropped, its permit is spent.
@@ -65,6 +102,17 @@ impl<N: PhaseName, K: Work> Part<N, K> {
         let done = K::perform_all(rt, floor, worker, &mut permit, &mut client);
         (permit.finish(), done.and(Ok(client)))
     }
+}
+
+// The two items of a list.
+fn both<T>(mut items: Vec<T>) -> (T, T)
+    requires { vec_len items ≡ 2 }
+    ensures { items.items ≡ result.0 ∷ result.1 ∷ [] }
+{
+    let first = items.remove(0);
+    let second = items.remove(0);
+    items.destroy_empty();
+    (first, second)
 }
 
 // The floor, and the parts of the two workers.

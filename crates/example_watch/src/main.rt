@@ -1,78 +1,60 @@
-//! Two workers bid on a vase while a thread watches it through a window; and how fast windows are.
+//! Two workers bid on a vase while a thread watches it through a window.
 #![tactic(auto)]
 
-mod measuring;
-mod timed;
 mod watching;
 
-use crate::measuring::measure;
 use crate::watching::watched_run;
 use anyhow::{Result, bail};
-use auction_rows::{ItemId, Refusal, Reply, Request};
+use auction_rows::{Refusal, Reply};
 use auction_window::Seen;
-use program_options::{VERSION, program_words};
+use program_options::{Description, UsageFault, described_program, parse_words, program_words};
 use std::alloc::Global;
 use std::io;
 use std::process::ExitCode;
-use std::rt::{Clock, Env};
+use std::rt::Env;
 use std::sync::Wait;
 use std::thread::Threads;
 
-/// What is asked of the vase.
-pub(crate) const VIEW: Request = Request::ViewItem {
-    item: ItemId {
-        worker: 0,
-        serial: 0,
-    },
-};
-
 const FREE_RUNS: u32 = 20;
 
-const HELP: &str = "\
-Shows an auction to a thread through a window, while two workers bid on a vase.
-
-Usage: example_watch [OPTIONS]
-
-Options:
-  -m, --measure         Measure windows, alone and beside a run: some seconds, on an idle machine
-  -h, --help            Print help
-  -V, --version         Print version
-
-Reads nothing. Writes a line per view, or figures, to standard output.
+// What the program says of itself.
+const DESCRIPTION: Description<'static> = Description {
+    about: "Shows an auction to a thread through a window, while two workers bid on a vase.",
+    usage: "example_watch [OPTIONS]",
+    after: "\
+Reads nothing. Writes a line per view to standard output.
 Faults, this help and the version go to standard error.
-Status: 0 all done, 1 words, help or a fault.";
-
-/// What is done about the program's words.
-enum Done {
-    Performed,
-    AskedForVersion,
-    AskedForHelp,
-}
+Status: 0 all done, 1 words, help or a fault.",
+};
 
 fn main(rt: HostRuntime) -> ExitCode {
-    // What can't be written still has its status.
-    let _ = match perform(&rt) {
-        Ok(Done::Performed) => return ExitCode::SUCCESS,
-        Ok(Done::AskedForVersion) => eprintln!(rt; "example_watch {VERSION}"),
-        Ok(Done::AskedForHelp) => eprintln!(rt; "{HELP}"),
-        Err(fault) => eprintln!(rt; "{fault}"),
-    };
-    ExitCode::FAILURE
+    match perform(&rt) {
+        Ok(status) => status,
+        Err(fault) => {
+            // What can't be written still has its status.
+            let _ = eprintln!(rt; "{fault}");
+            ExitCode::FAILURE
+        }
+    }
 }
 
-// Does what the program's words ask for.
-fn perform<R>(rt: &R) -> Result<Done>
+// Shows the auction, unless the program's words ask for something else.
+fn perform<R>(rt: &R) -> Result<ExitCode>
 where
-    R: Env + Print + Alloc<A = Global> + Threads + Wait + Sync + Clock,
+    R: Env + Print + Eprint + Alloc<A = Global> + Threads + Wait + Sync,
 {
+    let alloc = rt.alloc();
     let words = program_words(rt)?;
-    match words.get(1).map(String::as_str) {
-        None => watch(rt, rt.alloc())?,
-        Some("--measure" | "-m") => measure(rt, rt.alloc())?,
-        Some("--version" | "-V") => return Ok(Done::AskedForVersion),
-        Some(_) => return Ok(Done::AskedForHelp),
+    let command = described_program(alloc, "example_watch", DESCRIPTION);
+    match parse_words(alloc, command, &words) {
+        Ok(_) => watch(rt, alloc)?,
+        Err(UsageFault::Text(text)) => {
+            eprint!(rt; "{text}")?;
+            return Ok(ExitCode::FAILURE);
+        }
+        Err(fault) => return Err(fault.into()),
     }
-    Ok(Done::Performed)
+    Ok(ExitCode::SUCCESS)
 }
 
 // Watches a run that waits for its watcher, and then runs that don't.

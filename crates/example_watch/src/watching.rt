@@ -2,9 +2,8 @@
 ghost use Rattle.std.specs.Prelude.{◌≡◌};
 ghost use Rattle.item_shards.specs.OpeningBooks.{opening_of, rows_of_book};
 
-use crate::VIEW;
 use anyhow::{Result, bail};
-use auction_rows::{Opening, Request};
+use auction_rows::{ItemId, Opening, Request};
 use auction_run::{Gate, Policy, RunFault, WindowBoard, run_shown};
 use auction_text::read_scripts;
 use auction_window::{PhaseLog, Publisher, Seen, Window, WindowName};
@@ -18,8 +17,16 @@ use std::thread;
 use std::thread::{JoinHandle, Threads};
 
 // The scripts of docs/EXAMPLE.md, which take three phases. Here the second worker looks at user 0.
-const SCRIPTS: &[u8] =
-    b"0,item,0,0,Vase,10,100,1\n1,viewuser,0\n0,bid,0,0.0,10,1\n1,viewuser,0\n0,bid,1,0.0,20,2\n1,bid,2,0.0,25,2\n0,viewitem,0.0\n0,bid,1,0.0,30,3\n";
+const SCRIPTS: &[u8] = b"\
+0,item,0,0,Vase,10,100,1
+1,viewuser,0
+0,bid,0,0.0,10,1
+1,viewuser,0
+0,bid,1,0.0,20,2
+1,bid,2,0.0,25,2
+0,viewitem,0.0
+0,bid,1,0.0,30,3
+";
 
 const PHASES: u64 = 3;
 
@@ -34,6 +41,14 @@ const POLICY: Policy = Policy {
     split_quota: 3,
     threshold: 1,
     hot_max: 8,
+};
+
+// What the window is asked: the vase.
+const VIEW: Request = Request::ViewItem {
+    item: ItemId {
+        worker: 0,
+        serial: 0,
+    },
 };
 
 const MOST_TRIES: u64 = 1_000_000_000;
@@ -53,31 +68,43 @@ pub fn watched_run<R: Threads + Wait + Sync>(
     };
     let gate = Arc::new(alloc, gate)?;
     let own = Arc::try_clone(&gate)?;
-    perform::<Brand, R>(rt, alloc, PhaseLog::new(), &book, input.scripts, &gate, own)
+    let run = Run {
+        log: PhaseLog::new(),
+        book,
+        scripts: input.scripts,
+    };
+    perform::<Brand, R>(rt, alloc, run, &gate, own)
 }
 
-// The watcher has the gate as its own.
+// What a run is made of: the list of phases that it will publish, the book that opens its auction,
+// and its scripts.
+struct Run {
+    log: PhaseLog,
+    book: OpeningBook,
+    scripts: Vec<Vec<Request>>,
+}
+
+// A run with one window. The watcher has the gate as its own.
 fn perform<J: WindowName + Send + Sync + 'static, R: Threads + Wait + Sync>(
     rt: &R,
     alloc: Global,
-    log: PhaseLog,
-    book: &OpeningBook,
-    scripts: Vec<Vec<Request>>,
+    run: Run,
     gate: &Steps,
     own: Arc<Steps, Global>,
 ) -> Result<Vec<Seen>>
-    requires log { log ≡ J.log }
-    requires opening { opening_of book.now ≡ J.opening }
-    requires rows { rows_of_book book.now ≡ J.rows }
+    requires log { run.log ≡ J.log }
+    requires opening { opening_of run.book ≡ J.opening }
+    requires rows { rows_of_book run.book ≡ J.rows }
 {
-    let (publisher, mut windows) = Publisher::<J>::new(rt, alloc, log, book, 1)?;
+    let Run { log, book, scripts } = run;
+    let (publisher, mut windows) = Publisher::<J>::new(rt, alloc, log, &book, 1)?;
     let window = windows.remove(0);
     let Ok(watcher) = thread::spawn(rt, move || watch(alloc, window, &own)) else {
         publisher.end(rt);
         bail!("the watcher was not started");
     };
     let mut board = WindowBoard::new(publisher);
-    let performed = run_shown(rt, alloc, book, scripts, POLICY, gate, &mut board);
+    let performed = run_shown(rt, alloc, &book, scripts, POLICY, gate, &mut board);
     let WindowBoard { publisher, told: _ } = board;
     end_run(rt, publisher, watcher, performed.err())
 }

@@ -1,7 +1,10 @@
 -- The text of requests, as records that can be read.
 use Rattle.std.specs.{Fmt.{signed_decimal}, Prelude.{ℕ, List, ◌++◌, codes, decimal}}
-use Rattle.auction_rows.specs.declared.requests.Request.TheVariants.{StoreItem, StoreBid, StoreComment, BuyNow, ViewItem, ViewBids, ViewCategory, ViewUser}
-use Rattle.auction_rows.specs.declared.{values.Stars.Stars, requests.ItemId.ItemId, requests.Facts.Facts, requests.Request.Request}
+use Rattle.auction_rows.specs.declared.requests.Request.TheVariants.{StoreItem, StoreBid}
+use Rattle.auction_rows.specs.declared.requests.Request.TheVariants.{StoreComment, BuyNow, ViewItem}
+use Rattle.auction_rows.specs.declared.requests.Request.TheVariants.{ViewBids, ViewCategory, ViewUser}
+use Rattle.auction_rows.specs.declared.{values.Stars.Stars, requests.ItemId.ItemId}
+use Rattle.auction_rows.specs.declared.requests.{Facts.Facts, Request.Request}
 use Rattle.auction_text.specs.RowLines.{quoted}
 use Rattle.byte_texts.specs.Labels.{labelled, labelled_id}
 use Rattle.load_program.specs.declared.load.ScriptLine.{ScriptLine}

@@ -1,9 +1,12 @@
 -- What rows and requests name.
 use Rattle.std.specs.Prelude.{ℕ, ◌≡◌, ◌<◌, ◌+◌, ◌%◌, ◌/◌, All, IfSome}
 use Rattle.auction_rows.specs.Requests.{users_of, categories_of, item_of}
-use Rattle.auction_rows.specs.declared.requests.Request.TheVariants.{StoreItem, StoreBid, StoreComment, BuyNow, ViewItem, ViewBids, ViewCategory, ViewUser}
+use Rattle.auction_rows.specs.declared.requests.Request.TheVariants.{StoreItem, StoreBid}
+use Rattle.auction_rows.specs.declared.requests.Request.TheVariants.{StoreComment, BuyNow, ViewItem}
+use Rattle.auction_rows.specs.declared.requests.Request.TheVariants.{ViewBids, ViewCategory, ViewUser}
 use Rattle.auction_rows.specs.declared.rows.Row.TheVariants.{Item, Bid, Comment, Buy}
-use Rattle.auction_rows.specs.declared.{requests.ItemId.ItemId, requests.Request.Request, rows.ItemRow.ItemRow, rows.Row.Row}
+use Rattle.auction_rows.specs.declared.{requests.ItemId.ItemId, requests.Request.Request}
+use Rattle.auction_rows.specs.declared.{rows.ItemRow.ItemRow, rows.Row.Row}
 use Rattle.load_program.specs.declared.{load.ScriptLine.{ScriptLine}, plan.Counts.{Counts}}
 use Rattle.load_program.specs.declared.plan.{Mix.{Mix}, Plan.{Plan}}
 
@@ -26,7 +29,8 @@ pub record NamesStored (counts : Counts) (request : Request) : Type 0 where
 -- the request's kind has a share in the mix; bids have the rest
 abbrev pub HasShare : Mix → Request → Type 0
 HasShare mix (StoreItem facts time) = 0 < mix.new_items
-HasShare mix (StoreBid bidder item amount time) = mix.views + mix.comments + mix.purchases + mix.new_items < 100
+HasShare mix (StoreBid bidder item amount time) =
+    mix.views + mix.comments + mix.purchases + mix.new_items < 100
 HasShare mix (StoreComment author about item stars) = 0 < mix.comments
 HasShare mix (BuyNow buyer item quantity time) = 0 < mix.purchases
 HasShare mix (ViewItem item) = 0 < mix.views
@@ -34,7 +38,8 @@ HasShare mix (ViewBids item) = 0 < mix.views
 HasShare mix (ViewCategory category) = 0 < mix.views
 HasShare mix (ViewUser user) = 0 < mix.views
 
--- The line at an index is of the worker whose turn it is, what it names is there, and its kind has a share.
+-- The line at an index is of the worker whose turn it is, what it names is there, and its kind has
+-- a share.
 pub record IsLineAt (plan : Plan) (index : ℕ) (line : ScriptLine) : Type 0 where
   pub worker : line.worker ≡ index % plan.counts.workers
   pub names : NamesStored plan.counts line.request

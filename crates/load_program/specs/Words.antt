@@ -69,7 +69,9 @@ pub record SayPlan (text : List ℕ → Option (List ℕ)) (plan : Plan) : Type 
 
 -- no worker has more rows and requests than the auction takes
 abbrev pub Fits : Counts → Type 0
-Fits counts = div_ceil counts.items counts.workers + div_ceil counts.requests counts.workers ≤ MOST_OF_A_WORKER
+Fits counts =
+    div_ceil counts.items counts.workers + div_ceil counts.requests counts.workers
+    ≤ MOST_OF_A_WORKER
 
 -- The texts of options say shares of more than a hundred percent.
 pub record SayTooMuch (text : List ℕ → Option (List ℕ)) : Type 0 where
@@ -83,11 +85,13 @@ pub record SayTooMuch (text : List ℕ → Option (List ℕ)) : Type 0 where
   pub said_new_items : SaysNumber 0 100 (text (codes "new-items")) new_items
   pub over : 100 < views + comments + purchases + new_items
 
--- The texts of options say counts by which the first worker has more rows and requests than the auction takes.
+-- The texts of options say counts by which the first worker has more rows and requests than the
+-- auction takes.
 pub record SayTooLong (text : List ℕ → Option (List ℕ)) : Type 0 where
   pub counts : Counts
   pub said : SayCounts text counts
-  pub over : MOST_OF_A_WORKER < div_ceil counts.items counts.workers + div_ceil counts.requests counts.workers
+  pub over : MOST_OF_A_WORKER
+      < div_ceil counts.items counts.workers + div_ceil counts.requests counts.workers
 
 -- why words that the parser takes are refused
 abbrev pub IsCauseOf : (List ℕ → Option (List ℕ)) → PlanFault → Type 0

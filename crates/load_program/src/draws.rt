@@ -2,7 +2,8 @@
 ghost use Rattle.std.specs.Prelude.{◌≡◌, ◌+◌, ◌<◌, ◌≤◌, IfOk, length};
 ghost use Rattle.auction_rows.specs.declared.limits.TheConstants.{MOST_QUANTITY};
 ghost use Rattle.load_program.specs.Loads.{EachFrom};
-ghost use Rattle.load_program.specs.Stored.{HasShare, IsLineAt, IsRowAt, IsStored, NamesStored, item_at};
+ghost use Rattle.load_program.specs.Stored.{HasShare, IsLineAt, IsRowAt, IsStored, NamesStored};
+ghost use Rattle.load_program.specs.Stored.{item_at};
 
 use crate::load::ScriptLine;
 use crate::plan::{Counts, Plan};
@@ -26,6 +27,7 @@ const STOCK: u64 = MOST_QUANTITY as u64;
 /// What draws go by: a plan, and how popular its items are.
 #[derive(Drop)]
 pub struct Market {
+    /// The plan.
     pub plan: Plan,
     popularity: Popularity,
     ghost same_items: { popularity.count ≡ plan.counts.items },
@@ -162,7 +164,8 @@ impl Market {
     }
 
     fn bid(&self, rng: &mut Xoshiro256PlusPlus, time: u64) -> Request
-        requires { self.now.plan.mix.views + self.now.plan.mix.comments + self.now.plan.mix.purchases + self.now.plan.mix.new_items < 100 }
+        requires { self.now.plan.mix.views + self.now.plan.mix.comments
+            + self.now.plan.mix.purchases + self.now.plan.mix.new_items < 100 }
         ensures names { NamesStored self.now.plan.counts result }
         ensures share { HasShare self.now.plan.mix result }
     {
@@ -216,7 +219,8 @@ impl Market {
     ) -> Result<Vec<Row>, AllocError>
         requires { first ≤ end }
         ensures count { IfOk result (λ rows. first + length rows.items ≡ end) }
-        ensures each { IfOk result (λ rows. EachFrom (IsRowAt self.now.plan.counts) first rows.items) }
+        ensures each { IfOk result (λ rows.
+            EachFrom (IsRowAt self.now.plan.counts) first rows.items) }
     {
         let mut rows = Vec::with_capacity(alloc, (end - first) as usize)?;
         for place in first..end {
@@ -236,7 +240,8 @@ impl Market {
     ) -> Result<Vec<ScriptLine>, AllocError>
         requires { first ≤ end }
         ensures count { IfOk result (λ lines. first + length lines.items ≡ end) }
-        ensures each { IfOk result (λ lines. EachFrom (IsLineAt self.now.plan) first lines.items) }
+        ensures each { IfOk result (λ lines.
+            EachFrom (IsLineAt self.now.plan) first lines.items) }
     {
         let counts = self.plan.counts;
         let mut lines = Vec::with_capacity(alloc, (end - first) as usize)?;

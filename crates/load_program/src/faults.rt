@@ -3,6 +3,7 @@ ghost use Rattle.std.specs.{Io.KnownBytes.{Appends}, Prelude.{◌≡◌, IfErr, 
 ghost use Rattle.byte_texts.specs.declared.writing.WriteFault.{WriteFault};
 ghost use Rattle.load_program.specs.Faults.{status, parser_words};
 
+use auction_rows::MOST_OF_A_WORKER;
 use byte_texts::WriteFault;
 use program_options::UsageFault;
 use std::alloc::AllocError;
@@ -19,7 +20,7 @@ pub enum PlanFault {
     #[error("shares of more than 100 percent")]
     Shares,
     /// A worker would have more rows and requests than the auction takes.
-    #[error("more than 1000000 rows and requests for a worker")]
+    #[error("more than {} rows and requests for a worker", MOST_OF_A_WORKER)]
     TooLong,
 }
 
@@ -32,10 +33,13 @@ pub enum Fault {
     /// No memory was left for the law of popularity. Nothing was written.
     #[error("no memory")]
     Memory,
-    /// A part of the load could not be made or written: what was written before it is the load's
+    /// No memory was left for a block of the load: what was written before it is the load's
     /// beginning.
-    #[error("{0}")]
-    Write(WriteFault),
+    #[error("no memory")]
+    Block,
+    /// The load could not be written: what was written is its beginning.
+    #[error("{}", WriteFault::Write)]
+    Write,
 }
 
 impl From<AllocError> for Fault {
@@ -49,23 +53,26 @@ impl From<AllocError> for Fault {
 }
 
 impl From<WriteFault> for Fault {
-    ghost use Rattle.load_program.specs.declared.faults.Fault.TheVariants.{Write};
+    ghost use Rattle.load_program.specs.Faults.{fault_of};
 
-    ghost from_gives = { λ cause fault. fault ≡ Write cause };
+    ghost from_gives = { λ cause fault. fault ≡ fault_of cause };
 
     fn from(cause: WriteFault) -> Fault {
-        Fault::Write(cause)
+        match cause {
+            WriteFault::Memory => Fault::Block,
+            WriteFault::Write => Fault::Write,
+        }
     }
 }
 
-/// The exit status of a fault: 1 for options, 3 for memory, 4 for writing.
+/// The exit status of a fault: 1 for options, 3 for memory before the load, 4 for a part of it.
 pub fn status(fault: &Fault) -> u8
     ensures { result ≡ status fault.now }
 {
     match fault {
         Fault::Plan(_) => 1,
         Fault::Memory => 3,
-        Fault::Write(_) => 4,
+        Fault::Block | Fault::Write => 4,
     }
 }
 

@@ -1,8 +1,11 @@
 //! The lines of requests, as the auction reads them, and the writing of a load, a chunk at a time.
-ghost use Rattle.std.specs.{Io.KnownBytes.{Appends}, List.{flat_map}};
-ghost use Rattle.std.specs.Prelude.{◌≡◌, ◌++◌, IfOk, OnOk, Err};
-ghost use Rattle.load_program.specs.Lines.{bid_text, buy_text, comment_text, item_text, line_text, request_text};
-ghost use Rattle.load_program.specs.Loads.{WritesLines, WritesLoad, WritesRows};
+ghost use Rattle.std.specs.List.{flat_map};
+ghost use Rattle.std.specs.Prelude.{◌≡◌, ◌≢◌, ◌++◌, IfErr, IfOk, OnErr, OnOk, Err};
+ghost use Rattle.byte_texts.specs.Writing.{WritesText};
+ghost use Rattle.load_program.specs.Lines.{bid_text, buy_text, comment_text, item_text};
+ghost use Rattle.load_program.specs.Lines.{line_text, request_text};
+ghost use Rattle.load_program.specs.Loads.{WritesLines, WritesLoad, WritesPart, WritesRows};
+ghost use Rattle.load_program.specs.Loads.{WritesSomeLines, WritesSomeRows};
 ghost use Rattle.load_program.specs.declared.faults.Fault.{Fault};
 
 use crate::draws::Market;
@@ -11,7 +14,7 @@ use crate::plan::Plan;
 use auction_rows::{Facts, ItemId, Quantity, Request, Stars};
 use auction_text::{push_quoted, write_rows};
 use byte_texts::{
-    WriteFault, push_labelled, push_labelled_id, push_number, push_signed, push_text,
+    WriteFault, push_labelled, push_labelled_id, push_number, push_signed, push_text, write_last,
 };
 use rand::SeedableRng;
 use rand_xoshiro::Xoshiro256PlusPlus;
@@ -67,7 +70,8 @@ fn push_comment(
     item: ItemId,
     stars: Stars,
 ) -> Result<(), AllocError>
-    ensures { OnOk result (text.new.items ≡ text.old.items ++ comment_text author about item stars) }
+    ensures { OnOk result (text.new.items
+        ≡ text.old.items ++ comment_text author about item stars) }
 {
     push_labelled(text, b",comment,", u64::from(author))?;
     push_labelled(text, b",", u64::from(about))?;
@@ -161,8 +165,12 @@ fn write_items<W: Write>(
     writer: &mut W,
     market: &Market,
     rng: &mut Xoshiro256PlusPlus,
-) -> Result<(), WriteFault>
-    ensures { OnOk result (WritesRows market.now.plan.counts market.now.plan.counts.items (W.contents writer.old) (W.contents writer.new)) }
+) -> Result<(), Fault>
+    ensures whole { OnOk result (WritesRows market.now.plan.counts market.now.plan.counts.items
+        (W.contents writer.old) (W.contents writer.new)) }
+    ensures part { OnErr result (WritesSomeRows market.now.plan.counts
+        (W.contents writer.old) (W.contents writer.new)) }
+    ensures not_memory { IfErr result (λ fault. fault ≢ Fault.Memory) }
 {
     let counts = market.plan.counts;
     let history = History::new(alloc);
@@ -170,7 +178,7 @@ fn write_items<W: Write>(
     while first < counts.items {
         let end = (first + CHUNK).min(counts.items);
         let Ok(rows) = market.rows(alloc, rng, first, end) else {
-            return Err(WriteFault::Memory);
+            return Err(Fault::Block);
         };
         write_rows(alloc, writer, rows.as_slice(), &history)?;
         first = end;
@@ -184,15 +192,12 @@ fn write_lines<W: Write>(
     writer: &mut W,
     lines: &[ScriptLine],
 ) -> Result<(), WriteFault>
-    ensures { OnOk result (Appends (W.contents writer.old) (W.contents writer.new) (flat_map line_text lines.now)) }
+    ensures { WritesText W.contents writer.old writer.new (flat_map line_text lines.now) result }
 {
     let Ok(text) = lines_text(alloc, lines) else {
         return Err(WriteFault::Memory);
     };
-    if writer.write_all(text.as_slice()).is_err() || writer.flush().is_err() {
-        return Err(WriteFault::Write);
-    }
-    Ok(())
+    write_last(writer, text.as_slice())
 }
 
 // Writes the requests.
@@ -201,15 +206,19 @@ fn write_requests<W: Write>(
     writer: &mut W,
     market: &Market,
     rng: &mut Xoshiro256PlusPlus,
-) -> Result<(), WriteFault>
-    ensures { OnOk result (WritesLines market.now.plan market.now.plan.counts.requests (W.contents writer.old) (W.contents writer.new)) }
+) -> Result<(), Fault>
+    ensures whole { OnOk result (WritesLines market.now.plan market.now.plan.counts.requests
+        (W.contents writer.old) (W.contents writer.new)) }
+    ensures part { OnErr result (WritesSomeLines market.now.plan
+        (W.contents writer.old) (W.contents writer.new)) }
+    ensures not_memory { IfErr result (λ fault. fault ≢ Fault.Memory) }
 {
     let counts = market.plan.counts;
     let mut first = 0;
     while first < counts.requests {
         let end = (first + CHUNK).min(counts.requests);
         let Ok(lines) = market.lines(alloc, rng, first, end) else {
-            return Err(WriteFault::Memory);
+            return Err(Fault::Block);
         };
         write_lines(alloc, writer, lines.as_slice())?;
         first = end;
@@ -218,9 +227,12 @@ fn write_requests<W: Write>(
 }
 
 /// Writes the load of a plan: a row for each item, and then the requests. `Memory` comes before the
-/// first byte; where a part can't be made or written, what stands before it is written.
+/// first byte; after `Block` and `Write` a prefix of the load was written.
 pub fn write_load<W: Write>(alloc: Global, writer: &mut W, plan: &Plan) -> Result<(), Fault>
-    ensures whole { OnOk result (WritesLoad plan.now (W.contents writer.old) (W.contents writer.new)) }
+    ensures whole { OnOk result (WritesLoad plan.now
+        (W.contents writer.old) (W.contents writer.new)) }
+    ensures part { OnErr result (WritesPart plan.now
+        (W.contents writer.old) (W.contents writer.new)) }
     ensures memory { result ≡ Err Fault.Memory → writer.new ≡ writer.old }
 {
     let market = Market::new(alloc, plan)?;

@@ -1,8 +1,10 @@
 //! The options of the program.
-ghost use Rattle.std.specs.Prelude.{◌≡◌, IfOk, IfErr, MatchOption, OnOk, false, codes, map, string_bytes};
+ghost use Rattle.std.specs.Prelude.{◌≡◌, IfOk, IfErr, MatchOption, OnOk, false};
+ghost use Rattle.std.specs.Prelude.{codes, map, string_bytes};
 ghost use Rattle.clap.specs.Words.{app_of, found_of, one_text, rule_of};
 ghost use Rattle.program_options.specs.{Options.{SaysNumber}, Words.{AreTaken, text_in}};
-ghost use Rattle.load_program.specs.Words.{Fits, IsCauseOf, SayCounts, SayMix, SayPlan, SayTooMuch, plain_seed_rule, program, seed_rule};
+ghost use Rattle.load_program.specs.Words.{Fits, IsCauseOf, SayCounts, SayMix, SayPlan, SayTooMuch};
+ghost use Rattle.load_program.specs.Words.{plain_seed_rule, program, seed_rule};
 
 use crate::faults::PlanFault;
 use crate::plan::{Counts, Mix, Plan};

@@ -25,7 +25,8 @@ impl Mix {
         requires comments { comments ≤ 100 }
         requires purchases { purchases ≤ 100 }
         requires new_items { new_items ≤ 100 }
-        ensures views { MatchOption result (100 < views + comments + purchases + new_items) (λ mix. mix.views ≡ views) }
+        ensures views { MatchOption result (100 < views + comments + purchases + new_items)
+            (λ mix. mix.views ≡ views) }
         ensures comments { IfSome result (λ mix. mix.comments ≡ comments) }
         ensures purchases { IfSome result (λ mix. mix.purchases ≡ purchases) }
         ensures new_items { IfSome result (λ mix. mix.new_items ≡ new_items) }
@@ -72,7 +73,8 @@ impl Counts {
     /// The rows and requests of the first worker, who has the most: both are dealt out to the
     /// workers in turn.
     pub fn most_of_a_worker(&self) -> u64
-        ensures { result ≡ div_ceil self.now.items self.now.workers + div_ceil self.now.requests self.now.workers }
+        ensures { result ≡ div_ceil self.now.items self.now.workers
+            + div_ceil self.now.requests self.now.workers }
     {
         let counts = *self;
         let rows = counts.items.div_ceil(counts.workers);

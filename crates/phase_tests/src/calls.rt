@@ -1,10 +1,7 @@
 //! Calls that take memory, each with its answer printed: the first requests of a permit, and phases
 //! by hand. `tests/library_calls.py` runs these tests by name, with each allocation refused in
 //! turn.
-mod closing;
 mod first_requests;
-mod joined;
 mod phases;
 mod printing;
-mod split;
 mod tests;

@@ -1,6 +1,6 @@
-//! How tests compare, a view that waits, four new shards, and their boxes with the key of one worker
-//! or of two.
-ghost use Rattle.std.specs.Prelude.{◌≡◌, length, map, IfOk};
+//! How tests compare, a list of one item, a view that waits, four new shards, and their boxes with
+//! the key of one worker or of two.
+ghost use Rattle.std.specs.Prelude.{◌≡◌, ◌∷◌, [], length, map, IfOk};
 ghost use Rattle.shard_boxes.specs.{Keys.{IsNewKey}, States.{state_of}};
 ghost use Rattle.phase_transactions.specs.Workers.{IsUnused};
 ghost use Rattle.phase_tests.specs.NewShards.{AreFourNew, BeginsWith};
@@ -18,6 +18,15 @@ use worker_journals::Journal;
 /// Ends the test where these are not the same.
 pub(crate) fn assert_same<T: PartialEq + Debug + Drop>(rt: &impl Abort, got: T, wanted: T) {
     assert_eq!(rt; got, wanted);
+}
+
+/// A list of this one item.
+pub(crate) fn list_of<T>(rt: &impl Abort, alloc: Global, item: T) -> Vec<T>
+    ensures { result.items ≡ item ∷ [] }
+{
+    let mut items = Vec::with_capacity(alloc, 1).expect(rt, "memory");
+    items.push_reserved(item);
+    items
 }
 
 /// A stash in which a view of this user waits, with this index.

@@ -23,8 +23,8 @@ use Rattle.phase_transactions.specs.declared.{deeds.Deeds.{Deeds}, done.PermitFa
 use Rattle.phase_transactions.specs.declared.done.PermitFault.TheVariants.{Memory}
 use Rattle.phase_transactions.specs.declared.taken.Begun.{Begun}
 use Rattle.phase_transactions.specs.inner.Begun.{Step, FirstHas, HasBegun, HasFirst, HasRoomFor, IsAnsweredOn, IsSeen, MayBegin}
-use Rattle.phase_transactions.specs.inner.Deeds.{IsReplyBy, IsNextIf, AreDeedsOf, AreGoodOn, acts_for, event_with, found_on, written_of, footprint_on}
-use Rattle.phase_transactions.specs.inner.{HeldShards.{written_acts, IsAsTaken}, Homes.{AreHomesOf}}
+use Rattle.phase_transactions.specs.inner.Deeds.{IsReplyBy, IsNextIf, AreDeedsOf, AreGoodOn, acts_for, event_with, found_on, acts_dealt, footprint_on}
+use Rattle.phase_transactions.specs.inner.{HeldShards.{two_acts, IsAsTaken}, Homes.{AreHomesOf}}
 use Rattle.phase_transactions.specs.inner.Takens.{footprint_of, held_in, numbers_of, is_one_of, dealt, line_among, CanBeDoneOnAll, AreBack}
 use Rattle.worker_slices.specs.Homes.{IsHomeOf, shard_at}
 use Rattle.worker_slices.specs.Slicing.{hot_objects, stocks_of, stock_of}
@@ -128,7 +128,7 @@ module _ {N : Type 0} (step : Step) (w : WorkerState) (request : Request) (b : B
       → AllByRecursion (AreGoodOn (shard_at deeds.home) (shard_at deeds.other) (event_with seen reply deeds.first) (event_with seen reply deeds.second)) (held_in b.taken)
       → IsAnswered (setting_of w (length step.initial)) w.counters (txn_of w b.number request index reply (found_on seen b.taken))
       → HasPutAll step.initial w.key new.key (is_one_of (numbers_of (held_in b.taken)))
-      (line_among b.number index (held_in b.taken) (dealt b.taken (written_acts (written_of deeds b.number index))))
+      (line_among b.number index (held_in b.taken) (dealt b.taken (two_acts (acts_dealt deeds))))
       → new ≡ record (after_commit w b.number index request reply) { key = new.key } → HasCommitted step.initial (record w { key = step.key }) new request index reply
   begun_commits new index reply seen deeds foot owed good answered put committed =
       store_commits step.initial (record w { key = step.key }) new w.key request step.homes b.taken begun.taken begun.may.asked index b.number reply seen deeds foot owed good begun.may.allowed
@@ -177,6 +177,6 @@ module _ {N : Type 0} (step : Step) (w : WorkerState) (request : Request) (b : B
           (λ item needs. found_there b.taken (shard_at step.homes.item) (shard_at step.homes.other) item seen begun.taken.numbers (λ t at. is_seen.found item t needs at))
           (λ stores. room_there b.taken (shard_at step.homes.item) (shard_at step.homes.other) (next_item w) begun.taken.numbers (room stores))
 
-      pub begun_can : footprint_on deeds ≡ footprint_of step.homes → CanBeDoneOnAll b.number (held_in b.taken) (dealt b.taken (written_acts (written_of deeds b.number 0)))
+      pub begun_can : footprint_on deeds ≡ footprint_of step.homes → CanBeDoneOnAll b.number (held_in b.taken) (dealt b.taken (two_acts (acts_dealt deeds)))
       begun_can foot =
           can_deal seen reply deeds.first deeds.second b.number b.taken (shard_at deeds.home) (shard_at deeds.other) (begun.taken.numbers ∙ sym foot) (clocks_below b.taken w.clock b.number begun.numbered) begun_good

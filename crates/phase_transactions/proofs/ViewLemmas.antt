@@ -1,5 +1,5 @@
 -- A view: its one shard, and what it does there.
-use Rattle.std.proofs.Common.{◌≡◌, ℕ, true, false, cond, List, [], ◌∷◌, length, Option, Some, None, MatchOption, refl, sym, ap, subst, ◌∙◌}
+use Rattle.std.proofs.Common.{◌≡◌, ℕ, ◌||◌, suc, max, true, false, cond, List, [], ◌∷◌, length, Option, Some, None, MatchOption, refl, sym, ap, subst, ◌∙◌, arith, eq-eqb}
 use Rattle.std.proofs.lemmas.{Bool.{true≢false, false≢true}, Option.{same_Some}}
 use Rattle.std.specs.List.{AllByRecursion}
 use Rattle.auction_rows.specs.{Footprint.{is_hot}, Refusals.{number_refusal}}
@@ -9,7 +9,7 @@ use Rattle.auction_rows.specs.declared.requests.Object.TheVariants.{Item, User, 
 use Rattle.auction_rows.specs.declared.requests.Request.TheVariants.{StoreItem, StoreBid, StoreComment, BuyNow, ViewItem, ViewBids, ViewCategory, ViewUser}
 use Rattle.auction_rows.specs.declared.{values.Stars.Stars, requests.ItemId.ItemId, requests.Facts.Facts, requests.Object.Object, requests.Request.Request, replies.Reply.Reply}
 use Rattle.item_shards.specs.{Contents.{target}, Looking.{IsTrueOf}}
-use Rattle.item_shards.specs.{ShardContents.{contents, LiesIn}, Writing.{padded, done_on}}
+use Rattle.item_shards.specs.{ShardContents.{clock, contents, LiesIn}, Writing.{padded, done_on}}
 use Rattle.item_shards.specs.declared.shard.acts.Act.TheVariants.{Look}
 use Rattle.item_shards.specs.declared.shard.acts.Look.{Look as LookedAt}
 use Rattle.item_shards.specs.declared.shard.acts.Look.TheVariants as look
@@ -28,12 +28,11 @@ use Rattle.phase_transactions.specs.Putting.{HasPutAll}
 use Rattle.phase_transactions.specs.Txns.{IsReplyTo, IsAnswered, is_put_off, reason_seen, refusal_seen, ReadSet}
 use Rattle.phase_transactions.specs.Workers.{WorkerState, setting_of, txn_of, with_entry, after_commit}
 use Rattle.phase_transactions.specs.declared.{deeds.Deeds.{Deeds}, taken.Begun.{Begun}}
-use Rattle.phase_transactions.specs.declared.taken.Taken.{Taken}
-use Rattle.phase_transactions.specs.inner.Begun.{Step, HasBegun, IsOnOne, look_for, viewed}
+use Rattle.phase_transactions.specs.declared.taken.{BegunOne.{BegunOne}, Taken.{Taken}}
+use Rattle.phase_transactions.specs.inner.Begun.{Step, begun_of, CanView, HasBegun, HasBegunSome, look_for, viewed}
 use Rattle.phase_transactions.specs.inner.Deeds.{AreDeedsOf, AreGoodOn, acts_for, found_on, event_with, first_dealt, second_dealt, shown_with}
-use Rattle.phase_transactions.specs.inner.{HeldShards.{IsAsTaken}, Homes.{AreHomesOf}}
+use Rattle.phase_transactions.specs.inner.{HeldShards.{IsAsTaken, IsHeldFor}, Homes.{AreHomesOf}}
 use Rattle.phase_transactions.specs.inner.Takens.{each_once, footprint_of, held_in, numbers_of, is_one_of, dealt, line_among}
-use Rattle.phase_transactions.specs.inner.Viewing.{IsShownBy}
 use Rattle.phase_transactions.specs.declared.taken.Taken.TheVariants as taken
 
 -- the home of the object that is viewed
@@ -73,6 +72,15 @@ view_else (StoreComment author about item stars) no_item no_bid no_comment no_bu
 view_else (BuyNow buyer item quantity time) no_item no_bid no_comment no_buy = absurd (no_buy buyer item quantity time refl)
 view_else request no_item no_bid no_comment no_buy = refl
 
+-- and what is no view looks at nothing
+pub look_else : (request : Request) → ((item : ItemId) → request ≡ ViewItem item → ⊥) → ((item : ItemId) → request ≡ ViewBids item → ⊥)
+    → ((category : ℕ) → request ≡ ViewCategory category → ⊥) → ((user : ℕ) → request ≡ ViewUser user → ⊥) → look.Nothing ≡ look_for request
+look_else (ViewItem item) no_item no_bids no_category no_user = absurd (no_item item refl)
+look_else (ViewBids item) no_item no_bids no_category no_user = absurd (no_bids item refl)
+look_else (ViewCategory category) no_item no_bids no_category no_user = absurd (no_category category refl)
+look_else (ViewUser user) no_item no_bids no_category no_user = absurd (no_user user refl)
+look_else request no_item no_bids no_category no_user = refl
+
 -- a view shows one object
 pub shows_one : (request : Request) → is_view request ≡ true → (object : Object) × (viewed request ≡ Some object)
 shows_one (ViewItem item) view = (Item item, refl)
@@ -110,6 +118,42 @@ view_entered w number index (ViewBids item) reply view = refl
 view_entered w number index (ViewCategory category) reply view = refl
 view_entered w number index (ViewUser user) reply view = refl
 view_entered w number index request reply view = absurd (false≢true view)
+
+-- one shard was taken, and can show what a view asks for
+abbrev IsOnOne : {N : Type 0} → Request → Taken N → Type 0
+IsOnOne request taken.Nothing = ⊥
+IsOnOne request (taken.One one) = CanView one.shard request
+IsOnOne request (taken.Two one other) = ⊥
+
+one_long : {N : Type 0} (request : Request) (took : Taken N) → IsOnOne request took → length (held_in took) ≡ 1
+one_long request taken.Nothing can = absurd can
+one_long request (taken.One one) can = refl
+one_long request (taken.Two one other) can = absurd can
+
+-- a transaction with its one shard
+module _ {N : Type 0} (b : Begun N) (one : BegunOne N) (is : b ≡ begun_of one) where
+  pub key_of_one : one.key.value ≡ b.key.value
+  key_of_one = ap (λ (of : Begun N). of.key.value) (sym is)
+
+  pub can_view : (request : Request) → IsOnOne request b.taken → CanView one.held.shard request
+  can_view request on = subst (λ (of : Begun N). IsOnOne request of.taken) is on
+
+  pub begun_on_one : {step : Step} {w : WorkerState} {request : Request} → HasBegun step w request b → b.key.value ≡ step.key → HasBegunSome step.initial step.workers step.boxes w request (begun_of one)
+  begun_on_one {step} {w} {request} begun key_is = (
+    step.homes,
+    subst (λ (k : KeyState). HasBegun (record step { key = k }) w request (begun_of one)) (sym (key_of_one ∙ key_is)) (subst (HasBegun step w request) is begun),
+  )
+
+-- its shard can go back with a line
+pub one_held : {N : Type 0} {step : Step} {w : WorkerState} {request : Request} (one : BegunOne N) → HasBegun step w request (begun_of one) → IsHeldFor step.initial w.key one.held one.number
+one_held {N} {step} {w} {request} one begun =
+    let numbered : one.number ≡ suc (max w.clock (max (clock one.held.shard) 0)) = begun.numbered in
+    record {
+      holder = begun.held.holds one.held.number ∙ ap (λ b. b || false) (eq-eqb one.held.number one.held.number refl);
+      taken = begun.taken.taken.0.state_is;
+      later = omega (arith, numbered);
+      within = begun.within;
+    }
 
 module _ {N : Type 0} (step : Step) (w : WorkerState) (request : Request) (b : Begun N) (begun : HasBegun step w request b) (view : is_view request ≡ true) where
   abbrev initial : List ShardState
@@ -156,6 +200,9 @@ module _ {N : Type 0} (step : Step) (w : WorkerState) (request : Request) (b : B
         }
     go its all numbers = absurd (cc)
 
+  pub took_one : HaveOpening initial w.opening → length (held_in took) ≡ 1
+  took_one openings = one_long request took (on_one openings)
+
   -- what it did is a commit
   view_answered : (index : ℕ) (reply : Reply) (found : ReadSet) → ((counters : Counters) (worker : ℕ) → IsReplyTo counters worker request reply) → IsAnswered (setting_of w (length initial)) w.counters (txn_of w number request index reply found)
   view_answered index reply found answers =
@@ -173,15 +220,16 @@ module _ {N : Type 0} (step : Step) (w : WorkerState) (request : Request) (b : B
       ap (λ acts. padded (done_on t (length initial) (hot_objects w.slices) acts)) (view_acts w.journal.worker request reply view)
       ∙ one_owed w.slices (length initial) t owed h (done_is w.slices (length initial) t object h its_home.1.at owed (view_about request reply object (shows_one request view).1))
 
-  pub view_commits : (new : WorkerState) (index : ℕ) (reply : Reply) (looks_at : LookedAt) → IsShownBy took request looks_at reply
+  pub view_commits : (new : WorkerState) (index : ℕ) (reply : Reply) (looks_at : LookedAt) → looks_at ≡ look_for request → ((counters : Counters) (worker : ℕ) → IsReplyTo counters worker request reply)
+      → AllByRecursion (λ (held : HeldState). IsTrueOf (contents held.shard) (shown_with None reply looks_at)) (held_in took)
       → HasPutAll initial w.key new.key (is_one_of (numbers_of (held_in took))) (line_among number index (held_in took) (dealt took (Look looks_at ∷ Look look.Nothing ∷ [])))
       → new ≡ record (after_commit w number index request reply) { key = new.key } → HasCommittedSome initial (record w { key = key }) new request index
-  view_commits new index reply looks_at saw put committed =
+  view_commits new index reply looks_at asked answers shows put committed =
       let deeds : Deeds = record { first = Look looks_at; second = Look look.Nothing; home = h; other = home.Nowhere } in
       let lines = λ (a : Option ℕ). line_among number index (held_in took) (dealt took (first_dealt (Look looks_at) (Look look.Nothing) a None ∷ second_dealt (Look looks_at) (Look look.Nothing) a None ∷ [])) in
       let owed = λ (l : LookedAt). AreDeedsOf w.slices (length initial) (acts_for w.journal.worker None request reply) (event_with None reply (Look l)) (event.Look shown.Nothing) h home.Nowhere in (
         reply,
-        begun_commits step w request b begun new index reply None deeds (ap (λ a. each_once a None) its_shard.1 ∙ sym (its_home.1.only n its_shard.1)) (subst owed (sym saw.asked) (view_owed reply))
-            (look_good (shard_at h) None reply looks_at (held_in took) saw.holds) (view_answered index reply (found_on None took) saw.answers)
+        begun_commits step w request b begun new index reply None deeds (ap (λ a. each_once a None) its_shard.1 ∙ sym (its_home.1.only n its_shard.1)) (subst owed (sym asked) (view_owed reply))
+            (look_good (shard_at h) None reply looks_at (held_in took) shows) (view_answered index reply (found_on None took) answers)
             (subst (λ a. HasPutAll initial w.key new.key (is_one_of (numbers_of (held_in took))) (lines a)) (sym its_shard.1) put) committed,
       )

@@ -3,6 +3,7 @@ ghost use Rattle.std.specs.Prelude.{◌≡◌, ℕ, None, Some, false, true};
 ghost use Rattle.auction_rows.specs.{ItemViews.{item_told}, Requests.{is_view, item_of}};
 ghost use Rattle.auction_rows.specs.StoreReplies.{reply_of};
 ghost use Rattle.auction_rows.specs.declared.requests.Request.TheVariants.{ViewItem};
+ghost use Rattle.auction_rows.specs.declared.requests.BidEntry.{BidEntry as BidEntryValue};
 ghost use Rattle.auction_rows.specs.declared.requests.ItemId.{ItemId as ItemIdValue};
 ghost use Rattle.auction_rows.specs.declared.requests.Object.{Object as ObjectValue};
 ghost use Rattle.item_shards.specs.{Answering.{bid_request}, Looking.{IsTrueOf}};
@@ -11,18 +12,17 @@ ghost use Rattle.item_shards.specs.declared.shard.acts.Look.TheVariants as look;
 ghost use Rattle.worker_slices.specs.{Homes.{IsHomeOf, shard_at}, Slicing.{stocks_of, stock_of}};
 ghost use Rattle.worker_slices.specs.declared.counters.Counters.{Counters as CountersValue};
 ghost use Rattle.phase_transactions.specs.Txns.{IsReplyTo};
-ghost use Rattle.phase_transactions.specs.inner.Begun.{CanView, FirstHas, IsOnOne, IsRefusedBy, look_for};
+ghost use Rattle.phase_transactions.specs.inner.Begun.{CanView, FirstHas, IsRefusedBy, look_for};
 ghost use Rattle.phase_transactions.specs.inner.Deeds.{IsReplyUnless, shown_with};
 ghost use Rattle.phase_transactions.specs.inner.{Homes.{HasHomes}, Viewing.{IsShownBy}};
 
-use crate::deeds::BidCall;
 use crate::taken::{Taken, refusal_in};
 use crate::worker::Worker;
 use auction_rows::{
     BuyId, CommentId, Facts, ItemId, ItemView, Refusal, Reply, Request, StoreReply,
 };
 use item_shards::{Look, Shard, refusal_with};
-use shard_boxes::PhaseName;
+use shard_boxes::{Held, PhaseName};
 use worker_slices::{Home, Homes};
 
 impl<N: PhaseName> Worker<N> {
@@ -61,9 +61,9 @@ impl<N: PhaseName> Worker<N> {
 
     /// The reply to a bid: the reason to refuse it, or else the worker's next id.
     #[inline(always)]
-    pub(crate) fn reply_to_bid(&self, refused: Option<Refusal>, bid: &BidCall) -> StoreReply
-        ensures { IsReplyUnless self.now refused (bid_request bid.now.item bid.now.entry)
-            (reply_of result) }
+    pub(crate) fn reply_to_bid(&self, refused: Option<Refusal>) -> StoreReply
+        ensures { (item : ItemIdValue) → (bid : BidEntryValue) →
+            IsReplyUnless self.now refused (bid_request item bid) (reply_of result) }
     {
         match refused {
             Some(reason) => StoreReply::Refused(reason),
@@ -97,10 +97,9 @@ impl<N: PhaseName> Worker<N> {
     }
 }
 
-/// What a view looks at.
+/// What a view looks at: nothing for a store.
 #[inline(always)]
 pub(crate) fn look_of(request: &Request) -> Look
-    requires { is_view request.now ≡ true }
     ensures { result ≡ look_for request.now }
 {
     match *request {
@@ -108,33 +107,27 @@ pub(crate) fn look_of(request: &Request) -> Look
         Request::ViewBids { item } => Look::Bids(item),
         Request::ViewCategory { category } => Look::Category(category),
         Request::ViewUser { user } => Look::User(user),
-        _ => unreachable!(),
+        _ => Look::Nothing,
     }
 }
 
 /// What the one shard that a view takes replies.
 #[inline(always)]
-pub(crate) fn view_on<N: PhaseName>(taken: &Taken<N>, request: &Request) -> Reply
+pub(crate) fn view_on<N: PhaseName>(held: &Held<N>, request: &Request) -> Reply
     requires view { is_view request.now ≡ true }
-    requires one { IsOnOne request.now taken.now }
-    ensures { IsShownBy taken.now request.now (look_for request.now) result }
+    requires can { CanView held.now.shard request.now }
+    ensures { IsShownBy held.now.shard request.now (look_for request.now) result }
 {
-    match taken {
-        Taken::One(one) => view(one.shard(), request),
-        Taken::Nothing | Taken::Two(_, _) => unreachable!(),
-    }
+    view(held.shard(), request)
 }
 
 /// What the one shard that the view of an item takes shows of it: None if it is not stored.
 #[inline(always)]
-pub(crate) fn item_on<N: PhaseName>(taken: &Taken<N>, item: ItemId) -> Option<ItemView>
-    requires { IsOnOne (ViewItem item) taken.now }
-    ensures { IsShownBy taken.now (ViewItem item) (look.Item item) (item_told result) }
+pub(crate) fn item_on<N: PhaseName>(held: &Held<N>, item: ItemId) -> Option<ItemView>
+    requires { CanView held.now.shard (ViewItem item) }
+    ensures { IsShownBy held.now.shard (ViewItem item) (look.Item item) (item_told result) }
 {
-    match taken {
-        Taken::One(one) => one.shard().item_seen(item),
-        Taken::Nothing | Taken::Two(_, _) => unreachable!(),
-    }
+    held.shard().item_seen(item)
 }
 
 // What a shard in which its object lies replies to a view.

@@ -3,9 +3,9 @@ ghost use Rattle.std.specs.Prelude.{◌≡◌, ℕ, false, Option};
 ghost use Rattle.auction_rows.specs.{Requests.{is_view}, StoreReplies.{reply_of}};
 ghost use Rattle.auction_rows.specs.declared.requests.Facts.{Facts as FactsValue};
 ghost use Rattle.phase_transactions.specs.inner.Begun.{AreGoodFor, AreOwedBy, HaveFootprint};
-ghost use Rattle.phase_transactions.specs.inner.Deeds.{written_of, IsBid};
+ghost use Rattle.phase_transactions.specs.inner.Deeds.{acts_dealt, IsBid};
 
-use auction_rows::{BidEntry, ItemEntry, ItemId, Request, StoreReply};
+use auction_rows::{ItemEntry, Request, StoreReply};
 use item_shards::{Act, Look};
 use worker_journals::Answer;
 use worker_slices::{Home, Homes};
@@ -14,14 +14,6 @@ use worker_slices::{Home, Homes};
 #[derive(Clone, Copy)]
 pub(crate) struct Call<'a> {
     pub(crate) request: &'a Request,
-    pub(crate) index: u32,
-}
-
-/// A bid of the quota: what it writes unless it is refused, and its index in the script.
-#[derive(Clone, Copy)]
-pub(crate) struct BidCall {
-    pub(crate) item: ItemId,
-    pub(crate) entry: BidEntry,
     pub(crate) index: u32,
 }
 
@@ -102,8 +94,8 @@ impl Deeds {
 
     /// The two acts as they are dealt: both to one shard, or one to each of two.
     #[inline(always)]
-    pub(crate) fn written(self, number: u64, index: u32) -> Written
-        ensures { result ≡ written_of self number index }
+    pub(crate) fn dealt(self) -> (Act, Act)
+        ensures { result ≡ acts_dealt self }
     {
         let Deeds {
             mut first,
@@ -118,20 +110,13 @@ impl Deeds {
             first = second;
             second = Act::Look(Look::Nothing);
         }
-        Written {
-            number,
-            index,
-            first,
-            second,
-        }
+        (first, second)
     }
 }
 
-/// What a transaction writes on its shards, at its number, of the request of this index: two acts.
-#[derive(Drop)]
-pub(crate) struct Written {
+/// The number of a commit, and the index of its request in the script.
+#[derive(Clone, Copy)]
+pub(crate) struct Numbered {
     pub(crate) number: u64,
     pub(crate) index: u32,
-    pub(crate) first: Act,
-    pub(crate) second: Act,
 }

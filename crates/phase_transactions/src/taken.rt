@@ -7,14 +7,15 @@ ghost use Rattle.item_shards.specs.{Answering.{refusal_with}, CommitNumbers.{las
 ghost use Rattle.phase_transactions.specs.Putting.{CanDo, line_of, HasPutAll};
 ghost use Rattle.phase_transactions.specs.inner.Begun.{states_in, FirstHas, FirstHasRoom};
 ghost use Rattle.phase_transactions.specs.inner.Deeds.{stock_taken};
-ghost use Rattle.phase_transactions.specs.inner.HeldShards.{written_acts, IsHeldFor, IsPutWith};
+ghost use Rattle.phase_transactions.specs.inner.HeldShards.{two_acts, IsHeldFor, IsPutWith};
 ghost use Rattle.phase_transactions.specs.inner.Takens.{footprint_of, is_one_of, greatest_held, held_in, numbers_of, dealt, line_among, HasTakenAll, AreHeldAll, AreBack, CanBeDoneOnAll, IsReady};
 
-use crate::deeds::Written;
+use crate::deeds::Numbered;
 use auction_rows::{ItemId, Refusal, Request};
 use item_shards::{Act, Look, next_number, refusal_with};
 use shard_boxes::{Boxes, Held, Key, PhaseName};
 use std::alloc::AllocError;
+use std::snapshot::Snapshot;
 use std::sync::Wait;
 use worker_slices::Homes;
 
@@ -28,26 +29,37 @@ pub(crate) enum Taken<N: PhaseName> {
     Two(Held<N>, Held<N>),
 }
 
-impl<N: PhaseName> Taken<N> {
-    ghost use Rattle.phase_transactions.specs.declared.taken.Taken.TheVariants.{One};
-
-    /// The shard of a transaction that has taken one.
-    #[inline(always)]
-    pub(crate) fn one(self) -> Held<N>
-        requires { length (held_in self) ≡ 1 }
-        ensures { self ≡ One result }
-    {
-        match self {
-            Taken::One(one) => one,
-            _ => unreachable!(),
-        }
-    }
-}
-
 /// A transaction that has taken its shards, with its number.
 pub(crate) struct Begun<N: PhaseName> {
     pub(crate) taken: Taken<N>,
     pub(crate) number: u64,
+    // The key before it took a shard: only proofs read it.
+    pub(crate) key: Snapshot<Key<N>>,
+}
+
+/// A transaction that has taken one shard, with its number.
+pub(crate) struct BegunOne<N: PhaseName> {
+    pub(crate) held: Held<N>,
+    pub(crate) number: u64,
+    // The key before it took the shard: only proofs read it.
+    pub(crate) key: Snapshot<Key<N>>,
+}
+
+impl<N: PhaseName> Begun<N> {
+    ghost use Rattle.phase_transactions.specs.inner.Begun.{begun_of};
+
+    /// The transaction with its one shard.
+    #[inline(always)]
+    pub(crate) fn one(self) -> BegunOne<N>
+        requires { length (held_in self.taken) ≡ 1 }
+        ensures { self ≡ begun_of result }
+    {
+        let Begun { taken, number, key } = self;
+        match taken {
+            Taken::One(held) => BegunOne { held, number, key },
+            _ => unreachable!(),
+        }
+    }
 }
 
 /// Takes the shards of a footprint, in ascending order, each once.
@@ -145,34 +157,22 @@ pub(crate) fn put_all<N: PhaseName>(
     boxes: &Boxes<N>,
     key: &mut Key<N>,
     taken: Taken<N>,
-    written: Written,
+    at: Numbered,
+    acts: (Act, Act),
 )
     requires held { AreHeldAll N.initial N.workers boxes.now key.old (held_in taken) }
-    requires within { written.number ≤ last_number }
-    requires can { CanBeDoneOnAll written.number (held_in taken)
-        (dealt taken (written_acts written)) }
+    requires within { at.number ≤ last_number }
+    requires can { CanBeDoneOnAll at.number (held_in taken) (dealt taken (two_acts acts)) }
     ensures { HasPutAll N.initial key.old key.new (is_one_of (numbers_of (held_in taken)))
-        (line_among written.number written.index (held_in taken)
-        (dealt taken (written_acts written))) }
+        (line_among at.number at.index (held_in taken) (dealt taken (two_acts acts))) }
 {
+    let (first, second) = acts;
     match taken {
         Taken::Nothing => {}
-        Taken::One(one) => put_with_line(boxes, key, one, written),
+        Taken::One(one) => put_with_line(boxes, key, one, at, &[first, second]),
         Taken::Two(item, other) => {
-            let on_item = Written {
-                number: written.number,
-                index: written.index,
-                first: written.first,
-                second: Act::Look(Look::Nothing),
-            };
-            put_with_line(boxes, key, item, on_item);
-            let on_other = Written {
-                number: written.number,
-                index: written.index,
-                first: written.second,
-                second: Act::Look(Look::Nothing),
-            };
-            put_with_line(boxes, key, other, on_other);
+            put_with_line(boxes, key, item, at, &[first, Act::Look(Look::Nothing)]);
+            put_with_line(boxes, key, other, at, &[second, Act::Look(Look::Nothing)]);
         }
     }
 }
@@ -183,15 +183,15 @@ pub(crate) fn put_with_line<N: PhaseName>(
     boxes: &Boxes<N>,
     key: &mut Key<N>,
     mut held: Held<N>,
-    written: Written,
+    at: Numbered,
+    acts: &[Act; 2],
 )
     requires of { key.old.boxes ≡ boxes.now }
-    requires held { IsHeldFor N.initial key.old held written.number }
-    requires can { CanDo held.shard (written_acts written) }
+    requires held { IsHeldFor N.initial key.old held at.number }
+    requires can { CanDo held.shard acts.now }
     ensures { IsPutWith N.initial key.old key.new held
-        (line_of written.number written.index (written_acts written) held.shard) }
+        (line_of at.number at.index acts.now held.shard) }
 {
-    let acts = [written.first, written.second];
-    let trace = held.act(written.number, written.index, &acts);
+    let trace = held.act(at.number, at.index, acts);
     boxes.put_acted(key, held, trace);
 }

@@ -3,20 +3,22 @@ ghost use Rattle.std.specs.List.{AllByRecursion};
 ghost use Rattle.std.specs.Prelude.{◌≡◌, ◌<◌, ◌≤◌, ◌↔◌, suc, None, Some, IsNone, IfNone, IfSome, IfOk, IfErr, false, true, length};
 ghost use Rattle.auction_rows.specs.{Refusals.{number_refusal}, Requests.{is_view}};
 ghost use Rattle.auction_rows.specs.StoreReplies.{reply_of};
-ghost use Rattle.item_shards.specs.{Answering.{bid_request}, CommitNumbers.{last_number}};
-ghost use Rattle.shard_boxes.specs.Keys.{KeyState};
+ghost use Rattle.item_shards.specs.CommitNumbers.{last_number};
 ghost use Rattle.phase_transactions.specs.declared.done.PermitFault.TheVariants.{NumberFull};
 ghost use Rattle.phase_transactions.specs.inner.Deeds.{IsBid};
 
 use crate::answers::{item_on, look_of, view_on};
-use crate::deeds::{BidCall, Call, Deeds, Store, View, Written};
+use crate::deeds::{Call, Deeds, Numbered, Store, View};
 use crate::done::PermitFault;
-use crate::taken::{Begun, make_room, number_on, put_all, put_back, take_all};
+use crate::taken::{
+    Begun, BegunOne, make_room, number_on, put_all, put_back, put_with_line, take_all,
+};
 use crate::worker::Worker;
 use auction_rows::{BidEntry, Refusal, Request, StoreReply, number_refusal};
 use item_shards::{Act, Look, next_number, refusal_with};
 use shard_boxes::{Boxes, PhaseName};
 use std::alloc::AllocError;
+use std::snapshot::Snapshot;
 use std::sync::Wait;
 use worker_journals::{Answer, BidRequest, ReplyForm};
 use worker_slices::Homes;
@@ -24,10 +26,9 @@ use worker_slices::Homes;
 impl<N: PhaseName> Worker<N> {
     ghost use Rattle.auction_rows.specs.declared.requests.Request.{Request as RequestValue};
     ghost use Rattle.worker_slices.specs.{Homes.{IsHotStore, shard_at}, Slicing.{hot_objects}};
-    ghost use Rattle.worker_slices.specs.declared.homes.Homes.{Homes as HomesValue};
     ghost use Rattle.phase_transactions.specs.Performing.{CanTransact, HasCommitted, HasCommittedSome, HasFailed, HasPerformed, HasStoredSome, HaveOpening, StoresItem};
-    ghost use Rattle.phase_transactions.specs.{Txns.{is_put_off}, Workers.{next_bid}};
-    ghost use Rattle.phase_transactions.specs.inner.Begun.{step_of, HasBegun, HasFirst, HasRoomFor, IsAnsweredBy, IsOnOne, MayBegin, states_in};
+    ghost use Rattle.phase_transactions.specs.Txns.{is_put_off};
+    ghost use Rattle.phase_transactions.specs.inner.Begun.{step_of, begun_of, CanView, HasBegun, HasBegunSome, HasFirst, HasRoomFor, IsAnsweredBy, MayBegin, states_in};
     ghost use Rattle.phase_transactions.specs.inner.{Homes.{HasHomes}, Storing.{HasStoredOrIsFull}};
     ghost use Rattle.phase_transactions.specs.inner.Takens.{footprint_of, IsReady};
     ghost use Rattle.phase_transactions.specs.inner.Viewing.{IsShownBy};
@@ -67,7 +68,8 @@ impl<N: PhaseName> Worker<N> {
         }
     }
 
-    /// Performs a bid of the quota, as `transact` does.
+    /// Performs a bid of the quota, as `transact` does. If its item lies in a shard, it is found
+    /// there once.
     pub fn transact_bid<R: Wait>(
         &mut self,
         rt: &R,
@@ -78,36 +80,18 @@ impl<N: PhaseName> Worker<N> {
         requires { CanTransact N.initial boxes.now self.old (request_of bid.now) }
         ensures { HasPerformed N.initial self.old self.new (request_of bid.now) index result }
     {
-        let BidRequest {
-            bidder,
-            item,
-            amount,
-            time,
-        } = *bid;
         let entry = BidEntry {
-            amount,
-            time,
+            amount: bid.amount,
+            time: bid.time,
             id: self.next_bid(),
-            bidder,
+            bidder: bid.bidder,
         };
-        self.bid(rt, boxes, &BidCall { item, entry, index })
-    }
-
-    // Performs a bid. If its item lies in a shard, it is found there once.
-    fn bid<R: Wait>(&mut self, rt: &R, boxes: &Boxes<N>, bid: &BidCall) -> Result<(), PermitFault>
-        requires id { bid.now.entry.id ≡ next_bid self.old }
-        requires can { CanTransact N.initial boxes.now self.old
-            (bid_request bid.now.item bid.now.entry) }
-        ensures { HasPerformed N.initial self.old self.new
-            (bid_request bid.now.item bid.now.entry) bid.now.index result }
-    {
-        let BidCall { item, entry, index } = *bid;
         // The request is made anew: then the compiler knows its kind.
         let request = &Request::StoreBid {
-            bidder: entry.bidder,
-            item,
-            amount: entry.amount,
-            time: entry.time,
+            bidder: bid.bidder,
+            item: bid.item,
+            amount: bid.amount,
+            time: bid.time,
         };
         let call = Call { request, index };
         if let Some(reason) = number_refusal(self.opening, *request) {
@@ -119,13 +103,17 @@ impl<N: PhaseName> Worker<N> {
         }
 
         let begun = self.begin(rt, boxes, &homes)?;
-        let Begun { taken, number } = begun;
-        let mut held = taken.one();
-        let (trace, refused) = held.bid(number, index, item, entry);
+        let one = begun.one();
+        let BegunOne {
+            mut held,
+            number,
+            key: _,
+        } = one;
+        let (trace, refused) = held.bid(number, index, bid.item, entry);
         boxes.put_acted(&mut self.key, held, trace);
         // The item is in a shard, so no slice is written.
         let answer = Answer {
-            form: ReplyForm::Store(self.reply_to_bid(refused, bid)),
+            form: ReplyForm::Store(self.reply_to_bid(refused)),
         };
         self.add_entry(number, call, &answer);
         Ok(())
@@ -158,7 +146,11 @@ impl<N: PhaseName> Worker<N> {
         // The shards are taken in ascending order, each once, before anything is read.
         let mut begun = self.begin(rt, boxes, &homes)?;
         if self.prepare(&mut begun, request).is_err() {
-            let Begun { taken, number: _ } = begun;
+            let Begun {
+                taken,
+                number: _,
+                key: _,
+            } = begun;
             put_back(boxes, &mut self.key, taken);
             return Err(PermitFault::Memory);
         }
@@ -185,6 +177,7 @@ impl<N: PhaseName> Worker<N> {
         requires ready { IsReady boxes.now self.old.key }
         requires known { AllByRecursion (λ s. s < length N.initial) (footprint_of homes.now) }
         ensures worker { self.new ≡ record self.old { key = self.new.key } }
+        ensures key { IfOk result (λ begun. begun.key.value ≡ self.old.key) }
         ensures begun { IfOk result (λ begun. (request : RequestValue) →
             MayBegin (length N.initial) self.old request homes.now → HasBegun
             (step_of N.initial N.workers boxes.now self.old.key homes.now)
@@ -193,9 +186,10 @@ impl<N: PhaseName> Worker<N> {
             MayBegin (length N.initial) self.old request homes.now →
             HasFailed N.initial self.old self.new request fault) }
     {
+        let key = Snapshot::of(&self.key);
         let taken = take_all(rt, boxes, &mut self.key, homes);
         match number_on(&taken, self.clock) {
-            Some(number) => Ok(Begun { taken, number }),
+            Some(number) => Ok(Begun { taken, number, key }),
             None => {
                 put_back(boxes, &mut self.key, taken);
                 Err(PermitFault::NumberFull)
@@ -208,6 +202,7 @@ impl<N: PhaseName> Worker<N> {
     fn prepare(&self, begun: &mut Begun<N>, request: &Request) -> Result<(), AllocError>
         requires begun { HasFirst self.now request.now begun.old.taken }
         ensures number { begun.new.number ≡ begun.old.number }
+        ensures key { begun.new.key.value ≡ begun.old.key.value }
         ensures same { states_in begun.new.taken ≡ states_in begun.old.taken }
         ensures room { IfOk result (λ _. HasRoomFor self.now request.now begun.new.taken) }
         ensures refused { IfErr result (λ _. StoresItem request.now) }
@@ -224,23 +219,26 @@ impl<N: PhaseName> Worker<N> {
         requires store { is_view store.now.call.request.now ≡ false }
         requires no_bid { ¬ IsBid store.now.call.request.now }
         requires opened { HaveOpening N.initial self.old.opening }
-        requires begun { (key : KeyState) × HasBegun
-            (step_of N.initial N.workers boxes.now key store.now.homes.now)
+        requires begun { HasBegun
+            (step_of N.initial N.workers boxes.now begun.key.value store.now.homes.now)
             self.old store.now.call.request.now begun }
         requires room { HasRoomFor self.old store.now.call.request.now begun.taken }
         requires answered { IsAnsweredBy self.old store.now.call.request.now
             store.now.homes.now begun.taken (reply_of store.now.reply) }
         requires left { 0 < self.old.left }
-        ensures { (key : KeyState) → HasBegun
-            (step_of N.initial N.workers boxes.now key store.now.homes.now)
-            self.old store.now.call.request.now begun →
-            HasCommitted N.initial (record self.old { key = key }) self.new
+        ensures { HasCommitted N.initial (record self.old { key = begun.key.value }) self.new
             store.now.call.request.now store.now.call.index (reply_of store.now.reply) }
     {
-        let Begun { taken, number } = begun;
+        let Begun {
+            taken,
+            number,
+            key: _,
+        } = begun;
         let deeds = Deeds::of(store.call.request, store.reply, store.homes);
-        let written = deeds.written(number, store.call.index);
-        put_all(boxes, &mut self.key, taken, written);
+        let acts = deeds.dealt();
+        let index = store.call.index;
+        let at = Numbered { number, index };
+        put_all(boxes, &mut self.key, taken, at, acts);
         self.add_store(number, store);
     }
 
@@ -320,71 +318,63 @@ impl<N: PhaseName> Worker<N> {
         }
         let homes = self.homes(request);
         let begun = self.begin(rt, boxes, &homes)?;
+        let one = begun.one();
         if let Request::ViewItem { item } = *request {
-            let seen = item_on(&begun.taken, item);
+            let seen = item_on(&one.held, item);
             let view = View {
                 call,
                 look: Look::Item(item),
                 answer: Answer::of_item(&seen),
             };
-            self.put_view(boxes, begun, &view);
+            self.put_view(boxes, one, &view);
             return Ok(());
         }
-        self.show_whole(boxes, begun, call);
+        self.show_whole(boxes, one, call);
         Ok(())
     }
 
     // Shows what a view asks for on the shard that it took, by a whole reply. Not inlined: the view
     // of an item needs no room for one on the stack.
     #[inline(never)]
-    fn show_whole(&mut self, boxes: &Boxes<N>, begun: Begun<N>, call: Call<'_>)
+    fn show_whole(&mut self, boxes: &Boxes<N>, one: BegunOne<N>, call: Call<'_>)
         requires view { is_view call.request.now ≡ true }
-        requires one { IsOnOne call.request.now begun.taken }
-        requires opened { HaveOpening N.initial self.old.opening }
-        requires begun { (homes : HomesValue) × (key : KeyState) × HasBegun
-            (step_of N.initial N.workers boxes.now key homes)
-            self.old call.request.now begun }
+        requires can { CanView one.held.shard call.request.now }
+        requires begun { HasBegunSome N.initial N.workers boxes.now
+            self.old call.request.now (begun_of one) }
         requires left { 0 < self.old.left }
-        ensures { (homes : HomesValue) → (key : KeyState) → HasBegun
-            (step_of N.initial N.workers boxes.now key homes)
-            self.old call.entry.request.now begun →
-            HasCommittedSome N.initial (record self.old { key = key }) self.new
+        ensures { HasCommittedSome N.initial (record self.old { key = one.key.value }) self.new
             call.entry.request.now call.entry.index }
     {
-        let reply = view_on(&begun.taken, call.request);
+        let reply = view_on(&one.held, call.request);
         let view = View {
             call,
             look: look_of(call.request),
             answer: Answer::of(&reply),
         };
-        self.put_view(boxes, begun, &view);
+        self.put_view(boxes, one, &view);
     }
 
     // Puts the shard of a view back with its line, and commits it.
     #[inline(always)]
-    fn put_view(&mut self, boxes: &Boxes<N>, begun: Begun<N>, view: &View<'_>)
+    fn put_view(&mut self, boxes: &Boxes<N>, one: BegunOne<N>, view: &View<'_>)
         requires view { is_view view.now.call.request.now ≡ true }
-        requires opened { HaveOpening N.initial self.old.opening }
-        requires begun { (homes : HomesValue) × (key : KeyState) × HasBegun
-            (step_of N.initial N.workers boxes.now key homes)
-            self.old view.now.call.request.now begun }
-        requires shown { IsShownBy begun.taken
+        requires begun { HasBegunSome N.initial N.workers boxes.now
+            self.old view.now.call.request.now (begun_of one) }
+        requires shown { IsShownBy one.held.shard
             view.now.call.request.now view.now.look view.now.answer }
         requires left { 0 < self.old.left }
-        ensures { (homes : HomesValue) → (key : KeyState) → HasBegun
-            (step_of N.initial N.workers boxes.now key homes)
-            self.old view.now.call.request.now begun →
-            HasCommittedSome N.initial (record self.old { key = key }) self.new
+        ensures { HasCommittedSome N.initial (record self.old { key = one.key.value }) self.new
             view.now.call.request.now view.now.call.index }
     {
-        let Begun { taken, number } = begun;
-        let written = Written {
+        let BegunOne {
+            held,
             number,
-            index: view.call.index,
-            first: Act::Look(view.look),
-            second: Act::Look(Look::Nothing),
-        };
-        put_all(boxes, &mut self.key, taken, written);
+            key: _,
+        } = one;
+        let acts = [Act::Look(view.look), Act::Look(Look::Nothing)];
+        let index = view.call.index;
+        let at = Numbered { number, index };
+        put_with_line(boxes, &mut self.key, held, at, &acts);
         self.add_entry(number, view.call, &view.answer);
     }
 }

@@ -1,3 +1,4 @@
 pub mod Prefixes
 pub mod Adding
 pub mod Growing
+pub mod CopyLemmas

@@ -56,6 +56,13 @@ seen_line taken line = record {
   acts = first_two (events_of taken.contents line.acts);
 }
 
+-- two acts, of which the second one is refused for this reason, if there is one: then it is a look
+-- at nothing
+abbrev pub acts_unless : Option Refusal → List Act → List Act
+acts_unless None acts = acts
+acts_unless (Some reason) [] = []
+acts_unless (Some reason) (act ∷ acts) = act ∷ Look look.Nothing ∷ []
+
 -- the second act of a bid: the bid, unless it is refused
 abbrev pub bid_act : ItemId → BidEntry → Option Refusal → Act
 bid_act item bid None = Bid item bid

@@ -11,6 +11,7 @@ use crate::line::{Line, Trace};
 use crate::shard_box::ShardBox;
 use item_shards::Shard;
 use std::marker::{Brand, Model, PhantomData};
+use std::snapshot::Snapshot;
 use std::sync::Wait;
 
 /// Names what the shards of a phase show as it opens, and the number of its workers. Who runs a
@@ -102,7 +103,7 @@ impl<N: PhaseName> Boxes<N> {
     {
         let (number, shard) = held.open();
         let s = number as usize;
-        key.put::<Option<Line>, Brand>(&self.boxes[s], s, shard, &line);
+        key.put::<Option<Line>, Brand>(&self.boxes[s], s, shard, Snapshot::of(&line));
     }
 
     /// Puts a shard back after the line of what `Held::act` did on it. It takes no memory.
@@ -116,6 +117,6 @@ impl<N: PhaseName> Boxes<N> {
     {
         let (number, shard) = held.open();
         let s = number as usize;
-        key.put::<Trace, Brand>(&self.boxes[s], s, shard, &trace);
+        key.put::<Trace, Brand>(&self.boxes[s], s, shard, Snapshot::of(&trace));
     }
 }

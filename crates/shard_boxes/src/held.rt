@@ -98,6 +98,7 @@ impl<N: PhaseName> Held<N> {
             index: Snapshot::of(&index),
             found: Snapshot::of(&self.shard),
             acts: Snapshot::of(acts),
+            refused: Snapshot::of(&None),
         };
         self.shard.apply_acts(number, acts);
         trace
@@ -129,12 +130,13 @@ impl<N: PhaseName> Held<N> {
         let found = Snapshot::of(&self.shard);
         let refused = self.shard.try_bid(item, bid);
         self.shard.set_clock(number);
-        let acts = bid_acts(item, bid, refused);
+        let acts = [Act::Look(Look::Left(item)), Act::Bid(item, bid)];
         let trace = Trace {
             number: Snapshot::of(&number),
             index: Snapshot::of(&index),
             found,
             acts: Snapshot::of(&acts),
+            refused: Snapshot::of(&refused),
         };
         (trace, refused)
     }
@@ -148,16 +150,4 @@ impl<N: PhaseName> Held<N> {
     {
         &mut self.shard
     }
-}
-
-// The acts of a bid, which is refused for this reason, if there is one.
-#[inline(always)]
-fn bid_acts(item: ItemId, bid: BidEntry, refused: Option<Refusal>) -> [Act; 2]
-    ensures { result ≡ bid_acts item bid refused }
-{
-    let second = match refused {
-        Some(_) => Act::Look(Look::Nothing),
-        None => Act::Bid(item, bid),
-    };
-    [Act::Look(Look::Left(item)), second]
 }

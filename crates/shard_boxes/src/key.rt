@@ -11,6 +11,7 @@ use crate::line::LineName;
 use crate::shard_box::{Grant, ShardBox};
 use item_shards::Shard;
 use std::marker::{Model, PhantomData};
+use std::snapshot::Snapshot;
 use std::sync::Wait;
 
 /// A worker's right to take the shards of a phase. Contracts see of each shard whether the key
@@ -85,14 +86,15 @@ impl<N: PhaseName> Key<N> {
         shard_box.take(rt, grant)
     }
 
-    // Puts the shard back, after the line that `L` names by what is lent, if there is one.
+    // Puts the shard back, after the line that `L` names, if there is one. Proofs alone read
+    // `_named_by`, from which they name it.
     #[inline(always)]
     pub(crate) fn put<T, L: LineName>(
         &mut self,
         shard_box: &ShardBox,
         s: usize,
         shard: Shard,
-        _named_by: &T,
+        _named_by: Snapshot<T>,
     )
         requires known { s < length N.initial }
         requires place { IsBoxAt self.old.boxes s shard_box.now }

@@ -1,4 +1,5 @@
 //! What one transaction did on one shard: a line that a caller makes, and the trace of acts.
+use auction_rows::Refusal;
 use item_shards::{Act, Shard};
 use std::marker::{Brand, Model};
 use std::snapshot::Snapshot;
@@ -24,14 +25,17 @@ pub struct Trace {
     pub(crate) index: Snapshot<u32>,
     pub(crate) found: Snapshot<Shard>,
     pub(crate) acts: Snapshot<[Act; 2]>,
+    // Why the second act was not done, if it was not.
+    pub(crate) refused: Snapshot<Option<Refusal>>,
 }
 
 impl Model for Trace {
-    ghost use Rattle.shard_boxes.specs.Lines.{Line, line_of};
+    ghost use Rattle.shard_boxes.specs.Lines.{Line, acts_unless, line_of};
 
     ghost Value = { Line };
 
-    ghost view = { λ t. line_of t.number.value t.index.value t.acts.value t.found.value };
+    ghost view = { λ t. line_of t.number.value t.index.value
+        (acts_unless t.refused.value t.acts.value) t.found.value };
 }
 
 /// Names the line with which a shard is put back.

@@ -4,7 +4,6 @@ mod Pieces
 mod KeptSlices
 mod States
 mod Ends
-mod Lines
 mod Sessions
 pub mod Counts
-mod MarkRows
+mod Pairs

@@ -4,4 +4,3 @@ pub mod Serial
 pub mod Serving
 pub mod Faults
 pub mod Splitting
-pub mod Checking

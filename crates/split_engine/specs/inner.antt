@@ -2,6 +2,5 @@
 pub mod Assignments
 pub mod Kept
 pub mod Listed
-pub mod Marking
 pub mod Phases
 pub mod Commits

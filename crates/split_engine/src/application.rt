@@ -93,3 +93,30 @@ pub trait Application {
     /// Why acts may be done on slices.
     ghost laws: { SplitLaws rules fits slice_fits is_small };
 }
+
+/// An application that may be run on threads: what it is made of may go from one to another. Each
+/// one of which this is true has it, without an impl of its own.
+pub trait Threaded: Application<
+    Record: Send + Sync,
+    Slice: Send,
+    Look: Send,
+    Request: Send + Sync,
+    Reply: Send,
+    Act: Send,
+>
+    + Send
+    + Sync {}
+
+impl<A> Threaded for A
+where
+    A: Application<
+        Record: Send + Sync,
+        Slice: Send,
+        Look: Send,
+        Request: Send + Sync,
+        Reply: Send,
+        Act: Send,
+    >
+        + Send
+        + Sync,
+{}

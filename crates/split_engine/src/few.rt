@@ -1,4 +1,5 @@
 //! Short lists: the keys that a request names, what it sees there, and what it does.
+ghost use Rattle.std.specs.Iterator.{YieldsFirst, item_count};
 ghost use Rattle.std.specs.Prelude.{◌≡◌, ◌<◌, ◌≤◌, [], ◌∷◌, ◌++◌, length, slice_index_or};
 
 use std::marker::Model;
@@ -112,5 +113,56 @@ impl<T: Copy> Few<T> {
                 _ => fourth,
             },
         }
+    }
+
+    /// The things, from the first on.
+    #[inline(always)]
+    pub fn iter(&self) -> FewIter<'_, T>
+        ensures things { result ≡ self.now }
+        ensures few { length self.now ≤ MOST_KEYS }
+    {
+        FewIter {
+            few: self,
+            place: 0,
+            end: self.len(),
+        }
+    }
+}
+
+/// The things of a `Few` that are left.
+#[derive(Drop)]
+pub struct FewIter<'a, T> {
+    few: &'a Few<T>,
+    // The place of the next one.
+    place: usize,
+    // How many there are.
+    end: usize,
+}
+
+impl<'a, T> Model for FewIter<'a, T> {
+    ghost use Rattle.std.specs.Prelude.{◌≡◌, List, drop, length};
+
+    ghost Value = { List T };
+
+    ghost view = { λ left. drop left.place left.few.now };
+
+    ghost invariant = { λ left. left.end ≡ length left.few.now };
+}
+
+impl<'a, T: Copy> Iterator for FewIter<'a, T> {
+    type Item = T;
+
+    ghost next_gives = { YieldsFirst (λ left. left) };
+
+    ghost remaining = { item_count (λ left. left) };
+
+    #[inline(always)]
+    fn next(&mut self) -> Option<T> {
+        if self.place >= self.end {
+            return None;
+        }
+        let thing = self.few.at(self.place);
+        self.place += 1;
+        Some(thing)
     }
 }

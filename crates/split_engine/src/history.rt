@@ -53,10 +53,9 @@ impl<Q: Drop, R: Drop> History<Q, R> {
     pub fn len(&self) -> usize
         ensures { length self.now ≤ MOST_COMMITS → result ≡ length self.now }
     {
-        let pieces = self.pieces();
         let mut len: usize = 0;
-        for place in 0..pieces.len() {
-            len = len.saturating_add(pieces[place].len());
+        for piece in self.pieces() {
+            len = len.saturating_add(piece.len());
         }
         len
     }

@@ -37,8 +37,8 @@ fn act_all<A: Application>(table: &mut Vec<A::Record>, keys: &Few<u32>, acts: &F
     ensures fits { (n : ℕ) → AllByRecursion (A.fits n) table.old.items →
         AllByRecursion (A.fits (n + MOST_KEYS)) table.new.items }
 {
-    for place in 0..keys.len().min(acts.len()) {
-        act_on::<A>(table, keys.at(place), acts.at(place));
+    for (key, act) in keys.iter().zip(acts.iter()) {
+        act_on::<A>(table, key, act);
     }
 }
 
@@ -101,10 +101,11 @@ fn perform_all<A: Application>(
         so_far.old.table.items so_far.new.table.items more) }
     ensures same { length so_far.new.table.items ≡ length so_far.old.table.items }
     ensures fits { (n : ℕ) → AllByRecursion (A.fits n) so_far.old.table.items →
-        OnOk result (AllByRecursion (A.fits (n + MOST_KEYS * length calls.now)) so_far.new.table.items) }
+        OnOk result
+        (AllByRecursion (A.fits (n + MOST_KEYS * length calls.now)) so_far.new.table.items) }
 {
-    for place in 0..calls.len() {
-        perform_call::<A>(so_far, worker, &calls[place])?;
+    for call in calls {
+        perform_call::<A>(so_far, worker, call)?;
     }
     Ok(())
 }
@@ -141,7 +142,8 @@ fn take_turn<A: Application>(
     requires served { HasServed A.rules (length so_far.old.table.items) worker script.now
         cursor.old so_far.old.history }
     requires fits { (n : ℕ) × (n < most_before)
-        × AllByRecursion (A.fits (n + MOST_KEYS * length so_far.old.history)) so_far.old.table.items }
+        × AllByRecursion (A.fits (n + MOST_KEYS * length so_far.old.history))
+        so_far.old.table.items }
     requires room { length so_far.old.history + length cursor.old.stash.items
         + length script.now ≤ MOST_COMMITS + cursor.old.next }
     ensures turned { OnOk result (HasTurned A.rules A.fits worker script.now
@@ -186,11 +188,11 @@ pub(crate) fn joined_phase<A: Application>(
 {
     let calls = count_calls(scripts, quota, &state.cursors);
     state.so_far.history.open(calls)?;
-    for worker in 0..scripts.len() {
+    for (worker, script) in scripts.iter().enumerate() {
         take_turn::<A>(
             &mut state.so_far,
             worker as u32,
-            &scripts[worker],
+            script,
             quota,
             &mut state.cursors[worker],
         )?;

@@ -19,8 +19,8 @@ pub fn split_phases_replay<A: Application>()
         all_merged A.rules table table journals ≡ table_after A.rules table all }
 {}
 
-/// If a run goes on from the table that another has left, both replay as one, and the table that the
-/// second leaves is the one after both histories.
+/// If a run goes on from the table that another has left, both replay as one, and the table that
+/// the second leaves is the one after both histories.
 pub fn runs_replay_as_one<A: Application>()
     ensures { (table between : List A.Record)
         (first second : List (Commit A.Request A.Reply)) →

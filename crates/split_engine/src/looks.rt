@@ -12,8 +12,8 @@ pub(crate) fn looks_at<A: Application>(table: &[A::Record], keys: &Few<u32>) -> 
     ensures { result ≡ looks_at A.rules table.now keys.now }
 {
     let mut looks = Few::none();
-    for place in 0..keys.len() {
-        looks = looks.and(A::look(&table[keys.at(place) as usize]));
+    for key in keys.iter() {
+        looks = looks.and(A::look(&table[key as usize]));
     }
     looks
 }

@@ -1,4 +1,4 @@
-//! Split phases: each worker's part on a thread of its own, and what they leave taken in.
+//! Split phases: the workers' parts, each on a thread, and what they leave taken in.
 ghost use Rattle.std.specs.List.{AllByRecursion, AllZip};
 ghost use Rattle.std.specs.Prelude.{◌≡◌, ℕ, ◌+◌, ◌*◌, ◌<◌, ◌≤◌, ◌++◌, ◌∷◌, [], List, length, map, IfOk, IfErr};
 ghost use Rattle.split_engine.specs.Faults.{IsRunFault};
@@ -8,7 +8,7 @@ ghost use Rattle.split_engine.specs.inner.Assignments.{Assignment, assignment, a
 ghost use Rattle.split_engine.specs.inner.Phases.{HaveServed, StandsSo, HasGoneOn};
 ghost use Rattle.split_engine.specs.declared.entry.Entry.{Entry as Commit};
 
-use crate::application::Application;
+use crate::application::{Application, Threaded};
 use crate::fault::RunFault;
 use crate::few::MOST_KEYS;
 use crate::hints::{Hints, room_after};
@@ -47,7 +47,7 @@ fn tasks<'a, A: Application>(
 {
     let mut made = Vec::with_capacity(alloc, scripts.len())?;
     let mut cursors = cursors.into_iter();
-    for worker in 0..scripts.len() {
+    for (worker, script) in scripts.iter().enumerate() {
         let Some(cursor) = cursors.next() else {
             unreachable!()
         };
@@ -57,7 +57,7 @@ fn tasks<'a, A: Application>(
                 plan: phase.plan,
             },
             worker: worker as u32,
-            script: &scripts[worker],
+            script,
             start: begin::<A>(
                 alloc,
                 phase.table.len(),
@@ -87,8 +87,8 @@ fn take_in<A: Application>(state: RunState<A>, own: SplitData<A>) -> Result<RunS
     ensures fits { (n : ℕ) →
         AllByRecursion (A.fits (n + MOST_KEYS * length state.so_far.history))
         state.so_far.table.items →
-        IfOk result (λ new.
-        AllByRecursion (A.fits (n + MOST_KEYS * length new.so_far.history)) new.so_far.table.items) }
+        IfOk result (λ new. AllByRecursion (A.fits (n + MOST_KEYS * length new.so_far.history))
+        new.so_far.table.items) }
 {
     let RunState {
         so_far,
@@ -159,20 +159,13 @@ fn take_in_all<A: Application>(
 }
 
 /// Performs a split phase: each worker's part on a thread of its own, but the first worker's.
-pub(crate) fn split_phase<A: Application + Send + Sync, R: Threads + Wait + Sync>(
+pub(crate) fn split_phase<A: Threaded, R: Threads + Wait + Sync>(
     rt: &R,
     alloc: Global,
     scripts: &[Vec<A::Request>],
     plan: SplitPlan<'_>,
     state: RunState<A>,
 ) -> Result<RunState<A>, RunFault>
-where
-    A::Record: Send + Sync,
-    A::Slice: Send,
-    A::Look: Send,
-    A::Request: Send + Sync,
-    A::Reply: Send,
-    A::Act: Send,
     requires few { length scripts.now < index_end }
     requires quota { MOST_KEYS * plan.quota < most_acts }
     requires hot { length plan.hot.now ≡ length state.so_far.table.items }

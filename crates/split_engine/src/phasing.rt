@@ -76,8 +76,8 @@ impl Phasing {
     fn count_keys(&mut self, keys: &Few<u32>) -> Result<(), AllocError>
         ensures { length self.new.hot.items ≡ length self.old.hot.items }
     {
-        for place in 0..keys.len() {
-            self.count_key(keys.at(place))?;
+        for key in keys.iter() {
+            self.count_key(key)?;
         }
         Ok(())
     }
@@ -90,8 +90,8 @@ impl Phasing {
         ensures { length self.new.hot.items ≡ length self.old.hot.items }
     {
         self.forget();
-        for place in 0..commits.len() {
-            let request = commits[place].request;
+        for commit in commits {
+            let request = commit.request;
             if A::splits(&request) {
                 let keys = A::keys(&request);
                 self.count_keys(&keys)?;

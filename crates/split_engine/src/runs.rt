@@ -1,11 +1,11 @@
 //! Runs of workers' scripts: joined and split phases in turn.
 ghost use Rattle.std.specs.List.{AllByRecursion};
-ghost use Rattle.std.specs.Prelude.{◌≡◌, ℕ, true, ◌+◌, ◌*◌, ◌<◌, ◌≤◌, List, length, IfOk, IfErr};
+ghost use Rattle.std.specs.Prelude.{◌≡◌, ◌↔◌, ℕ, ◌+◌, ◌*◌, ◌<◌, ◌≤◌, List, length, IfOk, IfErr, IsTrue};
 ghost use Rattle.split_engine.specs.{Faults.{IsRunFault}, Rules.{most_before, index_end}};
 ghost use Rattle.split_engine.specs.Serving.{lists, total, AreScripts, IsOutcome};
 ghost use Rattle.split_engine.specs.inner.Phases.{IsRunState, StandsSo, HasEnded, HasGoneOn, AreFresh, AllFinished};
 
-use crate::application::Application;
+use crate::application::{Application, Threaded};
 use crate::fault::RunFault;
 use crate::few::MOST_KEYS;
 use crate::history::History;
@@ -51,14 +51,14 @@ fn new_cursors<Q: Drop>(alloc: Global, workers: usize) -> Result<Vec<Cursor<Q>>,
 // Whether all requests of all scripts are performed.
 fn is_finished<Q>(scripts: &[Vec<Q>], cursors: &[Cursor<Q>]) -> bool
     requires len { length cursors.now ≡ length scripts.now }
-    ensures { result ≡ true → AllFinished (lists scripts.now) cursors.now }
+    ensures { IsTrue result ↔ AllFinished (lists scripts.now) cursors.now }
 {
-    for worker in 0..scripts.len() {
+    for (worker, script) in scripts.iter().enumerate() {
         let cursor = &cursors[worker];
-        if cursor.next != scripts[worker].len() {
+        if cursor.next != script.len() {
             return false;
         }
-        if cursor.stash.len() != 0 {
+        if !cursor.stash.is_empty() {
             return false;
         }
     }
@@ -66,20 +66,13 @@ fn is_finished<Q>(scripts: &[Vec<Q>], cursors: &[Cursor<Q>]) -> bool
 }
 
 // Performs a joined and a split phase.
-fn perform_round<A: Application + Send + Sync, R: Threads + Wait + Sync>(
+fn perform_round<A: Threaded, R: Threads + Wait + Sync>(
     rt: &R,
     alloc: Global,
     scripts: &[Vec<A::Request>],
     phasing: &mut Phasing,
     state: RunState<A>,
 ) -> Result<RunState<A>, RunFault>
-where
-    A::Record: Send + Sync,
-    A::Slice: Send,
-    A::Look: Send,
-    A::Request: Send + Sync,
-    A::Reply: Send,
-    A::Act: Send,
     requires few { length scripts.now < index_end }
     requires total { total (lists scripts.now) ≤ MOST_COMMITS }
     requires hot { length phasing.old.hot.items ≡ length state.so_far.table.items }
@@ -123,20 +116,13 @@ fn finish<A: Application>(scripts: &[Vec<A::Request>], state: RunState<A>) -> Ou
 /// `check_scripts` is the test of `scripts`. `fits`: each record is one that fewer than 2^31 acts
 /// can make. A run may go on from the table that another has left, if both together are that short:
 /// each commit is at most `MOST_KEYS` acts.
-pub fn run<A: Application + Send + Sync, R: Threads + Wait + Sync>(
+pub fn run<A: Threaded, R: Threads + Wait + Sync>(
     rt: &R,
     alloc: Global,
     table: Vec<A::Record>,
     scripts: &[Vec<A::Request>],
     policy: Policy,
 ) -> Result<Outcome<A>, RunFault>
-where
-    A::Record: Send + Sync,
-    A::Slice: Send,
-    A::Look: Send,
-    A::Request: Send + Sync,
-    A::Reply: Send,
-    A::Act: Send,
     requires scripts { AreScripts A.rules (length table.items) (lists scripts.now) }
     requires fits { (n : ℕ) × (n < most_before) × AllByRecursion (A.fits n) table.items }
     ensures outcome { IfOk result (λ outcome. IsOutcome A.rules table.items (lists scripts.now)

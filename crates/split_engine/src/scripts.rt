@@ -1,6 +1,6 @@
 //! Whether scripts can be run.
 ghost use Rattle.std.specs.List.{AllByRecursion};
-ghost use Rattle.std.specs.Prelude.{◌≡◌, ◌+◌, ◌<◌, ◌≤◌, true, false, Some, MatchOption, length, slice_get, IfOk, IfErr};
+ghost use Rattle.std.specs.Prelude.{◌≡◌, ◌↔◌, ◌+◌, ◌<◌, ◌≤◌, Some, MatchOption, length, slice_get, IfOk, IfErr, IsTrue};
 ghost use Rattle.split_engine.specs.{Faults.{IsScriptFault}, Serial.{IsWithin}};
 ghost use Rattle.split_engine.specs.Serving.{lists, total, AreScripts};
 
@@ -22,15 +22,14 @@ pub enum ScriptFault {
 
 // Whether there are at most 2^29 scripts and requests.
 fn are_few<Q>(scripts: &[Vec<Q>]) -> bool
-    ensures few { result ≡ true → length scripts.now + total (lists scripts.now) ≤ MOST_COMMITS }
-    ensures many { result ≡ false → MOST_COMMITS < length scripts.now + total (lists scripts.now) }
+    ensures { IsTrue result ↔ (length scripts.now + total (lists scripts.now) ≤ MOST_COMMITS) }
 {
     if scripts.len() > MOST_COMMITS {
         return false;
     }
     let mut left = MOST_COMMITS - scripts.len();
-    for worker in 0..scripts.len() {
-        let long = scripts[worker].len();
+    for script in scripts {
+        let long = script.len();
         if long > left {
             return false;
         }
@@ -39,13 +38,12 @@ fn are_few<Q>(scripts: &[Vec<Q>]) -> bool
     true
 }
 
-// Whether some keys are all of a table of so many records.
-fn are_within(keys: &Few<u32>, records: usize) -> bool
-    ensures yes { result ≡ true → AllByRecursion (λ key. key < records) keys.now }
-    ensures no { result ≡ false → AllByRecursion (λ key. key < records) keys.now → ⊥ }
+/// Whether some keys are all of a table of so many records.
+pub fn are_within(keys: &Few<u32>, records: usize) -> bool
+    ensures { IsTrue result ↔ AllByRecursion (λ key. key < records) keys.now }
 {
-    for place in 0..keys.len() {
-        if keys.at(place) as usize >= records {
+    for key in keys.iter() {
+        if key as usize >= records {
             return false;
         }
     }
@@ -58,8 +56,8 @@ fn without_key<A: Application>(script: &[A::Request], records: usize) -> Option<
         (λ index. (q : A.Request) × (slice_get script.now index ≡ Some q)
         × (IsWithin A.rules records q → ⊥)) }
 {
-    for index in 0..script.len() {
-        let keys = A::keys(&script[index]);
+    for (index, request) in script.iter().enumerate() {
+        let keys = A::keys(request);
         if !are_within(&keys, records) {
             return Some(index);
         }
@@ -78,8 +76,8 @@ pub fn check_scripts<A: Application>(
     if !are_few(scripts) {
         return Err(ScriptFault::TooLong);
     }
-    for worker in 0..scripts.len() {
-        if let Some(index) = without_key::<A>(&scripts[worker], records) {
+    for (worker, script) in scripts.iter().enumerate() {
+        if let Some(index) = without_key::<A>(script, records) {
             return Err(ScriptFault::NoSuchKey { worker, index });
         }
     }

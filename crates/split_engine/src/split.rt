@@ -76,8 +76,8 @@ fn act_all<A: Application>(
     ensures slices { OnOk result (slices.new
         ≡ after_slice_acts A.rules slices.old (zip keys.now acts.now)) }
 {
-    for place in 0..keys.len().min(acts.len()) {
-        slices.act(keys.at(place), acts.at(place))?;
+    for (key, act) in keys.iter().zip(acts.iter()) {
+        slices.act(key, act)?;
     }
     Ok(())
 }
@@ -111,8 +111,8 @@ fn are_hot(hot: &[bool], keys: &Few<u32>) -> bool
     requires within { AllByRecursion (λ key. key < length hot.now) keys.now }
     ensures { result ≡ list_all (is_hot hot.now) keys.now }
 {
-    for place in 0..keys.len() {
-        if !hot[keys.at(place) as usize] {
+    for key in keys.iter() {
+        if !hot[key as usize] {
             return false;
         }
     }

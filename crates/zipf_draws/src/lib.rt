@@ -2,5 +2,8 @@
 #![tactic(auto)]
 
 mod popularity;
+mod shares;
+#[cfg(test)]
+mod tests;
 
-pub use popularity::Popularity;
+pub use popularity::{MOST_RANKS, Popularity};

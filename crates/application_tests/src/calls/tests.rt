@@ -3,7 +3,8 @@
 use crate::counters::CounterRequest::{Add, Read};
 use crate::counters::{CounterReply, Counters};
 use crate::referee_tests::line;
-use split_engine::{Policy, check_history, run};
+use application_check::check_history;
+use split_engine::{Policy, run};
 use std::test::Fail;
 
 const POLICY: Policy = Policy {

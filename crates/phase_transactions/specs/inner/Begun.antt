@@ -12,7 +12,7 @@ use Rattle.shard_boxes.specs.{Helds.{HeldState}, Keys.{BoxId, KeyState}}
 use Rattle.shard_boxes.specs.States.{ShardState, state_of}
 use Rattle.phase_transactions.specs.{Performing.{HaveOpening, StoresItem, asks}, Txns.{is_put_off}}
 use Rattle.phase_transactions.specs.{Workers.{WorkerState, next_item}, declared.deeds.Deeds.{Deeds}}
-use Rattle.phase_transactions.specs.declared.taken.{Begun.{Begun}, Taken.{Taken}}
+use Rattle.phase_transactions.specs.declared.taken.{Begun.{Begun}, BegunOne.{BegunOne}, Taken.{Taken}}
 use Rattle.phase_transactions.specs.inner.Deeds.{IsReplyBy, IsNextIf, AreDeedsOf, AreGoodOn, acts_for, event_with, footprint_on, stock_on}
 use Rattle.phase_transactions.specs.inner.{HeldShards.{IsAsTaken}, Homes.{AreHomesOf}}
 use Rattle.phase_transactions.specs.inner.Takens.{footprint_of, greatest_held, held_in, is_one_of, HasTakenAll, AreHeldAll}
@@ -59,6 +59,16 @@ pub record HasBegun {N : Type 0} (step : Step) (w : WorkerState) (request : Requ
   -- the number is 1 + the greatest clock
   pub numbered : begun.number ≡ suc (max w.clock (greatest_held (held_in begun.taken)))
   pub within : begun.number ≤ last_number
+
+-- a transaction on one shard
+abbrev pub begun_of : {N : Type 0} → BegunOne N → Begun N
+begun_of one = record { taken = taken.One one.held; number = one.number; key = one.key }
+
+-- a worker has begun a request with the key that it remembers, wherever the request's objects are
+abbrev pub HasBegunSome : {N : Type 0} → List ShardState → ℕ → List BoxId → WorkerState → Request →
+    Begun N → Type 0
+HasBegunSome initial workers boxes w request begun =
+    (homes : Homes) × HasBegun (step_of initial workers boxes begun.key.value homes) w request begun
 
 -- what a store saw of the item that it needs: of a hot one what is fixed, of another one what the
 -- first shard has
@@ -180,9 +190,3 @@ look_for request = look.Nothing
 pub record CanView (shard : Shard) (request : Request) : Type 0 where
   pub here : (object : Object) → viewed request ≡ Some object → LiesIn shard object
   pub allowed : number_refusal (opening_of shard) request ≡ None
-
--- one shard was taken, and can show what a view asks for
-abbrev pub IsOnOne : {N : Type 0} → Request → Taken N → Type 0
-IsOnOne request taken.Nothing = ⊥
-IsOnOne request (taken.One one) = CanView one.shard request
-IsOnOne request (taken.Two one other) = ⊥

@@ -8,7 +8,7 @@ use Rattle.auction_rows.specs.declared.{requests.ItemId.ItemId, requests.Facts.F
 use Rattle.shard_boxes.specs.Helds.{HeldState}
 use Rattle.phase_transactions.specs.Txns.{IsReplyTo, refusal_by, ReadSet}
 use Rattle.phase_transactions.specs.{Workers.{WorkerState, next_item}, declared.deeds.Deeds.{Deeds}}
-use Rattle.phase_transactions.specs.declared.{deeds.Written.{Written}, taken.Taken.{Taken}}
+use Rattle.phase_transactions.specs.declared.taken.Taken.{Taken}
 use Rattle.phase_transactions.specs.inner.Takens.{each_once}
 use Rattle.phase_transactions.specs.declared.taken.Taken.TheVariants as taken
 use Rattle.worker_slices.specs.{Homes.{shard_at}, Slicing.{hot_objects}, declared.homes.Home.{Home}}
@@ -91,17 +91,12 @@ second_dealt x y (Some a) (Some b) = y
 second_dealt x y (Some a) None = Look look.Nothing
 second_dealt x y None b = Look look.Nothing
 
--- two acts as they are written, at the number of a commit, of the request of this index
-abbrev pub written_of : Deeds → ℕ → ℕ → Written
-written_of deeds number index =
+-- two acts as they are dealt
+abbrev pub acts_dealt : Deeds → Act × Act
+acts_dealt deeds =
     let a = shard_at deeds.home in
     let b = shard_at deeds.other in
-    record {
-      number = number;
-      index = index;
-      first = first_dealt deeds.first deeds.second a b;
-      second = second_dealt deeds.first deeds.second a b;
-    }
+    (first_dealt deeds.first deeds.second a b, second_dealt deeds.first deeds.second a b)
 
 -- the clocks that were found on the shards that were taken
 abbrev pub clocks_of : {N : Type 0} → Taken N → List (Option (ℕ × ℕ))

@@ -7,11 +7,10 @@ use Rattle.shard_boxes.specs.Helds.{HeldState, taken_at}
 use Rattle.shard_boxes.specs.Keys.{KeyState, seen_at, holds_at, putting}
 use Rattle.shard_boxes.specs.Lines.{Line, IsShardHistory, MayFollow}
 use Rattle.shard_boxes.specs.States.{ShardState, state_of}
-use Rattle.phase_transactions.specs.declared.deeds.Written.{Written}
 
--- the two acts of what is written
-abbrev pub written_acts : Written → List Act
-written_acts written = written.first ∷ written.second ∷ []
+-- two acts in turn
+abbrev pub two_acts : Act × Act → List Act
+two_acts acts = acts.0 ∷ acts.1 ∷ []
 
 -- one act, and a look at nothing
 abbrev pub alone_in : Act → List Act

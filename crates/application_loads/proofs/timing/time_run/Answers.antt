@@ -1,6 +1,17 @@
-use Rattle.std.proofs.Common.{arith}
+use Rattle.std.proofs.Common.{arith, sym, subst}
+use Rattle.std.specs.List.{AllByRecursion}
+use Rattle.application_loads.proofs.TableLemmas.{all_alike}
 use Rattle.application_loads.proofs.timing.time_run.Goals as goal
 
 -- the records are such as one act can make
 pub run-requires-clause-fits : goal.run-requires-clause-fits
-run-requires-clause-fits g c κs within = (1, omega arith, c.in_ok-table.ensures)
+run-requires-clause-fits g c κs within =
+    let opened = c.args.opened in
+    let P = g.A.Application.fits 1 in
+    (1, omega arith, subst (AllByRecursion P) (sym c.in_ok-table.ensures) (all_alike P opened.count opened.record c.requires))
+
+pub returns-clause-fits : goal.returns-clause-fits
+returns-clause-fits g c =
+    let opened = c.args.opened in
+    let P = g.A.Application.fits 1 in
+    c.in_ok-outcome.ensures.fits 1 (omega arith) (subst (AllByRecursion P) (sym c.in_ok-table.ensures) (all_alike P opened.count opened.record c.requires))

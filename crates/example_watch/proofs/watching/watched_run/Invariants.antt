@@ -3,4 +3,4 @@ use Rattle.example_watch.proofs.watching.watched_run.Given as goal
 
 -- the list that was just made, and the opening book
 abbrev pub ghosts-perform : goal.ghosts-perform
-ghosts-perform g a = record { log = a.log; opening = opening_of a.book.now; rows = rows_of_book a.book.now }
+ghosts-perform g a = record { log = a.run.log; opening = opening_of a.run.book; rows = rows_of_book a.run.book }

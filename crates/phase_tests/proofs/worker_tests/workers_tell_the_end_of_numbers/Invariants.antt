@@ -2,5 +2,5 @@ use Rattle.std.proofs.Common.{map}
 use Rattle.shard_boxes.specs.States.{state_of}
 use Rattle.phase_tests.proofs.worker_tests.workers_tell_the_end_of_numbers.Given as goal
 
-abbrev pub ghosts-fault_over : goal.ghosts-fault_over
-ghosts-fault_over g a = record { initial = map state_of a.shards.items; workers = 1 }
+abbrev pub ghosts-fault_at_the_end : goal.ghosts-fault_at_the_end
+ghosts-fault_at_the_end g a = record { initial = map state_of a.shards.items; workers = 1 }

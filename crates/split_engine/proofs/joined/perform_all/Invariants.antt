@@ -4,11 +4,11 @@ use Rattle.split_engine.specs.declared.{entry.Entry.{Entry}, few.TheConstants.{M
 use Rattle.split_engine.specs.inner.Phases.{HasPerformed}
 use Rattle.split_engine.proofs.joined.perform_all.Given as goal
 
-abbrev pub invariant-loop-place : goal.invariant-loop-place
-invariant-loop-place g l = record {
+abbrev pub invariant-loop-call : goal.invariant-loop-call
+invariant-loop-call g l = record {
   more : List (Entry g.row.A-Request.Denot g.row.A-Reply.Denot);
   history_is : l.so_far.history ≡ l.fn.so_far.history ++ more;
-  performed : HasPerformed g.A.Application.rules l.worker (take l.place l.calls) l.fn.so_far.table.items l.so_far.table.items more;
+  performed : HasPerformed g.A.Application.rules l.worker (take l.call-index l.calls) l.fn.so_far.table.items l.so_far.table.items more;
   same : length l.so_far.table.items ≡ length l.fn.so_far.table.items;
-  fits : (n : ℕ) → AllByRecursion (g.A.Application.fits n) l.fn.so_far.table.items → AllByRecursion (g.A.Application.fits (n + MOST_KEYS * l.place)) l.so_far.table.items;
+  fits : (n : ℕ) → AllByRecursion (g.A.Application.fits n) l.fn.so_far.table.items → AllByRecursion (g.A.Application.fits (n + MOST_KEYS * l.call-index)) l.so_far.table.items;
 }

@@ -19,7 +19,7 @@ is_finished-requires g c =
     }
 
 pub finish-requires : goal.finish-requires
-finish-requires g c = subst (λ ds. AllFinished (lists c.args.scripts.now) ds) c.deref.ensures.value (c.is_finished.ensures c.if-is_finished.true)
+finish-requires g c = subst (λ ds. AllFinished (lists c.args.scripts.now) ds) c.deref.ensures.value (c.is_finished.ensures.0 c.if-is_finished.true)
 
 pub returns-then-is_finished-clause-outcome : goal.returns-then-is_finished-clause-outcome
 returns-then-is_finished-clause-outcome g c =

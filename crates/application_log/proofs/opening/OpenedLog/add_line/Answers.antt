@@ -1,4 +1,4 @@
-use Rattle.std.proofs.Common.{rules, ◌≡◌, length, Some, IfSome, refl, ap, ◌∙◌, subst}
+use Rattle.std.proofs.{Common.{rules, ◌≡◌, length, Some, IfSome, refl, ap, sym, ◌∙◌, subst}, lemmas.Bool.{false≢true}}
 use Rattle.split_engine.{proofs.Splits.{length-acts}, specs.Serial.{acts_at, IsWithin}}
 use Rattle.application_log.proofs.LogLemmas.{line_behind, opened_more}
 use Rattle.application_log.proofs.opening.OpenedLog.add_line.Goals as goal
@@ -24,8 +24,13 @@ returns-then-not-is_within-clause-fault g c table before rest has =
         only = λ p fits is. let one = d.only p fits is in let some = c.in-Some.is in cc (one, some);
       },
       line_behind s.rules line g.A.Loggable.is_in_range table c.args.self.now.table.items before c.args.self.now.lines c.args.self.now.kept _ c.args.line.now rest has c.requires.one refl,
-      λ within. c.is_within.ensures.no c.if-not-is_within.true (subst (λ size. IsWithin s.rules size q) (search rules) within),
+      λ within. false≢true (sym c.if-not-is_within.true ∙ c.is_within.ensures.1 (subst (λ size. IsWithin s.rules size q) (search rules) within)),
     )
+
+pub perform-requires-clause-within : goal.perform-requires-clause-within
+perform-requires-clause-within g c =
+    let rules = g.A.Application.rules in
+    subst (λ size. IsWithin rules size c.in-Some.request) (search rules) (c.is_within.ensures.0 c.if-not-is_within.false)
 
 pub returns-clause-len : goal.returns-clause-len
 returns-clause-len g c =

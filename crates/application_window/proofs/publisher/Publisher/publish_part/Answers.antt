@@ -1,11 +1,11 @@
-use Rattle.std.proofs.{Common.{arith, length, ap}, lemmas.Result.{IfOk-from_err}}
+use Rattle.std.proofs.Common.{[], ◌∷◌, ◌++◌, ◌∙◌, arith, length, ap, sym}
+use Rattle.application_window.proofs.Growing.{with_part-is}
 use Rattle.application_window.proofs.publisher.Publisher.publish_part.Goals as goal
 
 pub add-requires : goal.add-requires
 add-requires g c = omega (arith, c.if-len.false, c.len.ensures, c.len.type_inv, ap length c.again-parts.ensures)
 
-pub returns-in_err-replace_with-clause-published : goal.returns-in_err-replace_with-clause-published
-returns-in_err-replace_with-clause-published g c = IfOk-from_err c.from_residual.result _ c.from_residual.ensures.0
-
-pub returns-in_err-replace_with-clause-told : goal.returns-in_err-replace_with-clause-told
-returns-in_err-replace_with-clause-told g c = IfOk-from_err c.from_residual.result _ c.from_residual.ensures.0
+pub returns-clause-published : goal.returns-clause-published
+returns-clause-published g c =
+    let parts = c.again.ensures ∙ c.again-told.ensures ∙ c.if-not-add.ensures ∙ ap (λ parts. parts ++ c.args.part.items ∷ []) c.again-parts.ensures in
+    sym (with_part-is _ c.args.self.now c.args.part.items c.again.result c.len-more.result c.self.view_is parts (omega arith))

@@ -19,17 +19,17 @@ add-requires g c = omega (arith, c.if-len.false, c.len.ensures, c.len.type_inv, 
 pub returns-then-not-add-clause-refused : goal.returns-then-not-add-clause-refused
 returns-then-not-add-clause-refused g c = ap failing c.self.view_is
 
-pub returns-in_err-replace_with-clause-published : goal.returns-in_err-replace_with-clause-published
-returns-in_err-replace_with-clause-published g c = IfOk-from_err c.from_residual.result _ c.from_residual.ensures.0
+pub returns-in_err-show-clause-published : goal.returns-in_err-show-clause-published
+returns-in_err-show-clause-published g c = IfOk-from_err c.from_residual.result _ c.from_residual.ensures.0
 
-pub returns-in_err-replace_with-clause-told : goal.returns-in_err-replace_with-clause-told
-returns-in_err-replace_with-clause-told g c = IfOk-from_err c.from_residual.result _ c.from_residual.ensures.0
+pub returns-in_err-show-clause-told : goal.returns-in_err-show-clause-told
+returns-in_err-show-clause-told g c = IfOk-from_err c.from_residual.result _ c.from_residual.ensures.0
 
-pub returns-in_err-replace_with-clause-refused : goal.returns-in_err-replace_with-clause-refused
-returns-in_err-replace_with-clause-refused g c = MatchResult-from_err c.from_residual.result _ _ c.from_residual.ensures.0 (λ _. ap failing c.self.view_is)
+pub returns-in_err-show-clause-refused : goal.returns-in_err-show-clause-refused
+returns-in_err-show-clause-refused g c = MatchResult-from_err c.from_residual.result _ _ c.from_residual.ensures.0 (λ _. ap failing c.self.view_is)
 
-pub returns-in_err-replace_with-clause-for_good : goal.returns-in_err-replace_with-clause-for_good
-returns-in_err-replace_with-clause-for_good g c failed = absurd (false≢true (sym c.if-self.false ∙ ap (λ (p : Published). p.failed) c.self.view_is ∙ failed))
+pub returns-in_err-show-clause-for_good : goal.returns-in_err-show-clause-for_good
+returns-in_err-show-clause-for_good g c failed = absurd (false≢true (sym c.if-self.false ∙ ap (λ (p : Published). p.failed) c.self.view_is ∙ failed))
 
 pub returns-clause-for_good : goal.returns-clause-for_good
 returns-clause-for_good g c failed = absurd (false≢true (sym c.if-self.false ∙ ap (λ (p : Published). p.failed) c.self.view_is ∙ failed))

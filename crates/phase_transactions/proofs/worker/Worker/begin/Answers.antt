@@ -1,4 +1,4 @@
-use Rattle.std.proofs.Common.{◌≤◌, length, max, sym, subst}
+use Rattle.std.proofs.Common.{◌≤◌, length, max, sym, ap, subst, ◌∙◌}
 use Rattle.item_shards.specs.CommitNumbers.{last_number}
 use Rattle.phase_transactions.proofs.{BegunLemmas.{may_still}, ChainLemmas.{store_fails}}
 use Rattle.phase_transactions.{proofs.TakeLemmas.{taken_held}, specs.Workers.{WorkerState}}
@@ -14,6 +14,9 @@ returns-in-None-clause-full g c = λ request may.
     let its = subst (λ (s : WorkerState). HasTakenAll g.N.PhaseName.initial g.N.PhaseName.workers s.key c.take_all-taken.new.key (footprint_of c.args.homes.now) (held_in took)) c.self.view_is c.take_all-taken.ensures in
     store_fails g.N.PhaseName.initial c.args.self.now _ c.take_all-taken.new.key request c.args.homes.now took its may.asked c.put_back.ensures NumberFull
     (λ i. record (c.self.view_is i) { key = c.put_back.new.key }) may.goes (subst (λ (s : WorkerState). last_number ≤ max s.clock (greatest_held (held_in took))) c.self.view_is c.in-None.ensures.full)
+
+pub returns-in-Some-clause-key : goal.returns-in-Some-clause-key
+returns-in-Some-clause-key g c = c.of-key.ensures ∙ ap (λ (s : WorkerState). s.key) c.self.view_is
 
 pub returns-in-Some-clause-begun : goal.returns-in-Some-clause-begun
 returns-in-Some-clause-begun g c = λ request may.

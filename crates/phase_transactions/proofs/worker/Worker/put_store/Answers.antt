@@ -1,11 +1,11 @@
 use Rattle.std.proofs.Common.{◌≡◌, length, sym, ap, subst, ◌∙◌}
 use Rattle.auction_rows.specs.StoreReplies.{reply_of}
+use Rattle.item_shards.specs.declared.shard.acts.Act.{Act}
 use Rattle.shard_boxes.specs.Keys.{KeyState}
 use Rattle.phase_transactions.proofs.AnswerLemmas.{own_reply, written_at}
 use Rattle.phase_transactions.proofs.BegunLemmas.{begun_can, begun_commits, begun_good, next_reply, seen_answered}
 use Rattle.phase_transactions.specs.{Putting.{HasPutAll}, Workers.{WorkerState, after_commit}}
-use Rattle.phase_transactions.specs.{declared.deeds.Written.{Written}, inner.Begun.{step_of}}
-use Rattle.phase_transactions.specs.inner.{Deeds.{written_of}, HeldShards.{written_acts}}
+use Rattle.phase_transactions.specs.inner.{Begun.{step_of}, Deeds.{acts_dealt}, HeldShards.{two_acts}}
 use Rattle.phase_transactions.specs.inner.Takens.{held_in, numbers_of, is_one_of, dealt, line_among, CanBeDoneOnAll}
 use Rattle.phase_transactions.proofs.worker.Worker.put_store.Goals as goal
 use Rattle.worker_slices.specs.{Counting.{IsOwn}, Homes.{IsWrittenAt}}
@@ -14,16 +14,17 @@ pub put_all-requires-clause-can : goal.put_all-requires-clause-can
 put_all-requires-clause-can g c =
     let initial = g.N.PhaseName.initial in let w = c.args.self.now in
     let store = c.args.store.now in let took = c.args.begun.taken in
-    let begun = c.requires.begun.1 in let reply = reply_of store.reply in
-    let step = step_of initial g.N.PhaseName.workers c.args.boxes.now c.requires.begun.0 store.homes.now in
-    subst (λ (d : Written). CanBeDoneOnAll d.number (held_in took) (dealt took (written_acts d))) (sym c.written-written.ensures)
+    let begun = c.requires.begun in let reply = reply_of store.reply in
+    let key = c.args.begun.key.value in
+    let step = step_of initial g.N.PhaseName.workers c.args.boxes.now key store.homes.now in
+    subst (λ (acts : Act × Act). CanBeDoneOnAll c.args.begun.number (held_in took) (dealt took (two_acts acts))) (sym c.dealt-acts.ensures)
     (begun_can step w store.call.request.now c.args.begun begun c.requires.answered.seen c.requires.store c.requires.answered.saw reply c.of-deeds.result c.requires.room c.requires.answered.answered c.requires.opened
-    (λ held on. c.of-deeds.ensures.good c.requires.answered.seen initial g.N.PhaseName.workers c.args.boxes.now c.requires.begun.0 w held on) (c.of-deeds.ensures.footprint w (length initial) begun.may.homes_are))
+    (λ held on. c.of-deeds.ensures.good c.requires.answered.seen initial g.N.PhaseName.workers c.args.boxes.now key w held on) (c.of-deeds.ensures.footprint w (length initial) begun.may.homes_are))
 
 pub add_store-requires-clause-home : goal.add_store-requires-clause-home
 add_store-requires-clause-home g c =
     let store = c.args.store.now in
-    subst (λ (w : WorkerState). IsWrittenAt w.slices store.call.request.now store.homes.now) (sym c.self.view_is) (written_at c.args.self.now store.call.request.now store.homes.now (length g.N.PhaseName.initial, c.requires.begun.1.may.homes_are))
+    subst (λ (w : WorkerState). IsWrittenAt w.slices store.call.request.now store.homes.now) (sym c.self.view_is) (written_at c.args.self.now store.call.request.now store.homes.now (length g.N.PhaseName.initial, c.requires.begun.may.homes_are))
 
 pub add_store-requires-clause-own : goal.add_store-requires-clause-own
 add_store-requires-clause-own g c =
@@ -31,17 +32,17 @@ add_store-requires-clause-own g c =
     subst (λ (w : WorkerState). IsOwn w.journal.worker reply) (sym c.self.view_is) (own_reply c.args.self.now c.requires.answered.seen store.call.request.now reply c.requires.answered.answered c.requires.store)
 
 pub returns : goal.returns
-returns g c key begun =
+returns g c =
     let initial = g.N.PhaseName.initial in let w = c.args.self.now in
+    let begun = c.requires.begun in let key = c.args.begun.key.value in
     let store = c.args.store.now in let request = store.call.request.now in
     let homes = store.homes.now in
     let step = step_of initial g.N.PhaseName.workers c.args.boxes.now key homes in
     let took = c.args.begun.taken in let number = c.args.begun.number in
     let reply = reply_of store.reply in let new = c.add_store.new.self in
     let key_is : new.key ≡ c.put_all.new.key = ap (λ (s : WorkerState). s.key) c.add_store.ensures in
-    let written = written_of c.of-deeds.result number store.call.index in
-    let lines = line_among number store.call.index (held_in took) (dealt took (written_acts written)) in
-    let put = subst (λ (d : Written). HasPutAll initial c.self.inside.key c.put_all.new.key (is_one_of (numbers_of (held_in took))) (line_among d.number d.index (held_in took) (dealt took (written_acts d)))) c.written-written.ensures c.put_all.ensures in
+    let lines = line_among number store.call.index (held_in took) (dealt took (two_acts (acts_dealt c.of-deeds.result))) in
+    let put = subst (λ (acts : Act × Act). HasPutAll initial c.self.inside.key c.put_all.new.key (is_one_of (numbers_of (held_in took))) (line_among number store.call.index (held_in took) (dealt took (two_acts acts)))) c.dealt-acts.ensures c.put_all.ensures in
     begun_commits step w request c.args.begun begun new store.call.index reply c.requires.answered.seen c.of-deeds.result (c.of-deeds.ensures.footprint w (length initial) begun.may.homes_are)
     (c.of-deeds.ensures.owed c.requires.answered.seen w (length initial) begun.may.homes_are (own_reply w c.requires.answered.seen request reply c.requires.answered.answered c.requires.store) (next_reply w c.requires.answered.seen request reply c.requires.answered.answered c.requires.store))
     (begun_good step w request c.args.begun begun c.requires.answered.seen c.requires.store c.requires.answered.saw reply c.of-deeds.result c.requires.room c.requires.answered.answered c.requires.opened

@@ -6,11 +6,9 @@ use Rattle.phase_transactions.specs.inner.Deeds.{IsReplyUnless}
 use Rattle.phase_transactions.proofs.worker.Worker.reply_to_bid.Goals as goal
 
 pub returns-in-Some : goal.returns-in-Some
-returns-in-Some g c =
-    let bid = c.args.bid.now in
-    subst (λ (refused : Option Refusal). IsReplyUnless c.args.self.now refused (bid_request bid.item bid.entry) (Refused c.in-Some.reason)) (sym c.in-Some.is) refl
+returns-in-Some g c item bid =
+    subst (λ (refused : Option Refusal). IsReplyUnless c.args.self.now refused (bid_request item bid) (Refused c.in-Some.reason)) (sym c.in-Some.is) refl
 
 pub returns-in-None : goal.returns-in-None
-returns-in-None g c =
-    let bid = c.args.bid.now in
-    subst (λ (refused : Option Refusal). IsReplyUnless c.args.self.now refused (bid_request bid.item bid.entry) (BidStored c.next_bid.result)) (sym c.in-None.is) (ap BidStored c.next_bid.ensures)
+returns-in-None g c item bid =
+    subst (λ (refused : Option Refusal). IsReplyUnless c.args.self.now refused (bid_request item bid) (BidStored c.next_bid.result)) (sym c.in-None.is) (ap BidStored c.next_bid.ensures)

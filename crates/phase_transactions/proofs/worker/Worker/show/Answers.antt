@@ -2,9 +2,9 @@ use Rattle.std.proofs.Common.{◌≡◌, Some, length, sym, ap, subst, ◌∙◌
 use Rattle.auction_rows.specs.{Refusals.{number_refusal}, declared.requests.Request.{Request}}
 use Rattle.phase_transactions.proofs.BegunLemmas.{fault_performed, may_begin}
 use Rattle.phase_transactions.proofs.EmptyLemmas.{stored_performed, refused_untaken}
-use Rattle.phase_transactions.proofs.ViewLemmas.{on_one}
+use Rattle.phase_transactions.proofs.ViewLemmas.{begun_on_one, can_view, key_of_one, on_one, took_one}
 use Rattle.phase_transactions.specs.Performing.{HasCommittedSome, HaveOpening}
-use Rattle.phase_transactions.specs.{Workers.{WorkerState}, inner.Begun.{IsOnOne, step_of}}
+use Rattle.phase_transactions.specs.{Workers.{WorkerState}, inner.Begun.{CanView, step_of}}
 use Rattle.phase_transactions.proofs.worker.Worker.show.Goals as goal
 
 pub returns-in-Some : goal.returns-in-Some
@@ -22,6 +22,15 @@ returns-in_err-begun g c =
     fault_performed initial old c.begin.new.self request c.args.index c.from_residual.result c.in_err-begun.field-0.0 c.from_residual.ensures.1
     (c.in_err-begun.ensures.full request (may_begin (length initial) old _ request homes _ c.self.view_is c.number_refusal.ensures c.in_default.is c.requires.can.goes c.homes-homes.ensures.homes c.homes-homes.ensures.footprint))
 
+pub one-one-requires : goal.one-one-requires
+one-one-requires g c =
+    let initial = g.N.PhaseName.initial in let old = c.args.self.now in
+    let request = c.args.request.now in let homes = c.homes-homes.result in
+    let step = step_of initial g.N.PhaseName.workers c.args.boxes.now old.key homes in
+    let its = c.in_ok-begun.ensures.begun request (may_begin (length initial) old _ request homes _ c.self.view_is c.number_refusal.ensures c.in_default.is c.requires.can.goes c.homes-homes.ensures.homes c.homes-homes.ensures.footprint) in
+    let openings = subst (HaveOpening initial) (sym (ap (λ (s : WorkerState). s.opening) c.begin.ensures.worker)) c.requires.can.opened in
+    took_one step c.begin.new.self request c.in_ok-begun.begun its c.requires.view openings
+
 pub item_on-seen-requires : goal.item_on-seen-requires
 item_on-seen-requires g c =
     let initial = g.N.PhaseName.initial in let old = c.args.self.now in
@@ -29,43 +38,40 @@ item_on-seen-requires g c =
     let step = step_of initial g.N.PhaseName.workers c.args.boxes.now old.key homes in
     let its = c.in_ok-begun.ensures.begun request (may_begin (length initial) old _ request homes _ c.self.view_is c.number_refusal.ensures c.in_default.is c.requires.can.goes c.homes-homes.ensures.homes c.homes-homes.ensures.footprint) in
     let openings = subst (HaveOpening initial) (sym (ap (λ (s : WorkerState). s.opening) c.begin.ensures.worker)) c.requires.can.opened in
-    subst (λ (r : Request). IsOnOne r c.in_ok-begun.begun.taken) c.in-ViewItem.is (on_one step c.begin.new.self request c.in_ok-begun.begun its c.requires.view openings)
+    subst (λ (r : Request). CanView c.one-one.result.held.shard r) c.in-ViewItem.is
+    (can_view c.in_ok-begun.begun c.one-one.result c.one-one.ensures request (on_one step c.begin.new.self request c.in_ok-begun.begun its c.requires.view openings))
 
 pub put_view-requires-clause-begun : goal.put_view-requires-clause-begun
 put_view-requires-clause-begun g c =
     let initial = g.N.PhaseName.initial in let old = c.args.self.now in
     let request = c.args.request.now in let homes = c.homes-homes.result in
     let its = c.in_ok-begun.ensures.begun request (may_begin (length initial) old _ request homes _ c.self.view_is c.number_refusal.ensures c.in_default.is c.requires.can.goes c.homes-homes.ensures.homes c.homes-homes.ensures.footprint) in
-    (homes, old.key, its)
+    begun_on_one c.in_ok-begun.begun c.one-one.result c.one-one.ensures its c.in_ok-begun.ensures.key
 
 pub returns-in-ViewItem : goal.returns-in-ViewItem
 returns-in-ViewItem g c =
-    let initial = g.N.PhaseName.initial in let old = c.args.self.now in
-    let request = c.args.request.now in let homes = c.homes-homes.result in
-    let its = c.in_ok-begun.ensures.begun request (may_begin (length initial) old _ request homes _ c.self.view_is c.number_refusal.ensures c.in_default.is c.requires.can.goes c.homes-homes.ensures.homes c.homes-homes.ensures.footprint) in
-    subst (λ (s : WorkerState). HasCommittedSome initial s c.put_view.new.self request c.args.index) (λ i. record (c.begin.ensures.worker i) { key = old.key })
-    (c.put_view.ensures homes old.key its)
+    let initial = g.N.PhaseName.initial in let request = c.args.request.now in
+    let key = key_of_one c.in_ok-begun.begun c.one-one.result c.one-one.ensures ∙ c.in_ok-begun.ensures.key in
+    subst (λ (s : WorkerState). HasCommittedSome initial s c.put_view.new.self request c.args.index) (λ i. record (c.begin.ensures.worker i) { key = key i }) c.put_view.ensures
 
-pub show_whole-requires-clause-one : goal.show_whole-requires-clause-one
-show_whole-requires-clause-one g c =
+pub show_whole-requires-clause-can : goal.show_whole-requires-clause-can
+show_whole-requires-clause-can g c =
     let initial = g.N.PhaseName.initial in let old = c.args.self.now in
     let request = c.args.request.now in let homes = c.homes-homes.result in
     let step = step_of initial g.N.PhaseName.workers c.args.boxes.now old.key homes in
     let its = c.in_ok-begun.ensures.begun request (may_begin (length initial) old _ request homes _ c.self.view_is c.number_refusal.ensures c.in_default.is c.requires.can.goes c.homes-homes.ensures.homes c.homes-homes.ensures.footprint) in
     let openings = subst (HaveOpening initial) (sym (ap (λ (s : WorkerState). s.opening) c.begin.ensures.worker)) c.requires.can.opened in
-    on_one step c.begin.new.self request c.in_ok-begun.begun its c.requires.view openings
+    can_view c.in_ok-begun.begun c.one-one.result c.one-one.ensures request (on_one step c.begin.new.self request c.in_ok-begun.begun its c.requires.view openings)
 
 pub show_whole-requires-clause-begun : goal.show_whole-requires-clause-begun
 show_whole-requires-clause-begun g c =
     let initial = g.N.PhaseName.initial in let old = c.args.self.now in
     let request = c.args.request.now in let homes = c.homes-homes.result in
     let its = c.in_ok-begun.ensures.begun request (may_begin (length initial) old _ request homes _ c.self.view_is c.number_refusal.ensures c.in_default.is c.requires.can.goes c.homes-homes.ensures.homes c.homes-homes.ensures.footprint) in
-    (homes, old.key, its)
+    begun_on_one c.in_ok-begun.begun c.one-one.result c.one-one.ensures its c.in_ok-begun.ensures.key
 
 pub returns : goal.returns
 returns g c =
-    let initial = g.N.PhaseName.initial in let old = c.args.self.now in
-    let request = c.args.request.now in let homes = c.homes-homes.result in
-    let its = c.in_ok-begun.ensures.begun request (may_begin (length initial) old _ request homes _ c.self.view_is c.number_refusal.ensures c.in_default.is c.requires.can.goes c.homes-homes.ensures.homes c.homes-homes.ensures.footprint) in
-    subst (λ (s : WorkerState). HasCommittedSome initial s c.show_whole.new.self request c.args.index) (λ i. record (c.begin.ensures.worker i) { key = old.key })
-    (c.show_whole.ensures homes old.key its)
+    let initial = g.N.PhaseName.initial in let request = c.args.request.now in
+    let key = key_of_one c.in_ok-begun.begun c.one-one.result c.one-one.ensures ∙ c.in_ok-begun.ensures.key in
+    subst (λ (s : WorkerState). HasCommittedSome initial s c.show_whole.new.self request c.args.index) (λ i. record (c.begin.ensures.worker i) { key = key i }) c.show_whole.ensures

@@ -9,9 +9,9 @@ put_view-requires-clause-begun g c = c.requires.begun
 
 pub put_view-requires-clause-shown : goal.put_view-requires-clause-shown
 put_view-requires-clause-shown g c =
-    let took = c.args.begun.taken in let request = c.args.call.request.now in
-    subst (λ (look : Look). IsShownBy took request look c.of.result) (sym c.look_of.ensures)
-    (subst (λ (reply : Reply). IsShownBy took request (look_for request) reply) (sym c.of.ensures) c.view_on-reply.ensures)
+    let shard = c.args.one.held.shard in let request = c.args.call.request.now in
+    subst (λ (look : Look). IsShownBy shard request look c.of.result) (sym c.look_of.ensures)
+    (subst (λ (reply : Reply). IsShownBy shard request (look_for request) reply) (sym c.of.ensures) c.view_on-reply.ensures)
 
 pub returns : goal.returns
-returns g c homes key begun = c.put_view.ensures homes key begun
+returns g c = c.put_view.ensures

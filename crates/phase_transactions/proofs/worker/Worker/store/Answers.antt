@@ -1,6 +1,7 @@
 use Rattle.std.proofs.Common.{◌≡◌, true, Some, None, length, Result, Ok, Err, sym, ap, subst, ◌∙◌}
 use Rattle.std.specs.Prelude.{is_err, IfErr}
 use Rattle.auction_rows.specs.{Refusals.{number_refusal}, StoreReplies.{reply_of}}
+use Rattle.shard_boxes.specs.Keys.{KeyState}
 use Rattle.phase_transactions.proofs.AnswerLemmas.{reply_by}
 use Rattle.phase_transactions.proofs.BegunLemmas.{begun_fails, fault_performed, item_first, may_begin, needed_first}
 use Rattle.phase_transactions.proofs.EmptyLemmas.{stored_performed, refused_untaken, hot_untaken}
@@ -8,7 +9,7 @@ use Rattle.phase_transactions.proofs.FirstLemmas.{begun_before}
 use Rattle.phase_transactions.specs.{Performing.{HasCommitted, HasFailed}, WorkerFields.{state_in}}
 use Rattle.phase_transactions.specs.Workers.{WorkerState, IsLawfulWorker}
 use Rattle.phase_transactions.specs.declared.done.PermitFault.TheVariants.{Memory}
-use Rattle.phase_transactions.specs.inner.{Begun.{step_of}, Takens.{AreBack, AreHeldAll, held_in}}
+use Rattle.phase_transactions.specs.inner.{Begun.{HasBegun, step_of}, Takens.{AreBack, AreHeldAll, held_in}}
 use Rattle.phase_transactions.proofs.worker.Worker.store.Goals as goal
 
 of_err : {T E : Type 0} {P : Type 0} (result : Result T E) → is_err result ≡ true → IfErr result (λ _. P) → P
@@ -75,7 +76,9 @@ put_store-requires-clause-begun g c =
     let initial = g.N.PhaseName.initial in let old = c.args.self.now in
     let request = c.args.request.now in let homes = c.homes-homes.result in
     let its = c.in_ok-begun.ensures.begun request (may_begin (length initial) old _ request homes _ c.self.view_is c.number_refusal.ensures c.in_default.is c.requires.can.goes c.homes-homes.ensures.homes c.homes-homes.ensures.footprint) in
-    (old.key, begun_before c.in_ok-begun.begun c.prepare.new.begun c.prepare.ensures.same c.prepare.ensures.number its)
+    let key = c.prepare.ensures.key ∙ c.in_ok-begun.ensures.key in
+    subst (λ (k : KeyState). HasBegun (step_of initial g.N.PhaseName.workers c.args.boxes.now k homes) c.begin.new.self request c.prepare.new.begun) (sym key)
+    (begun_before c.in_ok-begun.begun c.prepare.new.begun c.prepare.ensures.same c.prepare.ensures.number its)
 
 pub refusal-refused-requires : goal.refusal-refused-requires
 refusal-refused-requires g c =
@@ -102,9 +105,7 @@ put_store-requires-clause-answered g c =
 
 pub returns : goal.returns
 returns g c =
-    let initial = g.N.PhaseName.initial in let old = c.args.self.now in
-    let request = c.args.request.now in let homes = c.homes-homes.result in
-    let its = c.in_ok-begun.ensures.begun request (may_begin (length initial) old _ request homes _ c.self.view_is c.number_refusal.ensures c.in_default.is c.requires.can.goes c.homes-homes.ensures.homes c.homes-homes.ensures.footprint) in
-    let begun = begun_before c.in_ok-begun.begun c.prepare.new.begun c.prepare.ensures.same c.prepare.ensures.number its in
+    let initial = g.N.PhaseName.initial in let request = c.args.request.now in
     let reply = reply_of c.reply-reply.result in
-    (reply, subst (λ (s : WorkerState). HasCommitted initial s c.put_store.new.self request c.args.index reply) (λ i. record (c.begin.ensures.worker i) { key = old.key }) (c.put_store.ensures old.key begun))
+    let key = c.prepare.ensures.key ∙ c.in_ok-begun.ensures.key in
+    (reply, subst (λ (s : WorkerState). HasCommitted initial s c.put_store.new.self request c.args.index reply) (λ i. record (c.begin.ensures.worker i) { key = key i }) c.put_store.ensures)

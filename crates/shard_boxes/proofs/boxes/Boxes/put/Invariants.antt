@@ -4,4 +4,4 @@ use Rattle.shard_boxes.proofs.boxes.Boxes.put.Given as goal
 
 -- the line that is put, with what its looks showed
 abbrev pub ghosts-put : goal.ghosts-put
-ghosts-put g a = record { line = option_map (seen_line (taken_at g.N.PhaseName.initial a.self.now a.s)) a._named_by.now }
+ghosts-put g a = record { line = option_map (seen_line (taken_at g.N.PhaseName.initial a.self.now a.s)) a._named_by.value }

@@ -1,0 +1,3 @@
+-- What no contract of a public function names.
+pub mod Plans
+pub mod Scripts

@@ -1,5 +1,0 @@
-use Rattle.std.{proofs.Common.{◌<◌, take}, specs.List.{AllByRecursion}}
-use Rattle.application_window.proofs.table_copy.are_keys.Given as goal
-
-abbrev pub invariant-loop-place : goal.invariant-loop-place
-invariant-loop-place l = AllByRecursion (λ key. key < l.records) (take l.place l.keys)
