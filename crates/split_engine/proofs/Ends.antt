@@ -23,14 +23,14 @@ module _ {Request : Type 0} where
       let more_d : take (k + 1) ds ≡ take k ds ++ d ∷ [] = ap (λ n. take n ds) (add-one k) ∙ take-suc ds k d in_ds ∙ ap (λ x. take k ds ++ x ∷ []) (sym is_d) in
       subst (λ (p : List (List Request) × List (Cursor Request)). AllFinished p.0 p.1) (λ i. (sym more_s i, sym more_d i)) (finished_push (take k ss) (take k ds) s d h f)
 
--- a worker of those that have finished
-pub finished_at : {Request : Type 0} (ss : List (List Request)) (ds : List (Cursor Request)) (k : ℕ) (s : List Request) (d : Cursor Request) →
-    k < length ss → s ≡ get_or ss k s → k < length ds → d ≡ get_or ds k d → AllFinished ss ds → (d.next ≡ length s) × (d.stash.items ≡ [])
-finished_at [] ds k s d in_ss is_s in_ds is_d h = absurd (omega (arith, in_ss))
-finished_at (t ∷ ss) [] k s d in_ss is_s in_ds is_d h = absurd (omega (arith, in_ds))
-finished_at (t ∷ ss) (e ∷ ds) zero s d in_ss is_s in_ds is_d h =
-    subst (λ (p : List _ × Cursor _). (p.1.next ≡ length p.0) × (p.1.stash.items ≡ [])) (λ i. (sym is_s i, sym is_d i)) h.0
-finished_at (t ∷ ss) (e ∷ ds) (suc k) s d in_ss is_s in_ds is_d h = finished_at ss ds k s d (omega (arith, in_ss)) is_s (omega (arith, in_ds)) is_d h.1
+  -- a worker of those that have finished
+  pub finished_at : (ss : List (List Request)) (ds : List (Cursor Request)) (k : ℕ) (s : List Request) (d : Cursor Request) →
+      k < length ss → s ≡ get_or ss k s → k < length ds → d ≡ get_or ds k d → AllFinished ss ds → (d.next ≡ length s) × (d.stash.items ≡ [])
+  finished_at [] ds k s d in_ss is_s in_ds is_d h = absurd (omega (arith, in_ss))
+  finished_at (t ∷ ss) [] k s d in_ss is_s in_ds is_d h = absurd (omega (arith, in_ds))
+  finished_at (t ∷ ss) (e ∷ ds) zero s d in_ss is_s in_ds is_d h =
+      subst (λ (p : List Request × Cursor Request). (p.1.next ≡ length p.0) × (p.1.stash.items ≡ [])) (λ i. (sym is_s i, sym is_d i)) h.0
+  finished_at (t ∷ ss) (e ∷ ds) (suc k) s d in_ss is_s in_ds is_d h = finished_at ss ds k s d (omega (arith, in_ss)) is_s (omega (arith, in_ds)) is_d h.1
 
 pub finished_set : {Request : Type 0} (ss : List (List Request)) (ds : List (Cursor Request)) (k : ℕ) (s : List Request) (d : Cursor Request) →
     k < length ss → s ≡ get_or ss k s → length ds ≡ length ss → AllFinished (take k ss) (take k ds) → (d.next ≡ length s) × (d.stash.items ≡ []) →

@@ -6,4 +6,3 @@ mod States
 mod Ends
 mod Sessions
 pub mod Counts
-mod Pairs

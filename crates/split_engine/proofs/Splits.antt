@@ -1,5 +1,6 @@
 -- Split phases, for any application that meets the laws.
-use Rattle.std.proofs.Common.{◌≡◌, ℕ, zero, suc, ◌+◌, ◌*◌, ◌≤◌, true, List, [], ◌∷◌, length, replicate, fold, refl, sym, ap, ◌∙◌, subst, arith}
+use Rattle.std.proofs.Common.{◌≡◌, ℕ, zero, suc, ◌+◌, ◌*◌, ◌<◌, ◌≤◌, true, min, List, [], ◌∷◌, length, get_or, replicate, drop, fold, refl, sym, ap, ◌∙◌, subst, arith}
+use Rattle.std.proofs.Math.{ListN.{drop_of_length-le}, Nat.{le-min}}
 use Rattle.std.{proofs.lemmas.List.{length-set, length-replicate}, specs.List.{zip, AllByRecursion}}
 use Rattle.split_engine.specs.Rules.{Rules, SplitLaws, looks_in}
 use Rattle.split_engine.specs.Serial.{record_at, after_act, after_acts, looks_at, decision, acts_at, after_entry, ReplaysFrom, table_after}
@@ -24,6 +25,14 @@ pub length-acts : {Record Slice Look Request Reply Act : Type 0} (rules : Rules 
 length-acts rules t [] = refl
 length-acts rules t (x ∷ ps) = length-acts rules (after_act rules t x.0 x.1) ps ∙ length-set t x.0 _
 
+-- the next of acts at keys
+pub zip_next : {K X : Type 0} (ks : List K) (xs : List X) (n : ℕ) (k : K) (x : X) → n < length ks → n < length xs → k ≡ get_or ks n k → x ≡ get_or xs n x →
+    drop n (zip ks xs) ≡ (k, x) ∷ drop (suc n) (zip ks xs)
+zip_next [] xs n k x lt more is at = absurd (omega (arith, lt))
+zip_next (j ∷ ks) [] n k x lt more is at = absurd (omega (arith, more))
+zip_next (j ∷ ks) (y ∷ xs) zero k x lt more is at = λ i. (sym is i, sym at i) ∷ zip ks xs
+zip_next (j ∷ ks) (y ∷ xs) (suc n) k x lt more is at = zip_next ks xs n k x (omega (arith, lt)) (omega (arith, more)) is at
+
 -- what holds of all acts holds of those at keys, which are no more
 pub all_zipped : {K X : Type 0} (P : X → Type 0) (ks : List K) (xs : List X) → AllByRecursion P xs → AllByRecursion (λ (p : K × X). P p.1) (zip ks xs)
 all_zipped P (k ∷ ks) (x ∷ xs) h = (h.0, all_zipped P ks xs h.1)
@@ -32,6 +41,16 @@ all_zipped P ks xs h = tt
 pub zipped_few : {K X : Type 0} (ks : List K) (xs : List X) → length (zip ks xs) ≤ length xs
 zipped_few (k ∷ ks) (x ∷ xs) = let rest = zipped_few ks xs in omega (arith, rest)
 zipped_few ks xs = omega arith
+
+pub zipped_short : {K X : Type 0} (ks : List K) (xs : List X) → length (zip ks xs) ≤ length ks
+zipped_short (k ∷ ks) (x ∷ xs) = let rest = zipped_short ks xs in omega (arith, rest)
+zipped_short ks xs = omega arith
+
+-- none is left after as many as there are of both
+pub zip_end : {K X : Type 0} (ks : List K) (xs : List X) (n a b : ℕ) → a ≡ length ks → b ≡ length xs → min a b ≤ n → drop n (zip ks xs) ≡ []
+zip_end ks xs n a b keys acts end =
+    let short = le-min {k = length (zip ks xs)} {a = a} {b = b} (omega (arith, keys, zipped_short ks xs)) (omega (arith, acts, zipped_few ks xs)) in
+    drop_of_length-le (zip ks xs) {i = n} (omega (arith, short, end))
 
 module _ {Record Slice Look Request Reply Act : Type 0} (rules : Rules Record Slice Look Request Reply Act)
     (Fits : ℕ → Record → Type 0) (SliceFits : ℕ → Slice → Type 0) (IsSmall : Act → Type 0)

@@ -37,8 +37,8 @@ fn act_all<A: Application>(table: &mut Vec<A::Record>, keys: &Few<u32>, acts: &F
     ensures fits { (n : ℕ) → AllByRecursion (A.fits n) table.old.items →
         AllByRecursion (A.fits (n + MOST_KEYS)) table.new.items }
 {
-    for (key, act) in keys.iter().zip(acts.iter()) {
-        act_on::<A>(table, key, act);
+    for place in 0..keys.len().min(acts.len()) {
+        act_on::<A>(table, keys.at(place), acts.at(place));
     }
 }
 

@@ -76,8 +76,8 @@ fn act_all<A: Application>(
     ensures slices { OnOk result (slices.new
         ≡ after_slice_acts A.rules slices.old (zip keys.now acts.now)) }
 {
-    for (key, act) in keys.iter().zip(acts.iter()) {
-        slices.act(key, act)?;
+    for place in 0..keys.len().min(acts.len()) {
+        slices.act(keys.at(place), acts.at(place))?;
     }
     Ok(())
 }

@@ -83,7 +83,7 @@ unfolding shares_below
 one_more skew rank skewed =
     let next : suc rank ≡ rank + 1 = omega arith in
     subst (λ n. shares_below skew n ≡ shares_below skew rank + weight skew (rank + 1)) next
-        (ap (λ n. shares_below skew rank + n) (share_skewed skew rank skewed))
+    (ap (λ n. shares_below skew rank + n) (share_skewed skew rank skewed))
 
 -- so many shares are not too many
 pub below_most : (skew count : ℕ) → shares_below skew count ≤ count * 2 ^ 40
@@ -141,7 +141,7 @@ sum_at skew (suc n) k within =
       | inr after ↦
           let here : k ≡ n = omega arith in
           subst (λ i. get_or (sums ++ last ∷ []) i 0 ≡ shares_below skew (suc i)) (sym here)
-              (subst (λ i. get_or (sums ++ last ∷ []) i 0 ≡ last) long (get_or-append_seam sums last [] 0))
+          (subst (λ i. get_or (sums ++ last ∷ []) i 0 ≡ last) long (get_or-append_seam sums last [] 0))
     ]
 
 -- there is a share

@@ -10,19 +10,19 @@ loop-rank-init c = search rules
 pub overflow_add-sum : goal.overflow_add-sum
 overflow_add-sum c =
     let most = below_most c.args.skew c.loop-rank.rank in
-    omega (arith, most, c.loop-rank.invariant.1, c.weight_of.ensures.most)
+    omega (arith, most, c.loop-rank.invariant.1, c.weight_of-sum.ensures.most)
 
 pub loop-rank-preserved : goal.loop-rank-preserved
 loop-rank-preserved c =
     let skew = c.args.skew in let rank = c.loop-rank.rank in
     let skewed : 0 < skew = omega arith in
-    let sum : c.loop-rank.sum + c.weight_of.result ≡ shares_below skew (rank + 1) =
-        ap (λ n. n + c.weight_of.result) c.loop-rank.invariant.1
-        ∙ ap (λ n. shares_below skew rank + n) c.weight_of.ensures.value
-        ∙ sym (one_more skew rank skewed) in
-    let pushed : c.push.new.self.items ≡ c.loop-rank.sums.items ++ (c.loop-rank.sum + c.weight_of.result) ∷ [] = search rules in (
+    let sum : c.loop-rank.sum + c.weight_of-sum.result ≡ shares_below skew (rank + 1) =
+    ap (λ n. n + c.weight_of-sum.result) c.loop-rank.invariant.1
+    ∙ ap (λ n. shares_below skew rank + n) c.weight_of-sum.ensures.value
+    ∙ sym (one_more skew rank skewed) in
+    let pushed : c.push.new.self.items ≡ c.loop-rank.sums.items ++ (c.loop-rank.sum + c.weight_of-sum.result) ∷ [] = search rules in (
       pushed
-          ∙ ap (λ (l : List ℕ). l ++ (c.loop-rank.sum + c.weight_of.result) ∷ []) c.loop-rank.invariant.0
+          ∙ ap (λ (l : List ℕ). l ++ (c.loop-rank.sum + c.weight_of-sum.result) ∷ []) c.loop-rank.invariant.0
           ∙ ap (λ n. sums_of skew rank ++ n ∷ []) sum
           ∙ sym (sums_more skew rank),
       sum,

@@ -3,9 +3,9 @@ use Rattle.zipf_draws.proofs.{DrawLemmas.{point_alike, point_skewed}, ShareLemma
 use Rattle.zipf_draws.specs.Ranks.{words}
 use Rattle.zipf_draws.proofs.popularity.Popularity.point.Goals as goal
 
-pub returns-then-skew-eq0 : goal.returns-then-skew-eq0
-returns-then-skew-eq0 c =
-    let it = c.args.self.now in let is = c.if-skew-eq0.true in
+pub returns-then-self-eq0 : goal.returns-then-self-eq0
+returns-then-self-eq0 c =
+    let it = c.args.self.now in let is = c.if-self-eq0.true in
     let drawn = point_alike it.skew it.count c.random_range-rank.result _ (words c.args.rng.now) (words c.random_range-rank.new.self) is (omega (arith, it.few)) c.random_range-rank.ensures.drawn in record {
       below = omega (arith, alike it.skew it.count is, c.random_range-rank.ensures.within, c.from.ensures);
       value = c.from.ensures ∙ drawn.0;

@@ -3,9 +3,9 @@ use Rattle.std.proofs.lemmas.List.Sorted.{IsPartitionPoint-from_clause, IsPartit
 use Rattle.zipf_draws.proofs.ShareLemmas.{alike, alike_rank, is_rank, kept_length, kept_rise}
 use Rattle.zipf_draws.proofs.popularity.Popularity.rank_at.Goals as goal
 
-pub returns-then-skew-eq0 : goal.returns-then-skew-eq0
-returns-then-skew-eq0 c =
-    let it = c.args.self.now in let is = c.if-skew-eq0.true in record {
+pub returns-then-self-eq0 : goal.returns-then-self-eq0
+returns-then-self-eq0 c =
+    let it = c.args.self.now in let is = c.if-self-eq0.true in record {
       below = omega (arith, alike it.skew it.count is, c.requires);
       share = alike_rank it.skew c.args.point is;
     }
@@ -22,3 +22,12 @@ returns c =
       below = ranked.0;
       share = ranked.1;
     }
+
+pub overflow_cast-result : goal.overflow_cast-result
+overflow_cast-result c = let it = c.args.self.now in omega (arith, alike it.skew it.count c.if-self-eq0.true, it.few, c.requires)
+
+pub overflow_cast-result-2 : goal.overflow_cast-result-2
+overflow_cast-result-2 c =
+    let it = c.args.self.now in
+    let long = kept_length it.skew it.count c.deref.result.now (c.deref.ensures.value ∙ it.kept) (omega arith) in
+    omega (arith, long, it.few, c.partition_point.ensures.bound)

@@ -3,9 +3,9 @@ use Rattle.std.proofs.lemmas.List.{get_or_read}
 use Rattle.zipf_draws.proofs.ShareLemmas.{alike, kept_length, kept_total, some_shares}
 use Rattle.zipf_draws.proofs.popularity.Popularity.total.Goals as goal
 
-pub returns-then-skew-eq0-clause-value : goal.returns-then-skew-eq0-clause-value
-returns-then-skew-eq0-clause-value c =
-    let it = c.args.self.now in c.from.ensures ∙ sym (alike it.skew it.count c.if-skew-eq0.true)
+pub returns-then-self-eq0-clause-value : goal.returns-then-self-eq0-clause-value
+returns-then-self-eq0-clause-value c =
+    let it = c.args.self.now in c.from.ensures ∙ sym (alike it.skew it.count c.if-self-eq0.true)
 
 pub index-requires : goal.index-requires
 index-requires c =
