@@ -1,8 +1,10 @@
 //! The objects that a request touches and writes, where an object lies, and when a request is
 //! refused.
-ghost use Rattle.std.specs.Prelude.{◌≡◌, ◌<◌};
+ghost use Rattle.std.specs.Prelude.{◌≡◌, ◌<◌, ℕ};
 ghost use Rattle.auction_rows.specs.Refusals.{number_refusal, item_refusal};
 ghost use Rattle.auction_rows.specs.Requests.{touches, writes, is_view, is_splittable, shard_of, item_of};
+ghost use Rattle.auction_rows.specs.declared.requests.ItemId.{ItemId as ItemIdValue};
+ghost use Rattle.auction_rows.specs.declared.requests.Request.TheVariants.{StoreBid};
 
 use crate::replies::Refusal;
 use crate::requests::{Facts, ItemId, Object, Request};
@@ -102,7 +104,7 @@ pub fn number_refusal(opening: Opening, request: Request) -> Option<Refusal>
         Request::StoreItem { facts, .. } if opening.categories <= facts.category => {
             Some(Refusal::NoSuchCategory)
         }
-        Request::StoreBid { bidder, .. } if opening.users <= bidder => Some(Refusal::NoSuchUser),
+        Request::StoreBid { bidder, .. } => bidder_refusal(opening, bidder),
         Request::StoreComment { author, about, .. }
             if opening.users <= author || opening.users <= about => { Some(Refusal::NoSuchUser) }
         Request::BuyNow { buyer, .. } if opening.users <= buyer => Some(Refusal::NoSuchUser),
@@ -114,6 +116,19 @@ pub fn number_refusal(opening: Opening, request: Request) -> Option<Refusal>
     }
 }
 
+/// The reason that the opening gives to refuse a bid, if it gives one: the bidder is none of its
+/// users.
+#[inline(always)]
+pub fn bidder_refusal(opening: Opening, bidder: u32) -> Option<Refusal>
+    ensures { (item : ItemIdValue) → (amount : ℕ) → (time : ℕ) →
+        result ≡ number_refusal opening (StoreBid bidder item amount time) }
+{
+    if opening.users <= bidder {
+        return Some(Refusal::NoSuchUser);
+    }
+    None
+}
+
 /// The first reason that the item of a request gives to refuse it, by what is stored of that item
 /// and by how many of it are left (which is not looked at where nothing is stored).
 #[inline(always)]
@@ -122,13 +137,7 @@ pub fn item_refusal(request: Request, stored: Option<Facts>, left: u32) -> Optio
 {
     match request {
         Request::StoreItem { .. } | Request::ViewCategory { .. } | Request::ViewUser { .. } => None,
-        Request::StoreBid { amount, time, .. } => match stored {
-            None => Some(Refusal::NoSuchItem),
-            Some(facts) if amount < facts.start => Some(Refusal::BelowStart),
-            Some(facts) if facts.closes <= time => Some(Refusal::Closed),
-            Some(_) if left == 0 => Some(Refusal::SoldOut),
-            Some(_) => None,
-        },
+        Request::StoreBid { amount, time, .. } => bid_refusal(amount, time, stored, left),
         Request::BuyNow { quantity, time, .. } => match stored {
             None => Some(Refusal::NoSuchItem),
             Some(facts) if facts.closes <= time => Some(Refusal::Closed),
@@ -142,5 +151,21 @@ pub fn item_refusal(request: Request, stored: Option<Facts>, left: u32) -> Optio
                 None
             }
         }
+    }
+}
+
+/// The first reason that its item gives to refuse a bid of this amount, by what is stored of that
+/// item and by how many of it are left (which is not looked at where nothing is stored).
+#[inline(always)]
+pub fn bid_refusal(amount: u64, time: u64, stored: Option<Facts>, left: u32) -> Option<Refusal>
+    ensures { (bidder : ℕ) → (item : ItemIdValue) →
+        result ≡ item_refusal (StoreBid bidder item amount time) stored left }
+{
+    match stored {
+        None => Some(Refusal::NoSuchItem),
+        Some(facts) if amount < facts.start => Some(Refusal::BelowStart),
+        Some(facts) if facts.closes <= time => Some(Refusal::Closed),
+        Some(_) if left == 0 => Some(Refusal::SoldOut),
+        Some(_) => None,
     }
 }

@@ -8,7 +8,7 @@ use crate::shard::Shard;
 use crate::shard::items::refusal_with;
 use auction_rows::{
     BidEntry, BidId, BuyId, CommentId, ItemId, MOST_WORKERS, Opening, Refusal, Reply, Request, Row,
-    StoreReply, is_view, item_of, number_refusal, row_of_store,
+    StoreReply, bidder_refusal, is_view, item_of, number_refusal, row_of_store,
 };
 use std::alloc::{AllocError, Global};
 
@@ -204,13 +204,7 @@ impl SerialAuction {
             (next (serial_opening self.old) book bid.id.worker (bid_request item bid)) }
         ensures opening { serial_opening self.new ≡ serial_opening self.old }
     {
-        let request = Request::StoreBid {
-            bidder: bid.bidder,
-            item,
-            amount: bid.amount,
-            time: bid.time,
-        };
-        if let Some(reason) = number_refusal(self.shard.parts.opening, request) {
+        if let Some(reason) = bidder_refusal(self.shard.parts.opening, bid.bidder) {
             return StoreReply::Refused(reason);
         }
         if let Some(reason) = self.shard.try_bid(item, bid) {

@@ -14,7 +14,7 @@ use crate::taken::{
     Begun, BegunOne, make_room, number_on, put_all, put_back, put_with_line, take_all,
 };
 use crate::worker::Worker;
-use auction_rows::{BidEntry, Refusal, Request, StoreReply, number_refusal};
+use auction_rows::{BidEntry, Refusal, Request, StoreReply, bidder_refusal, number_refusal};
 use item_shards::{Act, Look, next_number, refusal_with};
 use shard_boxes::{Boxes, PhaseName};
 use std::alloc::AllocError;
@@ -94,7 +94,7 @@ impl<N: PhaseName> Worker<N> {
             time: bid.time,
         };
         let call = Call { request, index };
-        if let Some(reason) = number_refusal(self.opening, *request) {
+        if let Some(reason) = bidder_refusal(self.opening, bid.bidder) {
             return self.refuse(call, reason);
         }
         let homes = self.homes(request);

@@ -1,13 +1,16 @@
 //! The items of a shard: room for one, what is known of it, why it refuses a request, its bids,
 //! purchases and merged slices.
 ghost use Rattle.std.specs.Prelude.{◌≡◌, ◌+◌, ◌<◌, ◌^◌, IfSome, OnOk, OnErr};
+ghost use Rattle.auction_rows.specs.declared.requests.ItemId.{ItemId as ItemIdValue};
 ghost use Rattle.indexmap.specs.IndexMap.{IsUnchanged};
 ghost use Rattle.item_shards.specs.Answering.{bid_request, refusal_with, stock_needed, HasItemOf};
 
 use crate::shard::Shard;
 use crate::shard::records::ItemRecord;
 use crate::shard::slices::ItemSlice;
-use auction_rows::{BidEntry, Facts, ItemId, Quantity, Refusal, Request, item_of, item_refusal};
+use auction_rows::{
+    BidEntry, Facts, ItemId, Quantity, Refusal, Request, bid_refusal, item_of, item_refusal,
+};
 use indexmap::IndexMap;
 use std::alloc::AllocError;
 
@@ -20,6 +23,17 @@ pub fn refusal_with(stock: &Option<(Facts, u32)>, request: &Request) -> Option<R
     match *stock {
         Some((facts, left)) => item_refusal(*request, Some(facts), left),
         None => item_refusal(*request, None, 0),
+    }
+}
+
+// The first reason for which an item refuses a bid, as `refusal_with` gives it.
+#[inline(always)]
+fn bid_refusal_with(stock: &Option<(Facts, u32)>, bid: BidEntry) -> Option<Refusal>
+    ensures { (item : ItemIdValue) → result ≡ refusal_with stock.now (bid_request item bid) }
+{
+    match *stock {
+        Some((facts, left)) => bid_refusal(bid.amount, bid.time, Some(facts), left),
+        None => bid_refusal(bid.amount, bid.time, None, 0),
     }
 }
 
@@ -134,13 +148,7 @@ impl Shard {
         let Some((place, record)) = self.find(item) else {
             return Some(Refusal::NoSuchItem);
         };
-        let request = Request::StoreBid {
-            bidder: bid.bidder,
-            item,
-            amount: bid.amount,
-            time: bid.time,
-        };
-        if let Some(reason) = refusal_with(&record.stock(), &request) {
+        if let Some(reason) = bid_refusal_with(&record.stock(), bid) {
             return Some(reason);
         }
         if let Some(found) = self.parts.items.get_index_mut(place) {

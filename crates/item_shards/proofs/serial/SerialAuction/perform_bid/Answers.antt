@@ -23,19 +23,19 @@ overflow_add-counts c =
 pub returns-in-Some-clause-reply : goal.returns-in-Some-clause-reply
 returns-in-Some-clause-reply c = λ b holds.
     let start = serial_opening c.args.self.now in
-    let is : number_refusal start (bid_request c.args.item c.args.bid) ≡ Some c.in-Some.reason = by_opening c.args.self.now c.deref.result.now (bid_request c.args.item c.args.bid) c.number_refusal.result c.deref.ensures c.number_refusal.ensures ∙ c.in-Some.is in
+    let is : number_refusal start (bid_request c.args.item c.args.bid) ≡ Some c.in-Some.reason = by_opening c.args.self.now c.deref.result.now (bid_request c.args.item c.args.bid) c.bidder_refusal.result c.deref.ensures (c.bidder_refusal.ensures c.args.item c.args.bid.amount c.args.bid.time) ∙ c.in-Some.is in
     sym (refused_reply start b c.args.item c.args.bid c.in-Some.reason (refused_by_number start b (bid_request c.args.item c.args.bid) c.in-Some.reason is))
 
 pub returns-in-Some-clause-book : goal.returns-in-Some-clause-book
 returns-in-Some-clause-book c = λ b holds not_full.
     let start = serial_opening c.args.self.now in
-    let is : number_refusal start (bid_request c.args.item c.args.bid) ≡ Some c.in-Some.reason = by_opening c.args.self.now c.deref.result.now (bid_request c.args.item c.args.bid) c.number_refusal.result c.deref.ensures c.number_refusal.ensures ∙ c.in-Some.is in
+    let is : number_refusal start (bid_request c.args.item c.args.bid) ≡ Some c.in-Some.reason = by_opening c.args.self.now c.deref.result.now (bid_request c.args.item c.args.bid) c.bidder_refusal.result c.deref.ensures (c.bidder_refusal.ensures c.args.item c.args.bid.amount c.args.bid.time) ∙ c.in-Some.is in
     subst (HoldsBook c.args.self.now) (sym (refused_next start b c.args.item c.args.bid c.in-Some.reason (refused_by_number start b (bid_request c.args.item c.args.bid) c.in-Some.reason is))) holds
 
 pub returns-in-Some-try_bid-clause-reply : goal.returns-in-Some-try_bid-clause-reply
 returns-in-Some-try_bid-clause-reply c = λ b holds.
     let auction = c.args.self.now in let item = c.args.item in
-    let none : number_refusal (serial_opening auction) (bid_request item c.args.bid) ≡ None = by_opening c.args.self.now c.deref.result.now (bid_request c.args.item c.args.bid) c.number_refusal.result c.deref.ensures c.number_refusal.ensures ∙ c.in_default.is in
+    let none : number_refusal (serial_opening auction) (bid_request item c.args.bid) ≡ None = by_opening c.args.self.now c.deref.result.now (bid_request c.args.item c.args.bid) c.bidder_refusal.result c.deref.ensures (c.bidder_refusal.ensures c.args.item c.args.bid.amount c.args.bid.time) ∙ c.in_default.is in
     let is : refusal (serial_opening auction) b (bid_request item c.args.bid) ≡ Some c.in-Some-try_bid.reason =
     sym (refused_as auction b holds item (auction.has_all (Item item)) c.args.bid none) ∙ sym c.in-Some-try_bid.ensures.by in
     sym (refused_reply (serial_opening auction) b item c.args.bid c.in-Some-try_bid.reason is)
@@ -43,7 +43,7 @@ returns-in-Some-try_bid-clause-reply c = λ b holds.
 pub returns-in-Some-try_bid-clause-book : goal.returns-in-Some-try_bid-clause-book
 returns-in-Some-try_bid-clause-book c = λ b holds not_full.
     let auction = c.args.self.now in let item = c.args.item in
-    let none : number_refusal (serial_opening auction) (bid_request item c.args.bid) ≡ None = by_opening c.args.self.now c.deref.result.now (bid_request c.args.item c.args.bid) c.number_refusal.result c.deref.ensures c.number_refusal.ensures ∙ c.in_default.is in
+    let none : number_refusal (serial_opening auction) (bid_request item c.args.bid) ≡ None = by_opening c.args.self.now c.deref.result.now (bid_request c.args.item c.args.bid) c.bidder_refusal.result c.deref.ensures (c.bidder_refusal.ensures c.args.item c.args.bid.amount c.args.bid.time) ∙ c.in_default.is in
     let is : refusal (serial_opening auction) b (bid_request item c.args.bid) ≡ Some c.in-Some-try_bid.reason =
     sym (refused_as auction b holds item (auction.has_all (Item item)) c.args.bid none) ∙ sym c.in-Some-try_bid.ensures.by in
     subst (HoldsBook _) (sym (refused_next (serial_opening auction) b item c.args.bid c.in-Some-try_bid.reason is)) (record {
@@ -55,7 +55,7 @@ returns-in-Some-try_bid-clause-book c = λ b holds not_full.
 pub returns-clause-reply : goal.returns-clause-reply
 returns-clause-reply c = λ b holds.
     let auction = c.args.self.now in let item = c.args.item in
-    let none : number_refusal (serial_opening auction) (bid_request item c.args.bid) ≡ None = by_opening c.args.self.now c.deref.result.now (bid_request c.args.item c.args.bid) c.number_refusal.result c.deref.ensures c.number_refusal.ensures ∙ c.in_default.is in
+    let none : number_refusal (serial_opening auction) (bid_request item c.args.bid) ≡ None = by_opening c.args.self.now c.deref.result.now (bid_request c.args.item c.args.bid) c.bidder_refusal.result c.deref.ensures (c.bidder_refusal.ensures c.args.item c.args.bid.amount c.args.bid.time) ∙ c.in_default.is in
     let taken : refusal (serial_opening auction) b (bid_request item c.args.bid) ≡ None =
     sym (refused_as auction b holds item (auction.has_all (Item item)) c.args.bid none) ∙ sym c.in_default-try_bid.ensures.by in
     sym (stored_reply (serial_opening auction) b item c.args.bid taken (next_id auction b holds c.args.bid.id.worker c.args.bid.id.serial c.requires.worker c.requires.id))
@@ -65,7 +65,7 @@ returns-clause-book c = λ b holds not_full.
     let auction = c.args.self.now in let shard = auction.shard in
     let start = serial_opening auction in let item = c.args.item in
     let r = bid_row item c.args.bid in
-    let none : number_refusal start (bid_request item c.args.bid) ≡ None = by_opening c.args.self.now c.deref.result.now (bid_request c.args.item c.args.bid) c.number_refusal.result c.deref.ensures c.number_refusal.ensures ∙ c.in_default.is in
+    let none : number_refusal start (bid_request item c.args.bid) ≡ None = by_opening c.args.self.now c.deref.result.now (bid_request c.args.item c.args.bid) c.bidder_refusal.result c.deref.ensures (c.bidder_refusal.ensures c.args.item c.args.bid.amount c.args.bid.time) ∙ c.in_default.is in
     let taken : refusal start b (bid_request item c.args.bid) ≡ None =
     sym (refused_as auction b holds item (auction.has_all (Item item)) c.args.bid none) ∙ sym c.in_default-try_bid.ensures.by in
     subst (HoldsBook _) (sym (stored_next start b item c.args.bid taken (next_id auction b holds c.args.bid.id.worker c.args.bid.id.serial c.requires.worker c.requires.id))) (record {

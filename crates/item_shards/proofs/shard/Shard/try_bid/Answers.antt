@@ -15,8 +15,8 @@ bid-requires c =
 pub returns-in_default-clause-after : goal.returns-in_default-clause-after
 returns-in_default-clause-after c = unchanged c.args.self.now
 
-pub returns-in-Some-refusal_with-clause-after : goal.returns-in-Some-refusal_with-clause-after
-returns-in-Some-refusal_with-clause-after c = unchanged c.args.self.now
+pub returns-in-Some-bid_refusal_with-clause-after : goal.returns-in-Some-bid_refusal_with-clause-after
+returns-in-Some-bid_refusal_with-clause-after c = unchanged c.args.self.now
 
 pub returns-in-Some-get_index_mut-clause-after : goal.returns-in-Some-get_index_mut-clause-after
 returns-in-Some-get_index_mut-clause-after c = record {

@@ -28,7 +28,7 @@ pub returns-in-Some : goal.returns-in-Some
 returns-in-Some g c =
     let initial = g.N.PhaseName.initial in let old = c.args.self.now in let bid = c.args.bid.now in
     let request = request_of bid in
-    let refused : number_refusal old.opening request ≡ Some c.in-Some.reason = sym (ap (λ (w : WorkerState). number_refusal w.opening request) c.self.view_is) ∙ sym c.number_refusal.ensures ∙ c.in-Some.is in
+    let refused : number_refusal old.opening request ≡ Some c.in-Some.reason = sym (ap (λ (w : WorkerState). number_refusal w.opening request) c.self.view_is) ∙ sym (c.bidder_refusal.ensures bid.item bid.amount bid.time) ∙ c.in-Some.is in
     stored_performed initial old c.refuse.new.self request c.args.index c.requires.idle c.refuse.result c.refuse.ensures
     (λ answer stored. refused_untaken old (length initial) c.args.index request c.in-Some.reason answer refused) c.requires.goes
 
@@ -36,7 +36,7 @@ pub returns-then-is_none : goal.returns-then-is_none
 returns-then-is_none g c =
     let initial = g.N.PhaseName.initial in let old = c.args.self.now in let bid = c.args.bid.now in
     let request = request_of bid in let homes = c.homes-homes.result in
-    let allowed : number_refusal old.opening request ≡ None = sym (ap (λ (w : WorkerState). number_refusal w.opening request) c.self.view_is) ∙ sym c.number_refusal.ensures ∙ c.in_default.is in
+    let allowed : number_refusal old.opening request ≡ None = sym (ap (λ (w : WorkerState). number_refusal w.opening request) c.self.view_is) ∙ sym (c.bidder_refusal.ensures bid.item bid.amount bid.time) ∙ c.in_default.is in
     let item : shard_at homes.item ≡ None = sym c.shard.ensures ∙ none_of c.shard.result c.is_none.result c.is_none.ensures c.if-is_none.true in
     stored_performed initial old c.store_hot.new.self request c.args.index c.requires.idle c.store_hot.result c.store_hot.ensures
     (λ answer stored. hot_untaken old c.store_hot.new.self (length initial) c.args.index request homes answer allowed stored
@@ -47,7 +47,7 @@ returns-in_err-begun g c =
     let initial = g.N.PhaseName.initial in let old = c.args.self.now in let bid = c.args.bid.now in
     let request = request_of bid in let homes = c.homes-homes.result in
     fault_performed initial old c.begin.new.self request c.args.index c.from_residual.result c.in_err-begun.field-0.0 c.from_residual.ensures.1
-    (c.in_err-begun.ensures.full request (may_begin (length initial) old _ request homes _ c.self.view_is c.number_refusal.ensures c.in_default.is c.requires.goes c.homes-homes.ensures.homes c.homes-homes.ensures.footprint))
+    (c.in_err-begun.ensures.full request (may_begin (length initial) old _ request homes _ c.self.view_is (c.bidder_refusal.ensures bid.item bid.amount bid.time) c.in_default.is c.requires.goes c.homes-homes.ensures.homes c.homes-homes.ensures.footprint))
 
 pub one-one-requires : goal.one-one-requires
 one-one-requires g c =
@@ -55,7 +55,7 @@ one-one-requires g c =
     let entry = entry_of bid c.next_bid.result in
     let request = request_of bid in let homes = c.homes-homes.result in
     let step = step_of initial g.N.PhaseName.workers c.args.boxes.now old.key homes in
-    let its = c.in_ok-begun.ensures.begun request (may_begin (length initial) old _ request homes _ c.self.view_is c.number_refusal.ensures c.in_default.is c.requires.goes c.homes-homes.ensures.homes c.homes-homes.ensures.footprint) in
+    let its = c.in_ok-begun.ensures.begun request (may_begin (length initial) old _ request homes _ c.self.view_is (c.bidder_refusal.ensures bid.item bid.amount bid.time) c.in_default.is c.requires.goes c.homes-homes.ensures.homes c.homes-homes.ensures.footprint) in
     bid_took_one step c.begin.new.self bid.item entry c.in_ok-begun.begun its (subst IsSome c.shard.ensures (c.is_none.ensures ∙ ap not c.if-is_none.false))
 
 pub bid-trace-requires : goal.bid-trace-requires
@@ -65,7 +65,7 @@ bid-trace-requires g c =
     let request = request_of bid in let homes = c.homes-homes.result in
     let step = step_of initial g.N.PhaseName.workers c.args.boxes.now old.key homes in
     let one = c.one-one.result in
-    let its = subst (HasBegun step c.begin.new.self request) c.one-one.ensures (c.in_ok-begun.ensures.begun request (may_begin (length initial) old _ request homes _ c.self.view_is c.number_refusal.ensures c.in_default.is c.requires.goes c.homes-homes.ensures.homes c.homes-homes.ensures.footprint)) in
+    let its = subst (HasBegun step c.begin.new.self request) c.one-one.ensures (c.in_ok-begun.ensures.begun request (may_begin (length initial) old _ request homes _ c.self.view_is (c.bidder_refusal.ensures bid.item bid.amount bid.time) c.in_default.is c.requires.goes c.homes-homes.ensures.homes c.homes-homes.ensures.footprint)) in
     let held = bid_held step c.begin.new.self bid.item entry (begun_of one) its one.held refl in
     record {
       later = held.later;
@@ -80,7 +80,7 @@ put_acted-requires-clause-of g c =
     let request = request_of bid in let homes = c.homes-homes.result in
     let step = step_of initial g.N.PhaseName.workers c.args.boxes.now old.key homes in
     let one = c.one-one.result in
-    let its = subst (HasBegun step c.begin.new.self request) c.one-one.ensures (c.in_ok-begun.ensures.begun request (may_begin (length initial) old _ request homes _ c.self.view_is c.number_refusal.ensures c.in_default.is c.requires.goes c.homes-homes.ensures.homes c.homes-homes.ensures.footprint)) in
+    let its = subst (HasBegun step c.begin.new.self request) c.one-one.ensures (c.in_ok-begun.ensures.begun request (may_begin (length initial) old _ request homes _ c.self.view_is (c.bidder_refusal.ensures bid.item bid.amount bid.time) c.in_default.is c.requires.goes c.homes-homes.ensures.homes c.homes-homes.ensures.footprint)) in
     subst (λ (s : WorkerState). s.key.boxes ≡ c.args.boxes.now) (sym c.self-2.view_is) its.held.boxes_are
 
 pub put_acted-requires-clause-holder : goal.put_acted-requires-clause-holder
@@ -90,7 +90,7 @@ put_acted-requires-clause-holder g c =
     let request = request_of bid in let homes = c.homes-homes.result in
     let step = step_of initial g.N.PhaseName.workers c.args.boxes.now old.key homes in
     let one = c.one-one.result in
-    let its = subst (HasBegun step c.begin.new.self request) c.one-one.ensures (c.in_ok-begun.ensures.begun request (may_begin (length initial) old _ request homes _ c.self.view_is c.number_refusal.ensures c.in_default.is c.requires.goes c.homes-homes.ensures.homes c.homes-homes.ensures.footprint)) in
+    let its = subst (HasBegun step c.begin.new.self request) c.one-one.ensures (c.in_ok-begun.ensures.begun request (may_begin (length initial) old _ request homes _ c.self.view_is (c.bidder_refusal.ensures bid.item bid.amount bid.time) c.in_default.is c.requires.goes c.homes-homes.ensures.homes c.homes-homes.ensures.footprint)) in
     let held = bid_held step c.begin.new.self bid.item entry (begun_of one) its one.held refl in
     let made = c.bid-trace.ensures in let new = c.bid-trace.new.self in
     subst (λ (s : WorkerState). holds_at s.key new.number ≡ true) (sym c.self-2.view_is) (acted_holder held new c.bid-trace.result.0 made.number made.follows made.after)
@@ -102,7 +102,7 @@ put_acted-requires-clause-may g c =
     let request = request_of bid in let homes = c.homes-homes.result in
     let step = step_of initial g.N.PhaseName.workers c.args.boxes.now old.key homes in
     let one = c.one-one.result in
-    let its = subst (HasBegun step c.begin.new.self request) c.one-one.ensures (c.in_ok-begun.ensures.begun request (may_begin (length initial) old _ request homes _ c.self.view_is c.number_refusal.ensures c.in_default.is c.requires.goes c.homes-homes.ensures.homes c.homes-homes.ensures.footprint)) in
+    let its = subst (HasBegun step c.begin.new.self request) c.one-one.ensures (c.in_ok-begun.ensures.begun request (may_begin (length initial) old _ request homes _ c.self.view_is (c.bidder_refusal.ensures bid.item bid.amount bid.time) c.in_default.is c.requires.goes c.homes-homes.ensures.homes c.homes-homes.ensures.footprint)) in
     let held = bid_held step c.begin.new.self bid.item entry (begun_of one) its one.held refl in
     let made = c.bid-trace.ensures in let new = c.bid-trace.new.self in
     let trace = c.bid-trace.result.0 in
@@ -114,7 +114,7 @@ add_entry-requires-clause-after g c =
     let request = request_of bid in let homes = c.homes-homes.result in
     let step = step_of initial g.N.PhaseName.workers c.args.boxes.now old.key homes in
     let one = c.one-one.result in
-    let its = subst (HasBegun step c.begin.new.self request) c.one-one.ensures (c.in_ok-begun.ensures.begun request (may_begin (length initial) old _ request homes _ c.self.view_is c.number_refusal.ensures c.in_default.is c.requires.goes c.homes-homes.ensures.homes c.homes-homes.ensures.footprint)) in
+    let its = subst (HasBegun step c.begin.new.self request) c.one-one.ensures (c.in_ok-begun.ensures.begun request (may_begin (length initial) old _ request homes _ c.self.view_is (c.bidder_refusal.ensures bid.item bid.amount bid.time) c.in_default.is c.requires.goes c.homes-homes.ensures.homes c.homes-homes.ensures.footprint)) in
     let begun = begun_of one in
     let numbered : begun.number ≡ suc (max c.begin.new.self.clock (greatest_held (held_in begun.taken))) = its.numbered in
     let after : c.begin.new.self.clock < begun.number = omega (arith, numbered) in
@@ -127,7 +127,7 @@ returns g c =
     let request = request_of bid in let homes = c.homes-homes.result in
     let step = step_of initial g.N.PhaseName.workers c.args.boxes.now old.key homes in
     let one = c.one-one.result in
-    let its = subst (HasBegun step c.begin.new.self request) c.one-one.ensures (c.in_ok-begun.ensures.begun request (may_begin (length initial) old _ request homes _ c.self.view_is c.number_refusal.ensures c.in_default.is c.requires.goes c.homes-homes.ensures.homes c.homes-homes.ensures.footprint)) in
+    let its = subst (HasBegun step c.begin.new.self request) c.one-one.ensures (c.in_ok-begun.ensures.begun request (may_begin (length initial) old _ request homes _ c.self.view_is (c.bidder_refusal.ensures bid.item bid.amount bid.time) c.in_default.is c.requires.goes c.homes-homes.ensures.homes c.homes-homes.ensures.footprint)) in
     let w = c.begin.new.self in let begun = begun_of one in let held = one.held in
     let made = c.bid-trace.ensures in let refused = c.bid-trace.result.1 in
     let reply = reply_of c.reply_to_bid.result in let new = c.add_entry.new.self in
