@@ -6,8 +6,8 @@ use Rattle.auction_rows.specs.{Footprint.{is_hot}, Refusals.{number_refusal}}
 use Rattle.auction_rows.specs.Requests.{is_view, shard_of}
 use Rattle.auction_rows.specs.declared.replies.Reply.TheVariants.{Refused}
 use Rattle.auction_rows.specs.declared.requests.Object.TheVariants.{Item, User, Category}
-use Rattle.auction_rows.specs.declared.requests.Request.TheVariants.{StoreItem, StoreBid, StoreComment, BuyNow, ViewItem, ViewBids, ViewCategory, ViewUser}
-use Rattle.auction_rows.specs.declared.{values.Stars.Stars, requests.ItemId.ItemId, requests.Facts.Facts, requests.Object.Object, requests.Request.Request, replies.Reply.Reply}
+use Rattle.auction_rows.specs.declared.requests.Request.TheVariants.{ViewItem, ViewBids, ViewCategory, ViewUser}
+use Rattle.auction_rows.specs.declared.{requests.Facts.Facts, requests.Object.Object, requests.Request.Request, replies.Reply.Reply}
 use Rattle.item_shards.specs.{Contents.{target}, Looking.{IsTrueOf}}
 use Rattle.item_shards.specs.{ShardContents.{clock, contents, LiesIn}, Writing.{padded, done_on}}
 use Rattle.item_shards.specs.declared.shard.acts.Act.TheVariants.{Look}
@@ -27,13 +27,15 @@ use Rattle.phase_transactions.specs.Performing.{HasCommittedSome, HaveOpening}
 use Rattle.phase_transactions.specs.Putting.{HasPutAll}
 use Rattle.phase_transactions.specs.Txns.{IsReplyTo, IsAnswered, is_put_off, reason_seen, refusal_seen, ReadSet}
 use Rattle.phase_transactions.specs.Workers.{WorkerState, setting_of, txn_of, with_entry, after_commit}
-use Rattle.phase_transactions.specs.declared.{deeds.Deeds.{Deeds}, taken.Begun.{Begun}}
+use Rattle.phase_transactions.specs.declared.{deeds.{Deeds.{Deeds}, Viewed.{Viewed}}, taken.Begun.{Begun}}
 use Rattle.phase_transactions.specs.declared.taken.{BegunOne.{BegunOne}, Taken.{Taken}}
 use Rattle.phase_transactions.specs.inner.Begun.{Step, begun_of, CanView, HasBegun, HasBegunSome, look_for, viewed}
 use Rattle.phase_transactions.specs.inner.Deeds.{AreDeedsOf, AreGoodOn, acts_for, found_on, event_with, first_dealt, second_dealt, shown_with}
 use Rattle.phase_transactions.specs.inner.{HeldShards.{IsAsTaken, IsHeldFor}, Homes.{AreHomesOf}}
 use Rattle.phase_transactions.specs.inner.Takens.{each_once, footprint_of, held_in, numbers_of, is_one_of, dealt, line_among}
+use Rattle.phase_transactions.specs.inner.Viewing.{view_request}
 use Rattle.phase_transactions.specs.declared.taken.Taken.TheVariants as taken
+use Rattle.phase_transactions.specs.declared.deeds.Viewed.TheVariants as asks
 
 -- the home of the object that is viewed
 record IsOnlyHome (hots : List (Object × Hot)) (shards : ℕ) (homes : Homes) (object : Object) (h : Home) : Type 0 where
@@ -62,24 +64,15 @@ shard_cold hots shards object home.Nowhere at cold = absurd at
 shard_cold hots shards object (home.Slice place) at cold = absurd (true≢false (sym at.1 ∙ cold))
 shard_cold hots shards object (home.Shard shard) at cold = (shard, refl)
 
--- what is no store is a view
-pub view_else : (request : Request) → ((facts : Facts) (time : ℕ) → request ≡ StoreItem facts time → ⊥) → ((bidder : ℕ) (item : ItemId) (amount time : ℕ) → request ≡ StoreBid bidder item amount time → ⊥)
-    → ((author about : ℕ) (item : ItemId) (stars : Stars) → request ≡ StoreComment author about item stars → ⊥) → ((buyer : ℕ) (item : ItemId) (quantity time : ℕ) → request ≡ BuyNow buyer item quantity time → ⊥)
-    → is_view request ≡ true
-view_else (StoreItem facts time) no_item no_bid no_comment no_buy = absurd (no_item facts time refl)
-view_else (StoreBid bidder item amount time) no_item no_bid no_comment no_buy = absurd (no_bid bidder item amount time refl)
-view_else (StoreComment author about item stars) no_item no_bid no_comment no_buy = absurd (no_comment author about item stars refl)
-view_else (BuyNow buyer item quantity time) no_item no_bid no_comment no_buy = absurd (no_buy buyer item quantity time refl)
-view_else request no_item no_bid no_comment no_buy = refl
+-- what a view asks for is a view
+is_viewed : (viewed : Viewed) → is_view (view_request viewed) ≡ true
+is_viewed (asks.Item item) = refl
+is_viewed (asks.Bids item) = refl
+is_viewed (asks.Category category) = refl
+is_viewed (asks.User user) = refl
 
--- and what is no view looks at nothing
-pub look_else : (request : Request) → ((item : ItemId) → request ≡ ViewItem item → ⊥) → ((item : ItemId) → request ≡ ViewBids item → ⊥)
-    → ((category : ℕ) → request ≡ ViewCategory category → ⊥) → ((user : ℕ) → request ≡ ViewUser user → ⊥) → look.Nothing ≡ look_for request
-look_else (ViewItem item) no_item no_bids no_category no_user = absurd (no_item item refl)
-look_else (ViewBids item) no_item no_bids no_category no_user = absurd (no_bids item refl)
-look_else (ViewCategory category) no_item no_bids no_category no_user = absurd (no_category category refl)
-look_else (ViewUser user) no_item no_bids no_category no_user = absurd (no_user user refl)
-look_else request no_item no_bids no_category no_user = refl
+pub asks_view : {request : Request} (viewed : Viewed) → request ≡ view_request viewed → is_view request ≡ true
+asks_view viewed is = ap is_view is ∙ is_viewed viewed
 
 -- a view shows one object
 pub shows_one : (request : Request) → is_view request ≡ true → (object : Object) × (viewed request ≡ Some object)

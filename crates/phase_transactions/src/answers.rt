@@ -1,5 +1,5 @@
 //! What a store is answered, by what it sees of the item that it needs, and what a view shows.
-ghost use Rattle.std.specs.Prelude.{◌≡◌, ℕ, None, Some, false, true};
+ghost use Rattle.std.specs.Prelude.{◌≡◌, ℕ, None, Some, false};
 ghost use Rattle.auction_rows.specs.{ItemViews.{item_told}, Requests.{is_view, item_of}};
 ghost use Rattle.auction_rows.specs.StoreReplies.{reply_of};
 ghost use Rattle.auction_rows.specs.declared.requests.Request.TheVariants.{ViewItem};
@@ -14,14 +14,15 @@ ghost use Rattle.worker_slices.specs.declared.counters.Counters.{Counters as Cou
 ghost use Rattle.phase_transactions.specs.Txns.{IsReplyTo};
 ghost use Rattle.phase_transactions.specs.inner.Begun.{CanView, FirstHas, IsRefusedBy, look_for};
 ghost use Rattle.phase_transactions.specs.inner.Deeds.{IsReplyUnless, shown_with};
-ghost use Rattle.phase_transactions.specs.inner.{Homes.{HasHomes}, Viewing.{IsShownBy}};
+ghost use Rattle.phase_transactions.specs.inner.{Homes.{HasHomes}, Viewing.{IsShownBy, view_request}};
 
+use crate::deeds::Viewed;
 use crate::taken::{Taken, refusal_in};
 use crate::worker::Worker;
 use auction_rows::{
     BuyId, CommentId, Facts, ItemId, ItemView, Refusal, Reply, Request, StoreReply,
 };
-use item_shards::{Look, Shard, refusal_with};
+use item_shards::{Shard, refusal_with};
 use shard_boxes::{Held, PhaseName};
 use worker_slices::{Home, Homes};
 
@@ -97,28 +98,14 @@ impl<N: PhaseName> Worker<N> {
     }
 }
 
-/// What a view looks at: nothing for a store.
-#[inline(always)]
-pub(crate) fn look_of(request: &Request) -> Look
-    ensures { result ≡ look_for request.now }
-{
-    match *request {
-        Request::ViewItem { item } => Look::Item(item),
-        Request::ViewBids { item } => Look::Bids(item),
-        Request::ViewCategory { category } => Look::Category(category),
-        Request::ViewUser { user } => Look::User(user),
-        _ => Look::Nothing,
-    }
-}
-
 /// What the one shard that a view takes replies.
 #[inline(always)]
-pub(crate) fn view_on<N: PhaseName>(held: &Held<N>, request: &Request) -> Reply
-    requires view { is_view request.now ≡ true }
-    requires can { CanView held.now.shard request.now }
-    ensures { IsShownBy held.now.shard request.now (look_for request.now) result }
+pub(crate) fn view_on<N: PhaseName>(held: &Held<N>, viewed: Viewed) -> Reply
+    requires { CanView held.now.shard (view_request viewed) }
+    ensures { IsShownBy held.now.shard
+        (view_request viewed) (look_for (view_request viewed)) result }
 {
-    view(held.shard(), request)
+    view(held.shard(), viewed)
 }
 
 /// What the one shard that the view of an item takes shows of it: None if it is not stored.
@@ -132,18 +119,17 @@ pub(crate) fn item_on<N: PhaseName>(held: &Held<N>, item: ItemId) -> Option<Item
 
 // What a shard in which its object lies replies to a view.
 #[inline(always)]
-fn view(shard: &Shard, request: &Request) -> Reply
-    requires view { is_view request.now ≡ true }
-    requires can { CanView shard.now request.now }
+fn view(shard: &Shard, viewed: Viewed) -> Reply
+    requires { CanView shard.now (view_request viewed) }
     ensures answers { (counters : CountersValue) → (worker : ℕ) →
-        IsReplyTo counters worker request.now result }
-    ensures shown { IsTrueOf (contents shard.now) (shown_with None result (look_for request.now)) }
+        IsReplyTo counters worker (view_request viewed) result }
+    ensures shown { IsTrueOf (contents shard.now)
+        (shown_with None result (look_for (view_request viewed))) }
 {
-    match *request {
-        Request::ViewItem { item } => shard.view_item(item),
-        Request::ViewBids { item } => shard.view_bids(item),
-        Request::ViewCategory { category } => shard.view_category(category),
-        Request::ViewUser { user } => shard.view_user(user),
-        _ => unreachable!(),
+    match viewed {
+        Viewed::Item(item) => shard.view_item(item),
+        Viewed::Bids(item) => shard.view_bids(item),
+        Viewed::Category(category) => shard.view_category(category),
+        Viewed::User(user) => shard.view_user(user),
     }
 }

@@ -2,10 +2,10 @@
 ghost use Rattle.std.specs.Prelude.{◌≡◌, ℕ, false, Option};
 ghost use Rattle.auction_rows.specs.{Requests.{is_view}, StoreReplies.{reply_of}};
 ghost use Rattle.auction_rows.specs.declared.requests.Facts.{Facts as FactsValue};
-ghost use Rattle.phase_transactions.specs.inner.Begun.{AreGoodFor, AreOwedBy, HaveFootprint};
-ghost use Rattle.phase_transactions.specs.inner.Deeds.{acts_dealt, IsBid};
+ghost use Rattle.phase_transactions.specs.inner.Begun.{AreGoodFor, AreOwedBy, HaveFootprint, look_for};
+ghost use Rattle.phase_transactions.specs.inner.{Deeds.{acts_dealt, IsBid}, Viewing.{view_request}};
 
-use auction_rows::{ItemEntry, Request, StoreReply};
+use auction_rows::{ItemEntry, ItemId, Request, StoreReply};
 use item_shards::{Act, Look};
 use worker_journals::Answer;
 use worker_slices::{Home, Homes};
@@ -23,6 +23,30 @@ pub(crate) struct Store<'a> {
     pub(crate) call: Call<'a>,
     pub(crate) homes: &'a Homes,
     pub(crate) reply: StoreReply,
+}
+
+/// What a view asks for.
+#[derive(Clone, Copy)]
+pub(crate) enum Viewed {
+    Item(ItemId),
+    Bids(ItemId),
+    Category(u32),
+    User(u32),
+}
+
+impl Viewed {
+    /// What the view looks at.
+    #[inline(always)]
+    pub(crate) fn look(self) -> Look
+        ensures { result ≡ look_for (view_request self) }
+    {
+        match self {
+            Viewed::Item(item) => Look::Item(item),
+            Viewed::Bids(item) => Look::Bids(item),
+            Viewed::Category(category) => Look::Category(category),
+            Viewed::User(user) => Look::User(user),
+        }
+    }
 }
 
 /// A view of the quota whose reply is known, with what it looks at.

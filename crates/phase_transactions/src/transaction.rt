@@ -7,8 +7,8 @@ ghost use Rattle.item_shards.specs.CommitNumbers.{last_number};
 ghost use Rattle.phase_transactions.specs.declared.done.PermitFault.TheVariants.{NumberFull};
 ghost use Rattle.phase_transactions.specs.inner.Deeds.{IsBid};
 
-use crate::answers::{item_on, look_of, view_on};
-use crate::deeds::{Call, Deeds, Numbered, Store, View};
+use crate::answers::{item_on, view_on};
+use crate::deeds::{Call, Deeds, Numbered, Store, View, Viewed};
 use crate::done::PermitFault;
 use crate::taken::{
     Begun, BegunOne, make_room, number_on, put_all, put_back, put_with_line, take_all,
@@ -31,7 +31,7 @@ impl<N: PhaseName> Worker<N> {
     ghost use Rattle.phase_transactions.specs.inner.Begun.{step_of, begun_of, CanView, HasBegun, HasBegunSome, HasFirst, HasRoomFor, IsAnsweredBy, MayBegin, states_in};
     ghost use Rattle.phase_transactions.specs.inner.{Homes.{HasHomes}, Storing.{HasStoredOrIsFull}};
     ghost use Rattle.phase_transactions.specs.inner.Takens.{footprint_of, IsReady};
-    ghost use Rattle.phase_transactions.specs.inner.Viewing.{IsShownBy};
+    ghost use Rattle.phase_transactions.specs.inner.Viewing.{IsShownBy, view_request};
     ghost use Rattle.request_scripts.specs.Scripts.{request_of};
 
     /// Performs a request of the quota that is not put off. After a fault nothing has changed but
@@ -46,6 +46,7 @@ impl<N: PhaseName> Worker<N> {
         requires { CanTransact N.initial boxes.now self.old request.now }
         ensures { HasPerformed N.initial self.old self.new request.now index result }
     {
+        let call = Call { request, index };
         match *request {
             Request::StoreBid {
                 bidder,
@@ -64,7 +65,12 @@ impl<N: PhaseName> Worker<N> {
             Request::StoreItem { .. } | Request::StoreComment { .. } | Request::BuyNow { .. } => {
                 self.store(rt, boxes, request, index)
             }
-            _ => self.show(rt, boxes, request, index),
+            Request::ViewItem { item } => self.show(rt, boxes, call, Viewed::Item(item)),
+            Request::ViewBids { item } => self.show(rt, boxes, call, Viewed::Bids(item)),
+            Request::ViewCategory { category } => {
+                self.show(rt, boxes, call, Viewed::Category(category))
+            }
+            Request::ViewUser { user } => self.show(rt, boxes, call, Viewed::User(user)),
         }
     }
 
@@ -305,21 +311,22 @@ impl<N: PhaseName> Worker<N> {
         &mut self,
         rt: &R,
         boxes: &Boxes<N>,
-        request: &Request,
-        index: u32,
+        call: Call<'_>,
+        viewed: Viewed,
     ) -> Result<(), PermitFault>
-        requires view { is_view request.now ≡ true }
-        requires can { CanTransact N.initial boxes.now self.old request.now }
-        ensures { HasPerformed N.initial self.old self.new request.now index result }
+        requires view { call.request.now ≡ view_request viewed }
+        requires can { CanTransact N.initial boxes.now self.old call.request.now }
+        ensures { HasPerformed N.initial self.old self.new
+            call.entry.request.now call.entry.index result }
     {
-        let call = Call { request, index };
+        let request = call.request;
         if let Some(reason) = number_refusal(self.opening, *request) {
             return self.refuse(call, reason);
         }
         let homes = self.homes(request);
         let begun = self.begin(rt, boxes, &homes)?;
         let one = begun.one();
-        if let Request::ViewItem { item } = *request {
+        if let Viewed::Item(item) = viewed {
             let seen = item_on(&one.held, item);
             let view = View {
                 call,
@@ -329,15 +336,21 @@ impl<N: PhaseName> Worker<N> {
             self.put_view(boxes, one, &view);
             return Ok(());
         }
-        self.show_whole(boxes, one, call);
+        self.show_whole(boxes, one, call, viewed);
         Ok(())
     }
 
     // Shows what a view asks for on the shard that it took, by a whole reply. Not inlined: the view
     // of an item needs no room for one on the stack.
     #[inline(never)]
-    fn show_whole(&mut self, boxes: &Boxes<N>, one: BegunOne<N>, call: Call<'_>)
-        requires view { is_view call.request.now ≡ true }
+    fn show_whole(
+        &mut self,
+        boxes: &Boxes<N>,
+        one: BegunOne<N>,
+        call: Call<'_>,
+        viewed: Viewed,
+    )
+        requires view { call.request.now ≡ view_request viewed }
         requires can { CanView one.held.shard call.request.now }
         requires begun { HasBegunSome N.initial N.workers boxes.now
             self.old call.request.now (begun_of one) }
@@ -345,10 +358,10 @@ impl<N: PhaseName> Worker<N> {
         ensures { HasCommittedSome N.initial (record self.old { key = one.key.value }) self.new
             call.entry.request.now call.entry.index }
     {
-        let reply = view_on(&one.held, call.request);
+        let reply = view_on(&one.held, viewed);
         let view = View {
             call,
-            look: look_of(call.request),
+            look: viewed.look(),
             answer: Answer::of(&reply),
         };
         self.put_view(boxes, one, &view);

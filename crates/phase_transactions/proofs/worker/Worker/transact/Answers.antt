@@ -1,6 +1,5 @@
 use Rattle.std.proofs.Common.{sym, subst}
 use Rattle.auction_rows.specs.declared.requests.Request.{Request}
-use Rattle.phase_transactions.proofs.ViewLemmas.{view_else}
 use Rattle.phase_transactions.specs.Performing.{CanTransact, HasPerformed}
 use Rattle.phase_transactions.proofs.worker.Worker.transact.Goals as goal
 
@@ -10,6 +9,3 @@ transact_bid-requires g c = subst (CanTransact g.N.PhaseName.initial c.args.boxe
 pub returns-in-StoreBid : goal.returns-in-StoreBid
 returns-in-StoreBid g c =
     subst (λ (r : Request). HasPerformed g.N.PhaseName.initial c.args.self.now c.transact_bid.new.self r c.args.index c.transact_bid.result) (sym c.in-StoreBid.is) c.transact_bid.ensures
-
-pub show-requires-clause-view : goal.show-requires-clause-view
-show-requires-clause-view g c = view_else c.args.request.now c.in_default.not-StoreItem c.in_default.not-StoreBid c.in_default.not-StoreComment c.in_default.not-BuyNow
