@@ -6,7 +6,7 @@ use Rattle.csv.specs.declared.reader.Reader.{Reader}
 use Rattle.record_reading.proofs.AskingLemmas.{ask_is, ask_more}
 use Rattle.record_reading.proofs.RecordsLeft.{read_end, read_more}
 use Rattle.record_reading.specs.Asking.{Asked, asked_in, with_record}
-use Rattle.record_reading.specs.{Records.{and_then, read_record}, RecordsLeft.{Left}}
+use Rattle.record_reading.specs.{Records.{and_then, read_record}, inner.RecordsLeft.{Left}}
 use Rattle.record_reading.specs.declared.inputs.{ReadFault.{ReadFault}, TheConstants.{MOST_RECORDS}}
 use Rattle.record_reading.specs.declared.record.Record.{Record}
 use Rattle.record_reading.specs.declared.inputs.ReadFault.TheVariants as fault

@@ -12,7 +12,7 @@ use Rattle.record_reading.proofs.LineLemmas.{feed_no_bom, none_in_none, records_
 use Rattle.record_reading.proofs.RecordsLeft.{left_all, read_end, read_more}
 use Rattle.record_reading.proofs.WholeLineLemmas.{not_so}
 use Rattle.record_reading.specs.{Lines.{EndsLine, IsLine, IsWhole, has_no_feed}, Reading.{IsPlain}}
-use Rattle.record_reading.specs.{Records.{read_record, worker_of}, RecordsLeft.{Left}}
+use Rattle.record_reading.specs.{Records.{read_record, worker_of}, inner.RecordsLeft.{Left}}
 use Rattle.record_reading.specs.declared.buffers.TheConstants.{ROOM_TO_READ}
 use Rattle.record_reading.specs.declared.{inputs.ReadFault.{ReadFault}, record.Record.{Record}}
 use Rattle.record_reading.specs.declared.inputs.Cause.TheVariants as cause

@@ -7,7 +7,7 @@ use Rattle.csv.specs.Reading.{default_config, records, records_from, records_nex
 use Rattle.csv.specs.declared.parser.State.{State}
 use Rattle.csv.specs.declared.parser.State.TheVariants as st
 use Rattle.record_reading.proofs.RecordsLeft.{left_all, left_more, shorter}
-use Rattle.record_reading.specs.{Lines.{ReadsFirst}, RecordsLeft.{Left}}
+use Rattle.record_reading.specs.{Lines.{ReadsFirst}, inner.RecordsLeft.{Left}}
 use Rattle.record_reading.specs.inner.PlainLines.{HasRead, IsLineEnd, is_plain, joins}
 
 -- a byte that joins a field is no mark

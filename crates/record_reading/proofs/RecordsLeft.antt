@@ -7,7 +7,7 @@ use Rattle.csv.specs.declared.parser.{Action.{Action}, Config.{Config}, State.{S
 use Rattle.csv.specs.declared.{parser.Terminator.{Terminator}, reader.Reader.{Reader}}
 use Rattle.csv.specs.declared.parser.State.TheVariants as st
 use Rattle.csv.specs.declared.parser.Terminator.TheVariants as term
-use Rattle.record_reading.specs.RecordsLeft.{Left}
+use Rattle.record_reading.specs.inner.RecordsLeft.{Left}
 
 -- a choice between two steps has what both have
 both : (b : Bool) (x y : State × Action) (P : State × Action → Type 0) → P x → P y → P (if b then x else y)

@@ -5,4 +5,3 @@ pub mod Kinds
 pub mod Lines
 pub mod Reading
 pub mod Records
-pub mod RecordsLeft

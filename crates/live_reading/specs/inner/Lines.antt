@@ -2,7 +2,7 @@
 use Rattle.std.specs.Prelude.{ℕ, ◌≡◌, ◌<◌, ◌++◌, ◌⊎◌, Bool, List, [], ◌∷◌, Option, None, Some, true, false, length}
 use Rattle.csv.specs.{Reading.{reader_state, source_of, strip_bom}, declared.reader.Reader.{Reader}}
 use Rattle.record_reading.specs.{Lines.{has_no_feed, line_feed}, Reading.{IsPlain}}
-use Rattle.record_reading.specs.{RecordsLeft.{Left}, declared.buffers.TheConstants.{ROOM_TO_READ}}
+use Rattle.record_reading.specs.{declared.buffers.TheConstants.{ROOM_TO_READ}, inner.RecordsLeft.{Left}}
 use Rattle.live_reading.specs.LineBuffers.{lines_left}
 use Rattle.live_reading.specs.declared.line_buffer.LineBuffer.{LineBuffer}
 use Rattle.live_reading.specs.declared.{line_skipping.Front.{Front}, live_lines.Said.{Said}}
