@@ -1,5 +1,5 @@
 //! What a board is given after it has refused a phase: nothing.
-use crate::testing::{Refusing, assert_same, own_scripts, policy_of};
+use crate::testing::{Refusing, own_scripts, policy_of};
 use auction_run::{FreeGate, RunFault, run_shown};
 use item_shards::OpeningBook;
 use test_values::{LOOK, OPENING, VIEW, bid, put_up, vases};
@@ -22,9 +22,5 @@ fn a_board_that_refuses_is_called_no_more(rt: HostRuntime) {
         &FreeGate,
         &mut board,
     );
-    assert_same(
-        &rt,
-        (outcome.err(), board.calls),
-        (Some(RunFault::Memory), 2),
-    );
+    assert_eq!(rt; (outcome.err(), board.calls), (Some(RunFault::Memory), 2));
 }

@@ -164,7 +164,6 @@ fn look<J: WindowName, R: Print>(rt: &R, window: &mut Window<J>) -> Option<Reply
 
 mod tests {
     use super::{two_parts, two_publishes};
-    use crate::testing::assert_same;
     use std::test::Fail;
     use test_values::{VIEW, item_seen, vases};
 
@@ -172,7 +171,7 @@ mod tests {
     fn windows(rt: HostRuntime) -> Result<(), Fail> {
         let ended = two_publishes(&rt, rt.alloc())?;
         let wanted = item_seen(&vases(10, 2), Some((20, 1)), 1, 2);
-        assert_same(&rt, ended, (Some(wanted), 2, true));
+        assert_eq!(rt; ended, (Some(wanted), 2, true));
         Ok(())
     }
 
@@ -180,7 +179,7 @@ mod tests {
     fn parts(rt: HostRuntime) -> Result<(), Fail> {
         let shown = two_parts(&rt, rt.alloc())?.view(&VIEW);
         let wanted = item_seen(&vases(10, 3), Some((30, 2)), 3, 2);
-        assert_same(&rt, shown, Some(wanted));
+        assert_eq!(rt; shown, Some(wanted));
         Ok(())
     }
 }

@@ -1,5 +1,5 @@
 //! What is made of a list of entries: the rows that they add, and what they make hot.
-use crate::testing::{assert_same, bid_on};
+use crate::testing::bid_on;
 use auction_rows::{Entry, ItemId, Object, Refusal, Reply, Request, Stars};
 use auction_run::choose_hot;
 use auction_window::rows_of;
@@ -42,7 +42,7 @@ fn accepted_stores_add_rows(rt: HostRuntime) {
     ];
     let rows = rows_of(rt.alloc(), &entries).expect(&rt, "memory");
     let wanted = [item_row(*facts), bid_row(0, 1, 10, 1)];
-    assert_same(&rt, rows.as_slice(), wanted.as_slice());
+    assert_eq!(rt; rows.as_slice(), wanted.as_slice());
 }
 
 const USER: Object = Object::User(3);
@@ -69,7 +69,7 @@ fn assert_hot(rt: &impl Abort, alloc: Global, hot_max: u32, wanted: &[Object]) {
         comment_entry(2),
     ];
     let hot = choose_hot(alloc, &entries, 2, hot_max).expect(rt, "memory");
-    assert_same(rt, hot.as_slice(), wanted);
+    assert_eq!(rt; hot.as_slice(), wanted);
 }
 
 #[test]

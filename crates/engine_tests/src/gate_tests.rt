@@ -1,5 +1,5 @@
 //! What a gate is told of a run, and how it holds requests back.
-use crate::testing::{Threaded, answer_at, assert_same, bid_on, policy_of, run_of};
+use crate::testing::{Threaded, answer_at, bid_on, policy_of, run_of};
 use auction_rows::{Refusal, Reply};
 use auction_run::{FreeGate, Gate};
 use std::process::Abort;
@@ -88,7 +88,7 @@ fn assert_replies(rt: &impl Abort, history: &History) {
         (1, 4, 2, Reply::Refused(Refusal::NotEnough)),
     ] {
         let answer = answer_at(history, worker, index);
-        assert_same(rt, answer, Some((phase, reply)));
+        assert_eq!(rt; answer, Some((phase, reply)));
     }
 }
 
@@ -103,7 +103,7 @@ fn assert_told(rt: &impl Abort, turns: &Turns) {
         turns.arrived.load(Ordering::SeqCst),
         turns.left.load(Ordering::SeqCst),
     ];
-    assert_same(rt, counts, [6, told, told]);
+    assert_eq!(rt; counts, [6, told, told]);
 }
 
 #[test]

@@ -1,7 +1,6 @@
 //! Runs that go on from what another left, and what they are refused.
 use crate::testing::{
-    Refusing, Threaded, answer_at, assert_same, given_back, own_scripts, policy_of, run_of,
-    views_of,
+    Refusing, Threaded, answer_at, given_back, own_scripts, policy_of, run_of, views_of,
 };
 use auction_rows::{Facts, Reply, Request};
 use auction_run::{FreeGate, Gate, Outcome, Policy, RunFault, Stopped, run_on, run_on_shown};
@@ -37,15 +36,15 @@ fn part_of<R: Threads + Wait + Sync + Abort, G: Gate + Sync>(
 fn assert_answers(rt: &impl Abort, history: &History, worker: u32, answers: &[(u32, u64, Reply)]) {
     for (index, phase, reply) in answers {
         let answer = answer_at(history, worker, *index);
-        assert_same(rt, answer, Some((*phase, *reply)));
+        assert_eq!(rt; answer, Some((*phase, *reply)));
     }
-    assert_same(rt, history.len(), answers.len());
+    assert_eq!(rt; history.len(), answers.len());
 }
 
 // Asserts what a view of the vases shows after so many phases.
 fn assert_left(rt: &impl Abort, state: &Joined, phases: u64, seen: &Reply) {
     let ended = (state.view(&VIEW), state.phase());
-    assert_same(rt, ended, (Some(*seen), phases));
+    assert_eq!(rt; ended, (Some(*seen), phases));
 }
 
 // Three vases are put up and bid on. Two of them are bought in the next part, and one in the last:
@@ -128,7 +127,7 @@ fn what_is_refused_gives_the_state_back(rt: HostRuntime) {
     ] {
         let scripts = views_of(&rt, alloc, workers, views);
         let (back, told) = shown_after(&rt, alloc, state, scripts, policy);
-        assert_same(&rt, told, (fault, Some((0, *seen))));
+        assert_eq!(rt; told, (fault, Some((0, *seen))));
         state = back;
     }
 }
@@ -140,7 +139,7 @@ fn assert_begins<R: Threads + Wait + Sync + Abort>(rt: &R, alloc: Global, state:
     let policy = policy_of(2, 2);
     let mut board = Refusing { taken: 0, calls: 0 };
     match run_on_shown(rt, alloc, state, long, policy, &FreeGate, &mut board) {
-        Err(Stopped::Failed(fault)) => assert_same(rt, fault, RunFault::Memory),
+        Err(Stopped::Failed(fault)) => assert_eq!(rt; fault, RunFault::Memory),
         _ => panic!(rt; "the part did not begin"),
     }
 }
@@ -168,8 +167,8 @@ fn a_lasting_auction_goes_on_past_a_million(rt: HostRuntime) {
     let state = of_one_row(&rt, alloc);
     let long = views_of(&rt, alloc, 1, 1_000_000);
     let (state, (fault, _shown)) = shown_after(&rt, alloc, state, long, policy_of(2, 2));
-    assert_same(&rt, (fault, state.limit()), (RunFault::TooLong, 1_000_000));
+    assert_eq!(rt; (fault, state.limit()), (RunFault::TooLong, 1_000_000));
     let lasting = part_of(&rt, alloc, state.lasting(), &[&[bid(1, 10, 1)]], &FreeGate).state;
-    assert_same(&rt, lasting.limit(), MOST_COMMITS);
+    assert_eq!(rt; lasting.limit(), MOST_COMMITS);
     assert_begins(&rt, alloc, lasting);
 }

@@ -1,6 +1,6 @@
 //! Two workers who meet at a gate in each phase: they run at one time, and no lock is held from
 //! one's `arrive` to its `leave`.
-use crate::testing::{assert_same, policy_of, run_of};
+use crate::testing::{policy_of, run_of};
 use auction_rows::Request;
 use auction_run::Gate;
 use std::sync::atomic::{AtomicU64, Ordering};
@@ -78,6 +78,6 @@ fn workers_meet_in_each_phase(rt: HostRuntime) {
         };
         let scripts: [&[Request]; 2] = [&[LOOK, LOOK], &[LOOK, LOOK]];
         run_of(&rt, rt.alloc(), &scripts, policy_of(1, 1), &gate);
-        assert_same(&rt, gate.seen.load(Ordering::SeqCst), EACH_IN_EACH_PHASE);
+        assert_eq!(rt; gate.seen.load(Ordering::SeqCst), EACH_IN_EACH_PHASE);
     }
 }

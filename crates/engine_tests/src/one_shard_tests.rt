@@ -1,5 +1,5 @@
 //! Sixteen workers who bid on one item of one shard, side by side in threads: nothing is hot.
-use crate::testing::{Threaded, assert_same};
+use crate::testing::Threaded;
 use auction_rows::{Opening, Request};
 use auction_run::{Policy, run};
 use item_shards::OpeningBook;
@@ -42,10 +42,10 @@ fn assert_numbered(rt: &impl Abort, history: &History, commits: u64) {
     let mut last = 0u64;
     for entry in history.last_entries() {
         let next = last.saturating_add(1);
-        assert_same(rt, (entry.phase(), entry.number()), (1, next));
+        assert_eq!(rt; (entry.phase(), entry.number()), (1, next));
         last = next;
     }
-    assert_same(rt, last, commits);
+    assert_eq!(rt; last, commits);
 }
 
 #[test]
@@ -54,7 +54,7 @@ fn workers_on_one_shard_share_its_numbers(rt: HostRuntime) {
     let scripts = scripts(&rt, rt.alloc());
     let done = run(&rt, rt.alloc(), &book, scripts, POLICY, &Threaded).expect(&rt, "a run");
     assert_numbered(&rt, &done.history, 16_000);
-    assert_same(&rt, done.history.len(), 16_016);
+    assert_eq!(rt; done.history.len(), 16_016);
     let seen = item_seen(&vases(10, 1), Some((10, 15)), 16_000, 1);
-    assert_same(&rt, done.state.view(&VIEW), Some(seen));
+    assert_eq!(rt; done.state.view(&VIEW), Some(seen));
 }

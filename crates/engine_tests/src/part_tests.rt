@@ -3,7 +3,7 @@ ghost use Rattle.std.specs.Prelude.{◌≡◌, []};
 ghost use Rattle.item_shards.specs.OpeningBooks.{opening_of, rows_of_book};
 ghost use Rattle.auction_run.specs.Boards.{IsUpToDate};
 
-use crate::testing::{assert_same, given_back, own_scripts, policy_of};
+use crate::testing::{given_back, own_scripts, policy_of};
 use crate::view_tests::assert_seen;
 use auction_rows::{Facts, Reply, Request};
 use auction_run::{Board, FreeGate, RunFault, WindowBoard, run_on_shown, run_shown};
@@ -33,7 +33,7 @@ fn first_part<R: Threads + Wait + Sync + Abort, B: Board>(
     let Ok(outcome) = run_shown(rt, alloc, book, scripts, policy_of(2, 2), &FreeGate, board) else {
         panic!(rt; "the first part has stopped");
     };
-    assert_same(rt, outcome.state.phase(), 2);
+    assert_eq!(rt; outcome.state.phase(), 2);
     outcome.state
 }
 
@@ -53,7 +53,7 @@ fn next_part<R: Threads + Wait + Sync + Abort, B: Board>(
     else {
         panic!(rt; "the next part has stopped");
     };
-    assert_same(rt, outcome.state.phase(), 1);
+    assert_eq!(rt; outcome.state.phase(), 1);
     outcome.state
 }
 
@@ -71,8 +71,8 @@ fn refused_part<R: Threads + Wait + Sync + Abort, B: Board>(
     let none = Vec::<Vec<Request>>::new(alloc);
     let refused = run_on_shown(rt, alloc, state, none, policy_of(2, 2), &FreeGate, board);
     let (back, fault) = given_back(rt, refused);
-    assert_same(rt, fault, RunFault::Workers);
-    assert_same(rt, back.view(&VIEW), Some(*seen));
+    assert_eq!(rt; fault, RunFault::Workers);
+    assert_eq!(rt; back.view(&VIEW), Some(*seen));
     back
 }
 

@@ -1,5 +1,5 @@
 //! The fault of a run whose scripts, rows or policy are none that it takes, and of two the first.
-use crate::testing::{assert_same, policy_of, views_of};
+use crate::testing::{policy_of, views_of};
 use auction_run::{FreeGate, Policy, RunFault, run};
 use item_shards::OpeningBook;
 use test_values::{OPENING, opened, put_up, vases};
@@ -26,7 +26,7 @@ fn the_first_thing_wrong_is_the_fault(rt: HostRuntime) {
     ] {
         let scripts = views_of(&rt, rt.alloc(), workers, views);
         let got = run(&rt, rt.alloc(), &book, scripts, policy, &FreeGate).err();
-        assert_same(&rt, (workers, views, got), (workers, views, Some(fault)));
+        assert_eq!(rt; (workers, views, got), (workers, views, Some(fault)));
     }
 }
 
@@ -36,7 +36,7 @@ fn a_row_of_a_worker_without_a_script_is_refused(rt: HostRuntime) {
     let book = OpeningBook::new(rt.alloc(), OPENING, rows).expect(&rt, "a book");
     let scripts = views_of(&rt, rt.alloc(), 1, 1);
     let got = run(&rt, rt.alloc(), &book, scripts, policy_of(2, 2), &FreeGate).err();
-    assert_same(&rt, got, Some(RunFault::Workers));
+    assert_eq!(rt; got, Some(RunFault::Workers));
 }
 
 #[test]
@@ -47,13 +47,13 @@ fn policies_for_throughput_are_taken(rt: HostRuntime) {
         let scripts = views_of(&rt, rt.alloc(), workers as usize, 65);
         let done = run(&rt, rt.alloc(), &book, scripts, policy, &FreeGate).expect(&rt, "a run");
         let got = (policy.shards, done.hot.len(), done.history.len());
-        assert_same(&rt, got, (shards, 2, 65 * workers as usize));
+        assert_eq!(rt; got, (shards, 2, 65 * workers as usize));
     }
 }
 
 #[test]
 fn policies_for_throughput_have_shards_for_1_to_16_workers(rt: HostRuntime) {
     for (workers, shards) in [(0, 4), (17, 64), (u32::MAX, 64)] {
-        assert_same(&rt, Policy::for_throughput(workers).shards, shards);
+        assert_eq!(rt; Policy::for_throughput(workers).shards, shards);
     }
 }

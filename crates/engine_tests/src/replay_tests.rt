@@ -1,6 +1,6 @@
 //! Histories of whole runs, on threads and in turn, beside the auction of one thread. Worked
 //! examples of runs stand in tests/worked.
-use crate::testing::{Threaded, assert_same, policy_of, run_of};
+use crate::testing::{Threaded, policy_of, run_of};
 use auction_rows::{Reply, Request, Stars, row_of};
 use auction_run::{FreeGate, Gate, Policy};
 use item_shards::{Opened, OpeningBook};
@@ -59,7 +59,7 @@ fn histories_replay_on_the_auction_of_one_thread(rt: HostRuntime) {
         let policy = policy_of(joined_quota, split_quota);
         let side_by_side = replayed(&rt, alloc, &scripts, policy, &Threaded);
         let in_turn = replayed(&rt, alloc, &scripts, policy, &FreeGate);
-        assert_same(&rt, [side_by_side, in_turn], [(18, true); 2]);
+        assert_eq!(rt; [side_by_side, in_turn], [(18, true); 2]);
     }
 }
 
@@ -68,7 +68,7 @@ fn assert_last(rt: &impl Abort, history: &History, wanted: [(u32, Reply); 2]) {
     let mut last = history.last_entries();
     for (index, reply) in wanted {
         let entry = last.next().expect(rt, "an entry").to_entry();
-        assert_same(rt, (entry.index, entry.reply), (index, reply));
+        assert_eq!(rt; (entry.index, entry.reply), (index, reply));
     }
     assert!(rt; last.next().is_none());
 }
@@ -93,7 +93,7 @@ fn what_was_put_off_is_performed_first(rt: HostRuntime) {
     let outcome = run_of(&rt, rt.alloc(), &scripts, policy_of(3, 2), &Threaded);
     let item = &item_seen(facts, Some((19, 2)), 3, 0);
     assert_last(&rt, &outcome.history, [(4, bought(0, 1)), (5, *item)]);
-    assert_same(&rt, outcome.state.view(&VIEW), Some(*item));
+    assert_eq!(rt; outcome.state.view(&VIEW), Some(*item));
     let counts = (outcome.state.phase(), outcome.history.len());
-    assert_same(&rt, counts, (3, 10));
+    assert_eq!(rt; counts, (3, 10));
 }

@@ -1,4 +1,4 @@
-//! How tests compare, whole runs, their requests, and their gates and boards.
+//! Whole runs, their requests, and their gates and boards.
 ghost use Rattle.std.specs.Prelude.{◌≡◌, Err};
 ghost use Rattle.auction_run.specs.declared.checks.Stopped.TheVariants.{Refused};
 
@@ -7,17 +7,11 @@ use auction_run::{Board, Gate, Outcome, Policy, RunFault, Stopped, run};
 use item_shards::OpeningBook;
 use phase_floor::Joined;
 use std::alloc::{AllocError, Global};
-use std::fmt::Debug;
 use std::process::Abort;
 use std::sync::Wait;
 use std::thread::Threads;
 use test_values::{LOOK, OPENING, bid, opened, put_up, vases};
 use worker_journals::History;
-
-/// Ends the test where these are not the same.
-pub(crate) fn assert_same<T: PartialEq + Debug + Drop>(rt: &impl Abort, got: T, wanted: T) {
-    assert_eq!(rt; got, wanted);
-}
 
 /// Two vases, and a bid of 20 on them.
 pub(crate) fn vases_and_bid(alloc: Global) -> Result<Vec<Opened>, AllocError> {

@@ -5,7 +5,7 @@ ghost use Rattle.auction_rows.specs.History.{rows_of as stored_rows};
 ghost use Rattle.item_shards.specs.{OpeningBooks.{opening_of, rows_of_book}, Serial.{CanFollow}};
 ghost use Rattle.auction_window.specs.Published.{book_of};
 
-use crate::testing::{assert_same, own_scripts, policy_of, vases_and_bid};
+use crate::testing::{own_scripts, policy_of, vases_and_bid};
 use auction_rows::{Entry, Reply, Request, Row};
 use auction_run::{FreeGate, run};
 use auction_window::{PhaseLog, Publisher, Seen, Told, Window, WindowName, rows_of};
@@ -32,7 +32,7 @@ pub(crate) fn assert_seen<J: WindowName>(
     reply: Reply,
 ) {
     let seen = window.view(view).ok();
-    assert_same(rt, seen, Some(Some(Seen { phases, reply })));
+    assert_eq!(rt; seen, Some(Some(Seen { phases, reply })));
 }
 
 // Asserts that a window on an auction in which nothing is published shows no item, and answers no
@@ -40,7 +40,7 @@ pub(crate) fn assert_seen<J: WindowName>(
 fn assert_empty<J: WindowName>(rt: &impl Abort, window: &mut Window<J>) {
     assert_seen(rt, window, VIEW, 0, NO_ITEM);
     let stored = window.view(bid(1, 20, 5)).ok();
-    assert_same(rt, stored, Some(None));
+    assert_eq!(rt; stored, Some(None));
 }
 
 // Whether a window shows no phase, and no item.
@@ -76,7 +76,7 @@ fn publish<J: WindowName, R: Wait + Abort>(
     } }
 {
     let rows = rows_of(alloc, commit).expect(rt, "memory");
-    assert_same(rt, rows.as_slice(), [row].as_slice());
+    assert_eq!(rt; rows.as_slice(), [row].as_slice());
     let Ok(told) = publisher.publish(rt, rows) else {
         panic!(rt; "the rows are refused");
     };

@@ -1,5 +1,4 @@
 //! Rows that are added to an auction one after the other.
-use crate::testing::assert_same;
 use auction_rows::{Refusal, Request};
 use phase_floor::{AddFault, Joined};
 use test_values::{OPENING, VIEW, bid, bid_row, item_seen, opened, put_up, vases};
@@ -12,9 +11,9 @@ fn added_rows_are_shown(rt: HostRuntime) {
         panic!(rt; "the item is not added");
     };
     let added = state.add(&opened(1, bid(3, 20, 5)));
-    assert_same(&rt, added, Ok(bid_row(1, 3, 20, 5)));
+    assert_eq!(rt; added, Ok(bid_row(1, 3, 20, 5)));
     let seen = item_seen(&facts, Some((20, 3)), 1, 1);
-    assert_same(&rt, state.view(&VIEW), Some(seen));
+    assert_eq!(rt; state.view(&VIEW), Some(seen));
 }
 
 #[test]
@@ -28,6 +27,6 @@ fn what_is_no_row_is_not_added(rt: HostRuntime) {
         (2, item, AddFault::BadRow),
     ] {
         let mut state = Joined::new(rt.alloc(), OPENING, 2, 4).expect(&rt, "memory");
-        assert_same(&rt, state.add(&opened(worker, request)), Err(fault));
+        assert_eq!(rt; state.add(&opened(worker, request)), Err(fault));
     }
 }

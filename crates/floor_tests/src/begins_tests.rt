@@ -4,7 +4,7 @@ ghost use Rattle.auction_rows.specs.Book.{worker_of};
 
 use crate::begins::{begin_joined, begin_split};
 use crate::phases::joined_phase;
-use crate::testing::{assert_same, nothing_waits, only_hot};
+use crate::testing::{nothing_waits, only_hot};
 use auction_rows::{ItemId, Object, Row};
 use indexmap::IndexSet;
 use item_shards::OpeningBook;
@@ -39,8 +39,8 @@ fn refuses_joined(rt: &impl Abort, alloc: Global, state: Joined, quota: u32) -> 
     let stashes = nothing_waits(alloc, 1).expect(rt, "memory");
     let begun = begin_joined::<Brand>(alloc, state, quota, stashes);
     let (state, stashes, fault) = begun.expect_err(rt, "too long");
-    assert_same(rt, fault, BeginFault::TooLong);
-    assert_same(rt, stashes.len(), 1);
+    assert_eq!(rt; fault, BeginFault::TooLong);
+    assert_eq!(rt; stashes.len(), 1);
     (state, stashes)
 }
 
@@ -51,7 +51,7 @@ fn begins_joined(rt: &impl Abort, alloc: Global, state: Joined, too_long: u32, m
 {
     let (state, stashes) = refuses_joined(rt, alloc, state, too_long);
     let begun = begin_joined::<Brand>(alloc, state, most, stashes);
-    assert_same(rt, begun.ok(), Some(most));
+    assert_eq!(rt; begun.ok(), Some(most));
 }
 
 // A split phase whose hot object is unknown, then one that is too long, and one that is neither.
@@ -67,12 +67,12 @@ fn begins_split(
 {
     let begun = begin_split::<Brand>(alloc, state, 1_000_001, unknown);
     let (state, fault) = begun.expect_err(rt, "an unknown hot object");
-    assert_same(rt, fault, BeginFault::UnknownHot);
+    assert_eq!(rt; fault, BeginFault::UnknownHot);
     let begun = begin_split::<Brand>(alloc, state, 1_000_001, known);
     let (state, fault) = begun.expect_err(rt, "too long");
-    assert_same(rt, fault, BeginFault::TooLong);
+    assert_eq!(rt; fault, BeginFault::TooLong);
     let begun = begin_split::<Brand>(alloc, state, 1_000_000, known);
-    assert_same(rt, begun.ok(), Some(1_000_000));
+    assert_eq!(rt; begun.ok(), Some(1_000_000));
 }
 
 // An auction of one worker in which nothing is stored.

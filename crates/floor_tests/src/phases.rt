@@ -2,7 +2,7 @@
 ghost use Rattle.std.specs.Prelude.{◌≡◌, ◌+◌, length};
 ghost use Rattle.phase_floor.specs.{Closings.{IsReceipt, AreReceiptsOf}, States.{states_of}};
 
-use crate::testing::{assert_same, nothing_waits, room_for};
+use crate::testing::{nothing_waits, room_for};
 use auction_rows::{MOST_TRIES, Object, Request};
 use indexmap::IndexSet;
 use phase_floor::{Floor, Joined};
@@ -27,7 +27,7 @@ fn perform<N: PhaseName, K: Kind, R: Wait + Abort>(
     let index = permit.tries();
     assert!(rt; permit.left() > 0 && index < MOST_TRIES);
     let committed = permit.commit(rt, floor.boxes(), request, index);
-    assert_same(rt, committed, Ok(true));
+    assert_eq!(rt; committed, Ok(true));
 }
 
 // The receipt of a worker who has performed its script.

@@ -2,7 +2,7 @@
 ghost use Rattle.std.specs.Prelude.{◌≡◌};
 
 use crate::phases::{joined_phase, split_phase};
-use crate::testing::{assert_same, only_hot};
+use crate::testing::only_hot;
 use auction_rows::{BidId, BidShown, Facts, Object, Opening, Reply, Request};
 use indexmap::IndexSet;
 use phase_floor::Joined;
@@ -62,10 +62,10 @@ fn last_bid(serial: u32) -> BidShown {
 // last worker.
 fn assert_shown(rt: &impl Abort, state: &Joined, facts: &Facts) {
     let seen = item_seen(facts, Some((5, 15)), 16_000, 1);
-    assert_same(rt, state.view(&VIEW), Some(seen));
+    assert_eq!(rt; state.view(&VIEW), Some(seen));
     let last = [999, 998, 997, 996, 995, 994, 993, 992, 991, 990].map(last_bid);
     let bids = Reply::BidsSeen(ten_of(&last));
-    assert_same(rt, state.view(&VIEW_OF_BIDS), Some(bids));
+    assert_eq!(rt; state.view(&VIEW_OF_BIDS), Some(bids));
 }
 
 #[test]
@@ -77,5 +77,5 @@ fn sixteen_workers_bid_on_one_item(rt: HostRuntime) {
     let mut history = History::new(alloc);
     let state = two_phases(&rt, alloc, state, &facts, &hot, &mut history);
     assert_shown(&rt, &state, &facts);
-    assert_same(&rt, history.len(), 16_001);
+    assert_eq!(rt; history.len(), 16_001);
 }

@@ -1,17 +1,11 @@
-//! How tests compare, what is hot and what waits, and room for receipts.
+//! What is hot and what waits, and room for receipts.
 ghost use Rattle.std.specs.Prelude.{◌≡◌, ◌≤◌, [], vec_capacity, vec_len, IfOk};
 
 use auction_rows::Object;
 use indexmap::IndexSet;
 use phase_permits::Stash;
 use std::alloc::{AllocError, Global};
-use std::fmt::Debug;
 use std::process::Abort;
-
-/// Ends the test where these are not the same.
-pub(crate) fn assert_same<T: PartialEq + Debug + Drop>(rt: &impl Abort, got: T, wanted: T) {
-    assert_eq!(rt; got, wanted);
-}
 
 /// The one hot object.
 pub(crate) fn only_hot(rt: &impl Abort, alloc: Global, object: Object) -> IndexSet<Object> {

@@ -8,7 +8,7 @@ ghost use Rattle.shard_boxes.specs.{Lines.{after_line, seen_line}, States.{state
 ghost use Rattle.phase_tests.specs.NewShards.{BeginsWith};
 
 use crate::permits::closing::{assert_clocks, close_one};
-use crate::testing::{assert_same, boxes_of_one, four};
+use crate::testing::{boxes_of_one, four};
 use auction_rows::{ItemEntry, ItemShown, Reply};
 use item_shards::{Act, LAST_NUMBER, Look, Shard};
 use shard_boxes::{Line, PhaseName};
@@ -53,7 +53,7 @@ fn assert_listed(rt: &impl Abort, shards: &[Shard])
         panic!(rt; "no shard");
     };
     let listed = Reply::CategorySeen(ten_of(&[ItemShown { time: 1, id: FIRST }]));
-    assert_same(rt, shard.view_category(0), listed);
+    assert_eq!(rt; shard.view_category(0), listed);
 }
 
 // One shard of four is taken, and has the line as it is put.
@@ -66,13 +66,13 @@ fn put_by_hand<N: PhaseName, R: Wait + Abort>(
 {
     let room = Vec::with_capacity(alloc, 1)?;
     let (boxes, mut key) = boxes_of_one::<N>(alloc, shards)?;
-    assert_same(rt, [boxes.shards(), key.shards()], [4, 4]);
+    assert_eq!(rt; [boxes.shards(), key.shards()], [4, 4]);
     let mut held = boxes.take(rt, &mut key, 0);
     let clock = held.shard().clock();
     assert!(rt; clock < LAST_NUMBER);
     let line = list(held.shard_mut(), clock + 1);
-    assert_same(rt, [line.before, line.number], [0, 1]);
-    assert_same(rt, held.shard().clock(), 1);
+    assert_eq!(rt; [line.before, line.number], [0, 1]);
+    assert_eq!(rt; held.shard().clock(), 1);
     boxes.put(&mut key, held, Some(line));
     let shards = close_one(boxes, key, room);
     assert_listed(rt, &shards);

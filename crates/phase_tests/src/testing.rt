@@ -1,5 +1,5 @@
-//! How tests compare, a list of one item, a view that waits, four new shards, and their boxes with
-//! the key of one worker or of two.
+//! A list of one item, a view that waits, four new shards, and their boxes with the key of one
+//! worker or of two.
 ghost use Rattle.std.specs.Prelude.{◌≡◌, ◌∷◌, [], length, map, IfOk};
 ghost use Rattle.shard_boxes.specs.{Keys.{IsNewKey}, States.{state_of}};
 ghost use Rattle.phase_transactions.specs.Workers.{IsUnused};
@@ -10,15 +10,9 @@ use item_shards::Shard;
 use phase_permits::Stash;
 use shard_boxes::{Boxes, Key, PhaseName};
 use std::alloc::{AllocError, Global};
-use std::fmt::Debug;
 use std::process::Abort;
 use test_values::{OPENING, both, only};
 use worker_journals::Journal;
-
-/// Ends the test where these are not the same.
-pub(crate) fn assert_same<T: PartialEq + Debug + Drop>(rt: &impl Abort, got: T, wanted: T) {
-    assert_eq!(rt; got, wanted);
-}
 
 /// A list of this one item.
 pub(crate) fn list_of<T>(rt: &impl Abort, alloc: Global, item: T) -> Vec<T>

@@ -5,7 +5,7 @@ ghost use Rattle.phase_workers.specs.{Tasks.{task, CanBeDone}, Working.{IsPermit
 ghost use Rattle.phase_tests.specs.NewShards.{BeginsWith};
 
 use crate::permits::joined::joined_permit;
-use crate::testing::{assert_same, boxes_of_one, four, list_of, waiting};
+use crate::testing::{boxes_of_one, four, list_of, waiting};
 use item_shards::Shard;
 use phase_permits::{JoinedPermit, PermitFault};
 use phase_workers::{FreeGate, Round, ServingFault, serve_all};
@@ -64,5 +64,5 @@ fn workers_tell_the_end_of_numbers(rt: HostRuntime) {
     let shards = four(rt.alloc()).expect(&rt, "memory");
     let fault = fault_at_the_end::<Brand, HostRuntime>(&rt, rt.alloc(), shards);
     let wanted = ServingFault::Worker(PermitFault::NumberFull);
-    assert_same(&rt, fault, Ok(Some(wanted)));
+    assert_eq!(rt; fault, Ok(Some(wanted)));
 }

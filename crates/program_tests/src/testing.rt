@@ -1,16 +1,10 @@
-//! How tests compare, and what they look at.
+//! What tests add to a history and to a text, and the line of a fault.
 use auction_program::{Fault, write_fault};
 use auction_rows::Reply;
 use std::alloc::Global;
-use std::fmt::Debug;
 use std::process::Abort;
 use test_values::VIEW;
 use worker_journals::{History, Journal};
-
-/// Ends the test where these are not the same.
-pub(crate) fn assert_same<T: PartialEq + Debug + Drop>(rt: &impl Abort, got: T, wanted: T) {
-    assert_eq!(rt; got, wanted);
-}
 
 /// Adds a phase in which worker 0 commits a view alone, with this index and reply.
 pub fn add_commit(

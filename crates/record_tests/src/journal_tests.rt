@@ -3,7 +3,6 @@ ghost use Rattle.std.specs.Prelude.{◌≡◌, ◌<◌, ◌≤◌, vec_len};
 ghost use Rattle.phase_laws.specs.Numbers.{last_by};
 ghost use Rattle.worker_journals.specs.{Journals.{entry_number}, Merged.{AreByWorker}};
 
-use crate::testing::assert_same;
 use auction_rows::{Entry, Request};
 use std::alloc::Global;
 use std::process::Abort;
@@ -21,7 +20,7 @@ fn room_for_more_than_memory_is_refused(rt: HostRuntime) {
         is_refused(alloc, usize::MAX),
         is_refused(alloc, usize::MAX / 10),
     ];
-    assert_same(&rt, refused, [true; 2]);
+    assert_eq!(rt; refused, [true; 2]);
 }
 
 // A worker's commit of phase 7.
@@ -77,7 +76,7 @@ fn assert_in_order(rt: &impl Abort, entries: &[Entry]) {
         entry(2, 4),
         entry(0, 9),
     ];
-    assert_same(rt, entries == wanted.as_slice(), true);
+    assert_eq!(rt; entries == wanted.as_slice(), true);
 }
 
 #[test]
@@ -95,16 +94,16 @@ fn journals_are_merged_by_number_and_then_worker(rt: HostRuntime) {
     for entry in &history {
         last = entry.number();
     }
-    assert_same(&rt, last, 9);
+    assert_eq!(rt; last, 9);
 }
 
 #[test]
 fn a_journal_gives_its_entries(rt: HostRuntime) {
     let mut journal = Journal::with_room(rt.alloc(), 7, 2, 1).expect(&rt, "memory");
     commit(&rt, &mut journal, 4);
-    assert_same(&rt, journal.worker(), 2);
+    assert_eq!(rt; journal.worker(), 2);
     let mut entries = journal.entries();
     let first = entries.next().expect(&rt, "an entry").to_entry();
     assert!(rt; first == entry(2, 4));
-    assert_same(&rt, entries.next().is_none(), true);
+    assert_eq!(rt; entries.next().is_none(), true);
 }

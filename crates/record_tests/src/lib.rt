@@ -12,6 +12,4 @@ mod shard_tests;
 #[cfg(test)]
 mod split_tests;
 #[cfg(test)]
-mod testing;
-#[cfg(test)]
 mod value_tests;

@@ -2,7 +2,6 @@
 ghost use Rattle.std.specs.Prelude.{◌≡◌, negsuc};
 ghost use Rattle.item_shards.specs.ShardContents.{shard_count, shard_number};
 
-use crate::testing::assert_same;
 use auction_rows::{
     BidEntry, BidId, BidShown, ItemEntry, ItemId, ItemShown, Refusal, Reply, Stars, Ten,
 };
@@ -29,9 +28,9 @@ const NO_CATEGORY: Reply = Reply::Refused(Refusal::NoSuchCategory);
 fn a_new_shard_shows_what_there_is(rt: HostRuntime) {
     let shard = Shard::new(rt.alloc(), 0, 1, OPENING).expect(&rt, "memory");
     let none = Reply::CategorySeen(Ten::new());
-    assert_same(&rt, views(&shard, 9, 1), [NO_ITEM, NO_ITEM, UNRATED, none]);
+    assert_eq!(rt; views(&shard, 9, 1), [NO_ITEM, NO_ITEM, UNRATED, none]);
     let unknown = [NO_ITEM, NO_ITEM, NO_USER, NO_CATEGORY];
-    assert_same(&rt, views(&shard, 10, 2), unknown);
+    assert_eq!(rt; views(&shard, 10, 2), unknown);
 }
 
 // A bid of 50 at 7 by the user of its number.
@@ -117,5 +116,5 @@ fn a_shard_shows_the_slices_merged_into_it(rt: HostRuntime) {
     let bids = Reply::BidsSeen(ten_of(&[bid_shown(2), bid_shown(1)]));
     let items = Reply::CategorySeen(ten_of(&[item_shown(1), item_shown(0)]));
     let wanted = [seen, bids, rated, items];
-    assert_same(&rt, views(&shard, 3, 1), wanted);
+    assert_eq!(rt; views(&shard, 3, 1), wanted);
 }

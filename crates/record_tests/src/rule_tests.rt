@@ -1,6 +1,5 @@
 //! Of `auction_rows`: what requests of each kind touch and write, where objects lie, and why requests
 //! are refused.
-use crate::testing::assert_same;
 use auction_rows::{
     Facts, ItemId, Object, Refusal, Request, Stars, is_splittable, is_view, item_refusal,
     number_refusal, shard_of, touches, writes,
@@ -35,8 +34,8 @@ fn each_request_touches_its_objects(rt: HostRuntime) {
         (VIEW_OF_USER, [Some(Object::User(4)), None], None, false),
     ] {
         let got = (touches(*request), writes(*request), is_view(*request));
-        assert_same(&rt, got, (*touched, *written, written.is_none()));
-        assert_same(&rt, is_splittable(*request), *splittable);
+        assert_eq!(rt; got, (*touched, *written, written.is_none()));
+        assert_eq!(rt; is_splittable(*request), *splittable);
     }
 }
 
@@ -56,7 +55,7 @@ fn objects_lie_by_their_numbers(rt: HostRuntime) {
         (Object::User(6), 2),
         (Object::Category(5), 1),
     ] {
-        assert_same(&rt, shard_of(object, 4), shard);
+        assert_eq!(rt; shard_of(object, 4), shard);
     }
 }
 
@@ -87,7 +86,7 @@ fn unknown_users_go_before_unknown_categories(rt: HostRuntime) {
         (VIEW_OF_CATEGORY, None),
     ] {
         let got = number_refusal(OPENING, *request);
-        assert_same(&rt, (*request, got), (*request, *refusal));
+        assert_eq!(rt; (*request, got), (*request, *refusal));
     }
 }
 
@@ -113,6 +112,6 @@ fn items_refuse_by_the_first_reason(rt: HostRuntime) {
         (VIEW_OF_USER, None, 2, None),
     ] {
         let got = item_refusal(*request, *stored, *left);
-        assert_same(&rt, (*request, got), (*request, *refusal));
+        assert_eq!(rt; (*request, got), (*request, *refusal));
     }
 }

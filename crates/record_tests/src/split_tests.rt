@@ -1,5 +1,4 @@
 //! Records of each kind, in two slices that are merged.
-use crate::testing::assert_same;
 use split_records::{AddRec, MaxRec, OPutRec, Splittable, merged_slices, value_of_any_history};
 use top_records::TopRec;
 
@@ -42,17 +41,17 @@ fn slices_are_merged(rt: HostRuntime) {
     let put: OPutRec<(u64, u32)> = in_two_slices((50, 1), (50, 2));
     let sum: AddRec<i64> = in_two_slices(-5, 7);
     let top: TopRec<u64, 3> = in_two_slices(4, 7);
-    assert_same(&rt, greatest.value(), Some(50));
-    assert_same(&rt, put.value(), Some((50, 2)));
-    assert_same(&rt, sum.value(), 2);
-    assert_same(&rt, top.entries(), [7, 4].as_slice());
+    assert_eq!(rt; greatest.value(), Some(50));
+    assert_eq!(rt; put.value(), Some((50, 2)));
+    assert_eq!(rt; sum.value(), 2);
+    assert_eq!(rt; top.entries(), [7, 4].as_slice());
 }
 
 #[test]
 fn top_list_of_two_slices(rt: HostRuntime) {
     let top = top_of_both(&[1, 3, 5, 7, 9], &[2, 4, 6, 8, 10, 11]);
     let wanted = [11, 10, 9, 8, 7, 6, 5, 4, 3, 2];
-    assert_same(&rt, top.entries(), wanted.as_slice());
+    assert_eq!(rt; top.entries(), wanted.as_slice());
 }
 
 #[test]
@@ -60,11 +59,11 @@ fn least_of_a_full_list(rt: HostRuntime) {
     let mut top = TopRec::<u64, 3>::identity();
     top.insert(5);
     top.insert(9);
-    assert_same(&rt, top.least(), None);
+    assert_eq!(rt; top.least(), None);
     top.insert(7);
-    assert_same(&rt, top.least(), Some(5));
+    assert_eq!(rt; top.least(), Some(5));
     top.insert(4);
-    assert_same(&rt, top.least(), Some(5));
+    assert_eq!(rt; top.least(), Some(5));
     top.insert(6);
-    assert_same(&rt, top.least(), Some(6));
+    assert_eq!(rt; top.least(), Some(6));
 }

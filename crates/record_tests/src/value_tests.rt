@@ -1,5 +1,4 @@
 //! Of `auction_rows`: what values give back of what they were made of, and how they are printed.
-use crate::testing::assert_same;
 use auction_rows::{MOST_SHOWN, Name, Quantity, Stars, Ten};
 
 #[test]
@@ -11,7 +10,7 @@ fn names_give_their_bytes(rt: HostRuntime) {
     ];
     for bytes in names {
         let name = Name::new(bytes).expect(&rt, "a name");
-        assert_same(&rt, name.bytes(), bytes);
+        assert_eq!(rt; name.bytes(), bytes);
     }
 }
 
@@ -19,7 +18,7 @@ fn names_give_their_bytes(rt: HostRuntime) {
 fn names_are_printed_as_texts(rt: HostRuntime) {
     let name = Name::new(b"Red \"vase\"").expect(&rt, "a name");
     let printed = format!(in rt.alloc(); "{name:?}").expect(&rt, "memory");
-    assert_same(&rt, printed.as_str(), "\"Red \\\"vase\\\"\"");
+    assert_eq!(rt; printed.as_str(), "\"Red \\\"vase\\\"\"");
 }
 
 #[test]
@@ -32,7 +31,7 @@ fn stars_give_their_number(rt: HostRuntime) {
         (6, None),
     ] {
         let got = Stars::new(value).map(|stars| stars.value());
-        assert_same(&rt, (value, got), (value, wanted));
+        assert_eq!(rt; (value, got), (value, wanted));
     }
 }
 
@@ -47,7 +46,7 @@ fn quantities_give_their_number(rt: HostRuntime) {
         (4_294_967_297, None),
     ] {
         let got = Quantity::new(value).map(|quantity| quantity.value());
-        assert_same(&rt, (value, got), (value, wanted));
+        assert_eq!(rt; (value, got), (value, wanted));
     }
 }
 
@@ -55,10 +54,10 @@ fn quantities_give_their_number(rt: HostRuntime) {
 fn lists_give_ten_values_by_their_places(rt: HostRuntime) {
     let mut list = Ten::new();
     for value in 20..30u64 {
-        assert_same(&rt, list.get(list.len()), None);
+        assert_eq!(rt; list.get(list.len()), None);
         assert!(rt; list.len() < MOST_SHOWN);
         list.push(value);
     }
     let got = [list.get(0), list.get(1), list.get(9), list.get(10)];
-    assert_same(&rt, got, [Some(20), Some(21), Some(29), None]);
+    assert_eq!(rt; got, [Some(20), Some(21), Some(29), None]);
 }

@@ -5,7 +5,7 @@ ghost use Rattle.phase_tests.specs.{NewShards.{BeginsWith}, Permits.{IsPermitFor
 use crate::calls::printing::{look_for_memory, print_count, print_journal};
 use crate::permits::closing::{assert_clocks, close_one, first_facts};
 use crate::permits::joined::{perform, permit_of_one};
-use crate::testing::{assert_same, waiting};
+use crate::testing::waiting;
 use auction_rows::{Reply, Request};
 use item_shards::Shard;
 use phase_permits::{JoinedPermit, PermitFault, Stash};
@@ -34,7 +34,7 @@ fn perform_twice<N: PhaseName, R: Wait + Print + Abort>(
     };
     let _ = println!(rt; "first store, {} left: {fault}", permit.left());
     let counts = (permit.left(), permit.stashed(), permit.tries());
-    assert_same(rt, counts, (2, 1, 1));
+    assert_eq!(rt; counts, (2, 1, 1));
     perform(rt, boxes, permit, store, 0)
 }
 
@@ -56,7 +56,7 @@ pub(crate) fn store<N: PhaseName, R: Wait + Print + Abort>(
     let shards = close_one(boxes, key, room);
     let stored = answer.is_ok();
     assert_clocks(rt, &shards, [u64::from(stored), 0, 0, 0]);
-    assert_same(rt, first_facts(&shards), stored.then_some(vases(10, 1)));
+    assert_eq!(rt; first_facts(&shards), stored.then_some(vases(10, 1)));
     let reply = told(rt, "first store, 2 left", answer)?;
     print_journal(rt, &journal);
     Ok((reply, journal.len()))

@@ -3,7 +3,7 @@
 use crate::calls::first_requests::{store, view};
 use crate::calls::phases::phases_by_hand;
 use crate::calls::printing::{print_count, print_history};
-use crate::testing::{assert_same, four};
+use crate::testing::four;
 use auction_rows::Reply;
 use std::marker::Brand;
 use std::test::Fail;
@@ -15,7 +15,7 @@ fn first_store(rt: HostRuntime) -> Result<(), Fail> {
     let shards = four(rt.alloc())?;
     print_count(&rt, "first_store ready", shards.len(), " shards");
     let answer = store::<Brand, HostRuntime>(&rt, rt.alloc(), shards)?;
-    assert_same(&rt, answer, (Reply::ItemStored(FIRST), 1));
+    assert_eq!(rt; answer, (Reply::ItemStored(FIRST), 1));
     Ok(())
 }
 
@@ -24,7 +24,7 @@ fn first_view(rt: HostRuntime) -> Result<(), Fail> {
     let shards = four(rt.alloc())?;
     print_count(&rt, "first_view ready", shards.len(), " shards");
     let answer = view::<Brand, HostRuntime>(&rt, rt.alloc(), shards)?;
-    assert_same(&rt, answer, (NO_USER, 1));
+    assert_eq!(rt; answer, (NO_USER, 1));
     Ok(())
 }
 
@@ -35,6 +35,6 @@ fn phases(rt: HostRuntime) -> Result<(), Fail> {
     print_history(&rt, &history);
     let shown = ended?.view(&VIEW);
     let wanted = item_seen(&vases(10, 2), Some((30, 2)), 2, 2);
-    assert_same(&rt, (shown, history.len()), (Some(wanted), 6));
+    assert_eq!(rt; (shown, history.len()), (Some(wanted), 6));
     Ok(())
 }

@@ -6,7 +6,6 @@ ghost use Rattle.shard_boxes.specs.{Closed.{AreClosed}, States.{state_of}};
 ghost use Rattle.phase_transactions.specs.Workers.{IsIdle};
 ghost use Rattle.phase_tests.specs.Permits.{IsOnlyKey};
 
-use crate::testing::assert_same;
 use auction_rows::Facts;
 use item_shards::Shard;
 use shard_boxes::{Boxes, Key, PhaseName};
@@ -51,7 +50,7 @@ pub(crate) fn assert_clocks(rt: &impl Abort, shards: &[Shard], clocks: [u64; 4])
         panic!(rt; "not four shards");
     };
     let found = [first.clock(), second.clock(), third.clock(), fourth.clock()];
-    assert_same(rt, found, clocks);
+    assert_eq!(rt; found, clocks);
 }
 
 /// What is fixed of the first item, where the first shard has it.

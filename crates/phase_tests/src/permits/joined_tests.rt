@@ -2,7 +2,7 @@
 ghost use Rattle.phase_tests.specs.NewShards.{BeginsWith};
 
 use crate::permits::joined::{perform, perform_stashed, permit_of_one};
-use crate::testing::{assert_same, four, waiting};
+use crate::testing::{four, waiting};
 use auction_rows::Request;
 use item_shards::Shard;
 use phase_permits::{PermitFault, Stash};
@@ -22,8 +22,8 @@ fn views_at_the_end<N: PhaseName, R: Wait + Abort>(rt: &R, alloc: Global, shards
     let (boxes, mut permit) = made.expect(rt, "memory");
     let known = perform(rt, &boxes, &mut permit, &LOOK, 0);
     let unknown = perform(rt, &boxes, &mut permit, &Request::ViewUser { user: 10 }, 0);
-    assert_same(rt, [known, unknown], [Err(PermitFault::NumberFull); 2]);
-    assert_same(rt, permit.left(), 2);
+    assert_eq!(rt; [known, unknown], [Err(PermitFault::NumberFull); 2]);
+    assert_eq!(rt; permit.left(), 2);
     drop(permit.finish());
 }
 
@@ -36,8 +36,8 @@ fn one_waits<N: PhaseName, R: Wait + Abort>(rt: &R, alloc: Global, shards: Vec<S
     let (boxes, mut permit) = made.expect(rt, "memory");
     let answer = perform_stashed(rt, &boxes, &mut permit);
     let none_waits = perform_stashed(rt, &boxes, &mut permit);
-    assert_same(rt, [answer, none_waits], [Ok(Some(UNRATED)), Ok(None)]);
-    assert_same(rt, permit.stashed(), 0);
+    assert_eq!(rt; [answer, none_waits], [Ok(Some(UNRATED)), Ok(None)]);
+    assert_eq!(rt; permit.stashed(), 0);
     drop(permit.finish());
 }
 

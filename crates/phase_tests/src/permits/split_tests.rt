@@ -4,7 +4,7 @@ ghost use Rattle.phase_tests.specs.{NewShards.{BeginsWith}, Permits.{IsPermitFor
 
 use crate::permits::closing::{assert_clocks, close_one};
 use crate::permits::split::{bid, comment, perform, split_permit};
-use crate::testing::{assert_same, boxes_of_one, four, push_numbers};
+use crate::testing::{boxes_of_one, four, push_numbers};
 use auction_rows::{Object, Refusal, Reply, Stars};
 use item_shards::Shard;
 use phase_permits::{Done, Slices, SplitPermit, Stash};
@@ -30,10 +30,10 @@ fn bid_and_view<N: PhaseName, R: Wait + Abort>(
     let stored = bid(rt, permit, 10, 99, 2);
     let view = perform(rt, boxes, permit, &VIEW, 3);
     assert!(rt; matches!(view, Ok(Done::Stashed)));
-    assert_same(rt, below, Some(Reply::Refused(Refusal::BelowStart)));
-    assert_same(rt, late, Some(Reply::Refused(Refusal::Closed)));
-    assert_same(rt, stored, Some(bid_stored(0, 0)));
-    assert_same(rt, permit.left(), 0);
+    assert_eq!(rt; below, Some(Reply::Refused(Refusal::BelowStart)));
+    assert_eq!(rt; late, Some(Reply::Refused(Refusal::Closed)));
+    assert_eq!(rt; stored, Some(bid_stored(0, 0)));
+    assert_eq!(rt; permit.left(), 0);
 }
 
 // What the bids and the view leave.
@@ -60,11 +60,11 @@ fn assert_left(
 ) {
     let mut numbers = Vec::new(alloc);
     push_numbers(rt, &mut numbers, journal);
-    assert_same(rt, numbers.as_slice(), [1, 2, 3].as_slice());
-    assert_same(rt, (stash.len(), stash.get(0)), (1, Some((3, VIEW))));
+    assert_eq!(rt; numbers.as_slice(), [1, 2, 3].as_slice());
+    assert_eq!(rt; (stash.len(), stash.get(0)), (1, Some((3, VIEW))));
     for hot in [Some(Object::User(3)), Some(Object::Item(FIRST)), None] {
         let popped = slices.pop().map(|(object, _slice)| object);
-        assert_same(rt, popped, hot);
+        assert_eq!(rt; popped, hot);
     }
 }
 
@@ -75,8 +75,8 @@ fn comment_on_a_hot_item<N: PhaseName, R: Abort>(rt: &R, alloc: Global, shards: 
     let (_boxes, key) = boxes_of_one::<N>(alloc, shards).expect(rt, "memory");
     let mut permit = split_permit(rt, alloc, key, 0);
     let stored = comment(rt, &mut permit, Stars { value: 5 }, 0);
-    assert_same(rt, stored, Some(comment_stored(0, 0)));
-    assert_same(rt, permit.left(), 3);
+    assert_eq!(rt; stored, Some(comment_stored(0, 0)));
+    assert_eq!(rt; permit.left(), 3);
     drop(permit.finish());
 }
 
@@ -88,8 +88,8 @@ fn stores_at_the_end<N: PhaseName, R: Abort>(rt: &R, alloc: Global, shards: Vec<
     let mut permit = split_permit(rt, alloc, key, u64::MAX);
     let before = permit.left();
     let answer = bid(rt, &mut permit, 10, 99, 0);
-    assert_same(rt, answer, None);
-    assert_same(rt, (before, permit.left()), (4, 4));
+    assert_eq!(rt; answer, None);
+    assert_eq!(rt; (before, permit.left()), (4, 4));
     drop(permit.finish());
 }
 

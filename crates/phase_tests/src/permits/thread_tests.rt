@@ -5,7 +5,7 @@ ghost use Rattle.phase_tests.specs.NewShards.{BeginsWith};
 
 use crate::permits::closing::{assert_clocks, close_two};
 use crate::permits::joined::{joined_permit, perform};
-use crate::testing::{assert_same, boxes_of_two, four, push_numbers};
+use crate::testing::{boxes_of_two, four, push_numbers};
 use item_shards::Shard;
 use phase_permits::Stash;
 use shard_boxes::{Boxes, Key, PhaseName};
@@ -37,7 +37,7 @@ fn views<N: PhaseName, R: Wait + Abort>(
     let first = perform(rt, boxes, &mut permit, &LOOK, 0);
     let second = perform(rt, boxes, &mut permit, &LOOK, 1);
     let (journal, _slices, _stash, key, _counters) = permit.finish().parts();
-    assert_same(rt, [first, second], [Ok(UNRATED); 2]);
+    assert_eq!(rt; [first, second], [Ok(UNRATED); 2]);
     (journal, key)
 }
 
@@ -47,7 +47,7 @@ fn assert_numbers(rt: &impl Abort, alloc: Global, one: &Journal, other: &Journal
     push_numbers(rt, &mut numbers, one);
     push_numbers(rt, &mut numbers, other);
     numbers.sort_unstable();
-    assert_same(rt, numbers.as_slice(), [1, 2, 3, 4].as_slice());
+    assert_eq!(rt; numbers.as_slice(), [1, 2, 3, 4].as_slice());
 }
 
 // All four views find one shard, so each has a number of its own.

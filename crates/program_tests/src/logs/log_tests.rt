@@ -2,7 +2,6 @@
 ghost use Rattle.std.specs.Prelude.{false, [], Some};
 
 use crate::logs::mem_file::{MemFile, put_known};
-use crate::testing::assert_same;
 use part_log::{FileLog, Log, LogFault, NoLog, TellFault, tell_part};
 use std::alloc::Global;
 use std::io;
@@ -42,14 +41,14 @@ fn a_log_goes_on_after_a_write_that_failed_alone(rt: HostRuntime) {
         (5, ["accepted", "not synced", "ended"]),
     ] {
         let found = three_parts(&rt, MemFile::new(rt.alloc(), fails_at));
-        assert_same(&rt, (fails_at, found), (fails_at, answers));
+        assert_eq!(rt; (fails_at, found), (fails_at, answers));
     }
 }
 
 #[test]
 fn a_log_whose_name_leads_elsewhere_ends(rt: HostRuntime) {
     let found = three_parts(&rt, MemFile::lost(rt.alloc()));
-    assert_same(&rt, found, ["changed", "ended", "ended"]);
+    assert_eq!(rt; found, ["changed", "ended", "ended"]);
 }
 
 // Takes nothing.
@@ -75,14 +74,14 @@ fn a_part_whose_rows_are_refused_is_not_told(rt: HostRuntime) {
     let mut told = Vec::new(rt.alloc());
     let refused = tell_part(&mut Full, &mut told, b"row\n", b"reply\n");
     let is_refused = matches!(refused, Err(TellFault::Log(LogFault::Write(_))));
-    assert_same(&rt, is_refused, true);
-    assert_same(&rt, told.as_slice(), b"".as_slice());
+    assert_eq!(rt; is_refused, true);
+    assert_eq!(rt; told.as_slice(), b"".as_slice());
     // A part without rows asks nothing of the log.
     let seen = tell_part(&mut Full, &mut told, b"", b"seen\n");
-    assert_same(&rt, seen.is_ok(), true);
+    assert_eq!(rt; seen.is_ok(), true);
     let unlogged = tell_part(&mut NoLog, &mut told, b"row\n", b"reply\n");
-    assert_same(&rt, unlogged.is_ok(), true);
-    assert_same(&rt, told.as_slice(), b"seen\nreply\n".as_slice());
+    assert_eq!(rt; unlogged.is_ok(), true);
+    assert_eq!(rt; told.as_slice(), b"seen\nreply\n".as_slice());
 }
 
 // Knows how much of what was written was flushed.
@@ -112,13 +111,13 @@ fn each_part_is_flushed(rt: HostRuntime) {
     };
     for (text, flushed) in [("one\n", 4), ("two\n", 8), ("", 8)] {
         let told = tell_part(&mut NoLog, &mut writer, b"row\n", text.as_bytes());
-        assert_same(&rt, told.is_ok(), true);
-        assert_same(&rt, writer.flushed, flushed);
+        assert_eq!(rt; told.is_ok(), true);
+        assert_eq!(rt; writer.flushed, flushed);
     }
-    assert_same(&rt, writer.written.as_slice(), b"one\ntwo\n".as_slice());
+    assert_eq!(rt; writer.written.as_slice(), b"one\ntwo\n".as_slice());
 }
 
 #[test]
 fn only_a_log_that_keeps_rows_asks_for_them(rt: HostRuntime) {
-    assert_same(&rt, (NoLog.keeps(), Full.keeps()), (false, true));
+    assert_eq!(rt; (NoLog.keeps(), Full.keeps()), (false, true));
 }

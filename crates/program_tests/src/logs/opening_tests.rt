@@ -3,7 +3,7 @@ ghost use Rattle.std.specs.Prelude.{[], IfOk};
 ghost use Rattle.phase_floor.specs.Adding.{HasBook, IsStartOf};
 
 use crate::logs::mem_file::MemFile;
-use crate::testing::{assert_same, extend};
+use crate::testing::extend;
 use auction_rows::Refusal;
 use auction_text::{Cause, ReadFault};
 use log_opening::{LONGEST_ROW, OpenFault, cut_log, is_cut_row, open_parts, read_log};
@@ -61,13 +61,13 @@ fn assert_after_rows(
     extend(rt, &mut text, ITEM);
     extend(rt, &mut text, BID);
     extend(rt, &mut text, tail);
-    assert_same(rt, opened(rt, rt.alloc(), text.as_slice()), wanted);
+    assert_eq!(rt; opened(rt, rt.alloc(), text.as_slice()), wanted);
 }
 
 #[test]
 fn a_log_opens_to_its_whole_rows(rt: HostRuntime) {
-    assert_same(&rt, opened(&rt, rt.alloc(), b""), Ok((0, 0)));
-    assert_same(&rt, opened(&rt, rt.alloc(), b"0,+it"), Ok((0, 0)));
+    assert_eq!(rt; opened(&rt, rt.alloc(), b""), Ok((0, 0)));
+    assert_eq!(rt; opened(&rt, rt.alloc(), b"0,+it"), Ok((0, 0)));
     for tail in [b"".as_slice(), b"1", b"1,+bid,1,0.0,2", b"15,+comment,1"] {
         assert_after_rows(&rt, tail, Ok((2, 48)));
     }
@@ -84,7 +84,7 @@ fn what_is_no_cut_row_is_not_cut(rt: HostRuntime) {
         b"0,item",
     ] {
         let refused = Err(OpenFault::Tail(1));
-        assert_same(&rt, opened(&rt, rt.alloc(), text), refused);
+        assert_eq!(rt; opened(&rt, rt.alloc(), text), refused);
     }
 }
 
@@ -102,9 +102,9 @@ fn what_is_cut_is_no_longer_than_a_row(rt: HostRuntime) {
     for _ in tail.len()..LONGEST_ROW {
         tail.push(b'0').expect(&rt, "memory");
     }
-    assert_same(&rt, is_cut_row(tail.as_slice()), true);
+    assert_eq!(rt; is_cut_row(tail.as_slice()), true);
     tail.push(b'0').expect(&rt, "memory");
-    assert_same(&rt, is_cut_row(tail.as_slice()), false);
+    assert_eq!(rt; is_cut_row(tail.as_slice()), false);
 }
 
 #[test]
@@ -138,7 +138,7 @@ fn a_line_that_was_cut_is_not_whole(rt: HostRuntime) {
         (b"a\n\n", 3),
     ];
     for (text, whole) in texts {
-        assert_same(&rt, lines_end(text), whole);
+        assert_eq!(rt; lines_end(text), whole);
     }
 }
 
@@ -158,10 +158,10 @@ fn rows_are_counted_through_all_parts(rt: HostRuntime) {
     let alloc = rt.alloc();
     let mut text = many_rows(&rt, alloc, 10_000);
     let len = text.len() as u64;
-    assert_same(&rt, opened(&rt, alloc, text.as_slice()), Ok((10_000, len)));
+    assert_eq!(rt; opened(&rt, alloc, text.as_slice()), Ok((10_000, len)));
     extend(&rt, &mut text, b"1,+bid,1,0.0,9,5\n");
     let low = OpenFault::Row(10_001, AddFault::Refused(Refusal::BelowStart));
-    assert_same(&rt, opened(&rt, alloc, text.as_slice()), Err(low));
+    assert_eq!(rt; opened(&rt, alloc, text.as_slice()), Err(low));
 }
 
 #[test]
@@ -170,8 +170,8 @@ fn rows_are_told_as_they_are_read(rt: HostRuntime) {
     let text = many_rows(&rt, alloc, 10_000);
     let mut rows = Vec::new(alloc);
     let opened = told(&rt, alloc, text.as_slice(), &mut rows);
-    assert_same(&rt, opened.is_ok(), true);
-    assert_same(&rt, rows.as_slice() == text.as_slice(), true);
+    assert_eq!(rt; opened.is_ok(), true);
+    assert_eq!(rt; rows.as_slice() == text.as_slice(), true);
 }
 
 // A file of an item, and of a row that was cut.
@@ -190,7 +190,7 @@ fn a_file_is_cut_to_its_rows(rt: HostRuntime) {
     let Ok(logged) = read_log(alloc, &file, empty, &mut io::sink()) else {
         panic!(rt; "the log is refused");
     };
-    assert_same(&rt, (logged.rows, logged.kept), (1, 30));
-    assert_same(&rt, logged.tail.as_slice(), b"1,+bi".as_slice());
-    assert_same(&rt, cut_log(file, &logged).is_ok(), true);
+    assert_eq!(rt; (logged.rows, logged.kept), (1, 30));
+    assert_eq!(rt; logged.tail.as_slice(), b"1,+bi".as_slice());
+    assert_eq!(rt; cut_log(file, &logged).is_ok(), true);
 }

@@ -1,6 +1,6 @@
 //! Faults to which the built program can't be brought. The others stand in tests/limits.py, ends.py
 //! and refused_memory.py.
-use crate::testing::{assert_same, extend, line_of};
+use crate::testing::{extend, line_of};
 use auction_program::{AddFault, Fault, status, write_fault};
 use auction_rows::{Refusal, Reply};
 use auction_run::RunFault;
@@ -17,9 +17,9 @@ fn assert_told(rt: &impl Abort, alloc: Global, fault: Fault, words: &[u8]) {
     for part in [b"rubis_auction: ".as_slice(), words, b"\n"] {
         extend(rt, &mut wanted, part);
     }
-    assert_same(rt, status(&fault), 3);
+    assert_eq!(rt; status(&fault), 3);
     let line = line_of(rt, alloc, &Err(fault));
-    assert_same(rt, line.as_slice(), wanted.as_slice());
+    assert_eq!(rt; line.as_slice(), wanted.as_slice());
 }
 
 #[test]
@@ -80,5 +80,5 @@ impl Write for Full {
 #[test]
 fn a_full_writer_refuses_the_line_of_a_fault(rt: HostRuntime) {
     let refused = write_fault(&mut Full, &Fault::Run(RunFault::Memory));
-    assert_same(&rt, refused, Err(WriteFault::Write));
+    assert_eq!(rt; refused, Err(WriteFault::Write));
 }

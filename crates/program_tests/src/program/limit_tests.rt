@@ -2,7 +2,7 @@
 //! commit 1,000,000 requests in place of 2^31.
 ghost use Rattle.phase_floor.specs.Adding.{HasBook};
 
-use crate::testing::{assert_same, line_of};
+use crate::testing::line_of;
 use auction_program::{Joined, LiveTeller, LoggedInput, NoLog, Options, Teller, serve};
 use auction_rows::{Facts, Opening, Request, Stars};
 use std::alloc::Global;
@@ -104,9 +104,9 @@ fn assert_served<R: Abort + Alloc<A = Global> + Threads + Wait + Sync>(
     };
     let mut teller = LiveTeller::of(alloc, texts, Vec::new(alloc));
     let served = serve(rt, alloc, source, &mut teller, options);
-    assert_same(rt, line_of(rt, alloc, &served).as_slice(), ended);
-    assert_same(rt, teller.teller.writer.as_slice(), written);
-    assert_same(rt, teller.errors.as_slice(), errors);
+    assert_eq!(rt; line_of(rt, alloc, &served).as_slice(), ended);
+    assert_eq!(rt; teller.teller.writer.as_slice(), written);
+    assert_eq!(rt; teller.errors.as_slice(), errors);
 }
 
 #[test]

@@ -1,6 +1,6 @@
 //! The program's library, from words and an input to what is written. Other words and inputs are
 //! tried on the built program, in `tests/`.
-use crate::testing::{assert_same, line_of};
+use crate::testing::line_of;
 use auction_program::{execute, read_options};
 use std::alloc::Global;
 use std::process::Abort;
@@ -30,8 +30,8 @@ fn assert_executed<R: Abort + Alloc<A = Global> + Threads + Wait + Sync>(
     let options = read.expect(rt, "options");
     let mut text = Vec::new(alloc);
     let executed = execute(rt, alloc, input, &mut text, &options);
-    assert_same(rt, line_of(rt, alloc, &executed).as_slice(), ended);
-    assert_same(rt, text.as_slice(), written);
+    assert_eq!(rt; line_of(rt, alloc, &executed).as_slice(), ended);
+    assert_eq!(rt; text.as_slice(), written);
 }
 
 // In the second phase user 3 and category 0 are hot, and the view of the user is put off.

@@ -1,5 +1,4 @@
 //! What is written of a run that has ended: its rows, and its report.
-use crate::testing::assert_same;
 use auction_rows::{ItemShown, Reply, Request, Ten};
 use auction_text::{ReportLines, write_report, write_rows};
 use std::alloc::Global;
@@ -25,9 +24,9 @@ fn rows_are_records_that_open_an_auction(rt: HostRuntime) {
     let rows = [item_row(vases(10, 2)), bid_row(0, 1, 20, 5)];
     let history = bid_and_view(&rt, alloc);
     let written = write_rows(alloc, &mut text, &rows, &history);
-    assert_same(&rt, written, Ok(()));
+    assert_eq!(rt; written, Ok(()));
     let wanted = b"0,+item,0,0,\"Vase\",10,100,1,2\n0,+bid,1,0.0,20,5\n0,+bid,2,0.0,50,6\n";
-    assert_same(&rt, text.as_slice(), wanted.as_slice());
+    assert_eq!(rt; text.as_slice(), wanted.as_slice());
 }
 
 // Asserts the report of a history in which nothing was hot.
@@ -40,8 +39,8 @@ fn assert_report(
 ) {
     let mut text = Vec::new(alloc);
     let written = write_report(alloc, &mut text, history, &[], lines);
-    assert_same(rt, written, Ok(()));
-    assert_same(rt, text.as_slice(), wanted);
+    assert_eq!(rt; written, Ok(()));
+    assert_eq!(rt; text.as_slice(), wanted);
 }
 
 #[test]

@@ -1,5 +1,5 @@
 //! What an input says that is read line by line, by what its reader gives at a time.
-use crate::testing::{assert_same, extend};
+use crate::testing::extend;
 use crate::text::reading::{Pieces, told};
 use auction_program::{UntilEnd, push_fault_line};
 use auction_text::{Cause, MOST_ROWS_OF_A_PART, ReadFault};
@@ -43,7 +43,7 @@ impl<R: Read> Read for Interrupted<R> {
 // Asserts what a text says that is given at once, in parts of at most nine requests.
 fn assert_told(rt: &(impl Abort + Alloc<A = Global>), text: &[u8], wanted: &str) {
     let found = told(rt, rt.alloc(), text, 9);
-    assert_same(rt, found.as_str(), wanted);
+    assert_eq!(rt; found.as_str(), wanted);
 }
 
 // The lines of a text that tell a fault.
@@ -68,7 +68,7 @@ fn assert_faults(
         let most = *at_a_time;
         let found = told(rt, rt.alloc(), Slowly { text, most }, 9);
         let faults = faults_in(rt, rt.alloc(), found.as_str());
-        assert_same(rt, faults.as_str(), wanted);
+        assert_eq!(rt; faults.as_str(), wanted);
     }
 }
 
@@ -143,7 +143,7 @@ fn rows_end_a_part_too(rt: HostRuntime) {
     let text = text.as_slice();
     for most in [999, 100_000] {
         let found = told(&rt, rt.alloc(), Slowly { text, most }, 9);
-        assert_same(&rt, (most, found.as_str()), (most, wanted));
+        assert_eq!(rt; (most, found.as_str()), (most, wanted));
     }
 }
 
@@ -161,7 +161,7 @@ fn a_read_that_a_signal_interrupts_is_tried_again(rt: HostRuntime) {
     });
     let mut buf = [0; 20];
     for given in [6, 4, 0, 0] {
-        assert_same(&rt, read_of(&rt, &mut reader, &mut buf), given);
+        assert_eq!(rt; read_of(&rt, &mut reader, &mut buf), given);
     }
 }
 
@@ -170,9 +170,9 @@ fn an_input_ends_once(rt: HostRuntime) {
     let pieces: &[&[u8]] = &[b"", b"0,view", b"", b"user"];
     let mut reader = UntilEnd::of(Pieces { pieces, at: 0 });
     let mut buf = [0; 20];
-    assert_same(&rt, read_of(&rt, &mut reader, &mut buf[..0]), 0);
+    assert_eq!(rt; read_of(&rt, &mut reader, &mut buf[..0]), 0);
     for given in [6, 0, 0, 0] {
-        assert_same(&rt, read_of(&rt, &mut reader, &mut buf), given);
+        assert_eq!(rt; read_of(&rt, &mut reader, &mut buf), given);
     }
 }
 
@@ -189,5 +189,5 @@ fn a_fault_is_answered_with_the_index_of_the_next_request(rt: HostRuntime) {
     }
     let wanted =
         b"0,0,fault record 1: unknown kind\n15,7,fault record 1000000000000: too long\n3,1,fault record 2: no such worker\n1,2,fault more than 16000000 records\n";
-    assert_same(&rt, text.as_slice(), wanted.as_slice());
+    assert_eq!(rt; text.as_slice(), wanted.as_slice());
 }

@@ -1,5 +1,5 @@
 //! The texts of a part, whose phases and indexes go on from the parts before.
-use crate::testing::{add_commit, assert_same};
+use crate::testing::add_commit;
 use auction_rows::{Refusal, Reply};
 use auction_text::{
     Before, TextBlock, WriteFault, write_history, write_history_on, write_replies,
@@ -46,7 +46,7 @@ fn replies_of_a_part_go_on_counting(rt: HostRuntime) {
     let written = write_replies_on(alloc, &mut text, &history, &one_part(&rt, alloc));
     written.expect(&rt, "a text");
     let wanted = b"0,9,refused 5 Closed\n0,10,refused 5 Closed\n2,0,refused 5 Closed\n";
-    assert_same(&rt, text.as_slice(), wanted.as_slice());
+    assert_eq!(rt; text.as_slice(), wanted.as_slice());
 }
 
 #[test]
@@ -60,7 +60,7 @@ fn nothing_is_left_in_a_block_that_is_kept(rt: HostRuntime) {
     }
     let wanted =
         b"0,0,refused 5 Closed\n0,1,refused 5 Closed\n2,0,refused 5 Closed\n0,9,refused 5 Closed\n0,10,refused 5 Closed\n2,0,refused 5 Closed\n";
-    assert_same(&rt, text.as_slice(), wanted.as_slice());
+    assert_eq!(rt; text.as_slice(), wanted.as_slice());
 }
 
 #[test]
@@ -71,7 +71,7 @@ fn a_history_of_a_part_goes_on_counting(rt: HostRuntime) {
     let written = write_history_on(&mut text, &history, &one_part(&rt, alloc));
     written.expect(&rt, "a text");
     let wanted = b"7 1 0 10 refused 5 Closed\n7 2 0 9 refused 5 Closed\n7 3 2 0 refused 5 Closed\n";
-    assert_same(&rt, text.as_slice(), wanted.as_slice());
+    assert_eq!(rt; text.as_slice(), wanted.as_slice());
 }
 
 #[test]
@@ -82,10 +82,10 @@ fn the_first_part_is_written_as_it_stands(rt: HostRuntime) {
     let none = Before::none();
     write_replies_on(alloc, &mut part, &history, &none).expect(&rt, "a text");
     write_replies(alloc, &mut whole, &history).expect(&rt, "a text");
-    assert_same(&rt, part.as_slice(), whole.as_slice());
+    assert_eq!(rt; part.as_slice(), whole.as_slice());
     write_history_on(&mut part, &history, &none).expect(&rt, "a text");
     write_history(&mut whole, &history).expect(&rt, "a text");
-    assert_same(&rt, part.as_slice(), whole.as_slice());
+    assert_eq!(rt; part.as_slice(), whole.as_slice());
 }
 
 // The scripts of one worker more than there may be.
@@ -109,9 +109,9 @@ fn a_count_past_64_bits_is_refused(rt: HostRuntime) {
     }
     let mut text = Vec::new(alloc);
     let written = write_history_on(&mut text, &history, &most);
-    assert_same(&rt, written, Err(WriteFault::Write));
-    assert_same(&rt, most.with_phases(1).is_none(), true);
+    assert_eq!(rt; written, Err(WriteFault::Write));
+    assert_eq!(rt; most.with_phases(1).is_none(), true);
     let scripts = seventeen(&rt, alloc);
     let none = Before::none();
-    assert_same(&rt, none.with_scripts(scripts.as_slice()).is_none(), true);
+    assert_eq!(rt; none.with_scripts(scripts.as_slice()).is_none(), true);
 }

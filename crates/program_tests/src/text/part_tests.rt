@@ -1,7 +1,6 @@
 //! Where the parts of an input end, by what its reader gives at a time.
 ghost use Rattle.std.specs.Prelude.{◌≤◌};
 
-use crate::testing::assert_same;
 use crate::text::reading::{Pieces, told};
 use std::alloc::Global;
 use std::process::Abort;
@@ -16,7 +15,7 @@ fn assert_parts(
     requires { 1 ≤ most }
 {
     let found = told(rt, rt.alloc(), Pieces { pieces, at: 0 }, most);
-    assert_same(rt, found.as_str(), wanted);
+    assert_eq!(rt; found.as_str(), wanted);
 }
 
 #[test]

@@ -1,5 +1,4 @@
 //! The rows and scripts of a whole input.
-use crate::testing::assert_same;
 use auction_rows::Request;
 use auction_text::{Cause, ReadFault, read_scripts};
 use test_values::{VIEW, VIEW_OF_BIDS, bid};
@@ -19,14 +18,14 @@ fn each_worker_has_its_requests_in_their_order(rt: HostRuntime) {
     let [first, second] = input.scripts.as_slice() else {
         panic!(rt; "not two scripts");
     };
-    assert_same(&rt, first.as_slice(), [bid(3, 20, 5), VIEW].as_slice());
+    assert_eq!(rt; first.as_slice(), [bid(3, 20, 5), VIEW].as_slice());
     let of_second = [
         Request::ViewUser { user: 4 },
         VIEW_OF_BIDS,
         Request::ViewCategory { category: 2 },
     ];
-    assert_same(&rt, second.as_slice(), of_second.as_slice());
-    assert_same(&rt, input.rows.len(), 1);
+    assert_eq!(rt; second.as_slice(), of_second.as_slice());
+    assert_eq!(rt; input.rows.len(), 1);
 }
 
 #[test]
@@ -40,6 +39,6 @@ fn an_input_with_a_fault_gives_no_scripts(rt: HostRuntime) {
     ];
     for (text, fault) in inputs {
         let got = read_scripts(rt.alloc(), text, 2).err();
-        assert_same(&rt, got, Some(fault));
+        assert_eq!(rt; got, Some(fault));
     }
 }

@@ -1,6 +1,6 @@
 //! Replies that are written, whole and in part. Each kind of reply stands in tests/worked, and
 //! other writers in tests/ends.py.
-use crate::testing::{add_commit, assert_same};
+use crate::testing::add_commit;
 use auction_rows::{Refusal, Reply};
 use auction_text::{WriteFault, write_replies};
 use std::alloc::Global;
@@ -85,7 +85,7 @@ fn a_write_that_fails_is_the_last_call(rt: HostRuntime) {
         let writer = lapse_at(alloc, call, false);
         let wanted = (cut, &OUTPUT[..call], (call + 1, 0));
         let right = replies_leave(alloc, &history, writer, wanted);
-        assert_same(&rt, (call, right), (call, true));
+        assert_eq!(rt; (call, right), (call, true));
     }
 }
 
@@ -98,7 +98,7 @@ fn a_write_that_a_signal_interrupts_is_tried_again(rt: HostRuntime) {
         writer.error = ErrorKind::Interrupted;
         let calls = (OUTPUT.len() + 1, 1);
         let right = replies_leave(alloc, &history, writer, (Ok(()), OUTPUT, calls));
-        assert_same(&rt, (call, right), (call, true));
+        assert_eq!(rt; (call, right), (call, true));
     }
 }
 
@@ -111,6 +111,6 @@ fn a_text_that_was_written_whole_is_flushed_once(rt: HostRuntime) {
     for (is_stuck, answer) in [(false, Ok(())), (true, Err(WriteFault::Write))] {
         let writer = lapse_at(alloc, OUTPUT.len(), is_stuck);
         let right = replies_leave(alloc, &history, writer, (answer, OUTPUT, calls));
-        assert_same(&rt, (is_stuck, right), (is_stuck, true));
+        assert_eq!(rt; (is_stuck, right), (is_stuck, true));
     }
 }
