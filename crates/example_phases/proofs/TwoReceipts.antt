@@ -1,12 +1,13 @@
 -- The permits of two workers, whose receipts a close takes.
-use Rattle.std.proofs.Common.{◌≡◌, ℕ, zero, suc, ◌<◌, List, [], ◌∷◌, length, get_or, sym, subst, arith}
+use Rattle.std.proofs.Common.{◌≡◌, ℕ, zero, suc, ◌<◌, List, [], ◌∷◌, length, get_or, sym, subst, ◌∙◌, arith}
+use Rattle.std.proofs.lemmas.List.{get_or_default}
 use Rattle.phase_floor.specs.{Closings.{AreReceiptsOf, IsReceipt}, Floors.{FloorState}}
 use Rattle.phase_transactions.specs.Workers.{WorkerState}
 
--- each of two
-pub each_of_two : {floor : FloorState} {one other : WorkerState} {permits : List WorkerState} → length floor.counters ≡ 2 → AreReceiptsOf floor permits → permits ≡ one ∷ other ∷ []
-    → IsReceipt floor 0 one × IsReceipt floor 1 other
-each_of_two {floor} two are is = let all = subst (AreReceiptsOf floor) is are in (all.1 0 (omega (arith, two)), all.1 1 (omega (arith, two)))
+-- the one at a worker's place
+pub one_of : {floor : FloorState} (permits : List WorkerState) → AreReceiptsOf floor permits → (w : ℕ) → w < length floor.counters → (permit : WorkerState) → permit ≡ get_or permits w permit
+    → IsReceipt floor w permit
+one_of {floor} permits are w below permit is = subst (IsReceipt floor w) (get_or_default permits w _ permit (omega (arith, are.0, below)) ∙ sym is) (are.1 w below)
 
 -- all of two
 pub two_receipts : {floor : FloorState} {one other : WorkerState} {receipts : List WorkerState} → length floor.counters ≡ 2 → receipts ≡ one ∷ other ∷ []

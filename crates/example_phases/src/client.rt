@@ -1,7 +1,6 @@
 //! The client of a worker: what it asks, and what it was answered.
 use auction_rows::{Reply, Request};
-use phase_permits::PermitFault;
-use std::alloc::Global;
+use std::alloc::{AllocError, Global};
 use std::io;
 
 /// Whom a worker serves.
@@ -51,11 +50,9 @@ impl Client {
     }
 
     /// Takes the reply to a request. A server would send it from here.
-    pub fn answer(&mut self, index: u32, reply: Reply) -> Result<(), PermitFault> {
-        match self.replies.push((index, reply)) {
-            Ok(()) => Ok(()),
-            Err(_) => Err(PermitFault::Memory),
-        }
+    pub fn answer(&mut self, index: u32, reply: Reply) -> Result<(), AllocError> {
+        self.replies.push((index, reply))?;
+        Ok(())
     }
 
     /// Prints the replies that came since the last time.

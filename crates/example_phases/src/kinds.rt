@@ -1,18 +1,15 @@
 //! A joined and a split phase of two workers.
 ghost use Rattle.std.specs.Prelude.{◌≡◌, ◌+◌, ◌∷◌, [], IfOk};
-ghost use Rattle.phase_floor.specs.{Begins.{CanBegin}, Closings.{IsReceipt}};
+ghost use Rattle.phase_floor.specs.Begins.{CanBegin};
 ghost use Rattle.example_phases.specs.Auctions.{IsOfTwo};
 
 use crate::auction::Auction;
-use crate::client::Client;
-use crate::phase::{Work, perform_begun, perform_next};
+use crate::phase::{Work, perform_begun};
 use anyhow::bail;
-use auction_rows::{MOST_TRIES, Object, Reply, Request};
+use auction_rows::{Object, Reply, Request};
 use indexmap::IndexSet;
 use phase_floor::{JoinedFloor, SplitFloor};
-use phase_permits::{
-    Done, JoinedPermit, JoinedPhase, PermitFault, SplitPermit, SplitPhase,
-};
+use phase_permits::{Done, JoinedPermit, JoinedPhase, PermitFault, SplitPermit, SplitPhase};
 use shard_boxes::PhaseName;
 use std::alloc::Global;
 use std::sync::Wait;
@@ -67,7 +64,6 @@ impl Work for JoinedPhase {
     fn perform<N: PhaseName, R: Wait>(
         rt: &R,
         floor: &JoinedFloor<N>,
-        _worker: u32,
         permit: &mut JoinedPermit<N>,
         request: &Request,
         index: u32,
@@ -76,22 +72,16 @@ impl Work for JoinedPhase {
         Ok(Some(reply))
     }
 
-    // What the worker has deferred comes first.
-    fn perform_all<N: PhaseName, R: Wait>(
+    fn perform_deferred<N: PhaseName, R: Wait>(
         rt: &R,
         floor: &JoinedFloor<N>,
-        worker: u32,
         permit: &mut JoinedPermit<N>,
-        client: &mut Client,
-    ) -> Result<(), PermitFault> {
-        for _turn in 0..permit.stashed().saturating_add(JOINED_QUOTA as usize) {
-            if permit.stashed() > 0 {
-                perform_deferred(rt, floor, worker, permit, client)?;
-            } else {
-                perform_next(rt, floor, worker, permit, client)?;
-            }
-        }
-        Ok(())
+    ) -> Result<Option<(u32, Reply)>, PermitFault> {
+        let Some((index, _request)) = permit.first_stashed() else {
+            return Ok(None);
+        };
+        let reply = permit.perform_stashed(rt, floor.boxes())?;
+        Ok(reply.map(|reply| (index, reply)))
     }
 }
 
@@ -99,7 +89,6 @@ impl Work for SplitPhase {
     fn perform<N: PhaseName, R: Wait>(
         rt: &R,
         floor: &SplitFloor<N>,
-        _worker: u32,
         permit: &mut SplitPermit<N>,
         request: &Request,
         index: u32,
@@ -110,39 +99,12 @@ impl Work for SplitPhase {
         }
     }
 
-    fn perform_all<N: PhaseName, R: Wait>(
-        rt: &R,
-        floor: &SplitFloor<N>,
-        worker: u32,
-        permit: &mut SplitPermit<N>,
-        client: &mut Client,
-    ) -> Result<(), PermitFault> {
-        for _turn in 0..SPLIT_QUOTA {
-            perform_next(rt, floor, worker, permit, client)?;
-        }
-        Ok(())
-    }
-}
-
-// Performs what was deferred first.
-fn perform_deferred<N: PhaseName, R: Wait>(
-    rt: &R,
-    floor: &JoinedFloor<N>,
-    worker: u32,
-    permit: &mut JoinedPermit<N>,
-    client: &mut Client,
-) -> Result<(), PermitFault>
-    requires { IsReceipt floor.now worker permit.old }
-    ensures { IsReceipt floor.now worker permit.new }
-{
-    let Some((index, _request)) = permit.first_stashed() else {
-        return Ok(());
-    };
-    if permit.tries() >= MOST_TRIES {
-        return Ok(());
-    }
-    match permit.perform_stashed(rt, floor.boxes())? {
-        Some(reply) => client.answer(index, reply),
-        None => Ok(()),
+    // What is deferred in a split phase waits for the next joined one.
+    fn perform_deferred<N: PhaseName, R: Wait>(
+        _rt: &R,
+        _floor: &SplitFloor<N>,
+        _permit: &mut SplitPermit<N>,
+    ) -> Result<Option<(u32, Reply)>, PermitFault> {
+        Ok(None)
     }
 }

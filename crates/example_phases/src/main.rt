@@ -20,8 +20,16 @@ const OPENING: Opening = Opening {
 };
 
 // The scripts of docs/EXAMPLE.md.
-const SCRIPTS: &[u8] =
-    b"0,item,0,0,Vase,10,100,1\n1,viewuser,1\n0,bid,0,0.0,10,1\n1,viewuser,1\n0,bid,1,0.0,20,2\n1,bid,2,0.0,25,2\n0,viewitem,0.0\n0,bid,1,0.0,30,3\n";
+const SCRIPTS: &[u8] = b"\
+0,item,0,0,Vase,10,100,1
+1,viewuser,1
+0,bid,0,0.0,10,1
+1,viewuser,1
+0,bid,1,0.0,20,2
+1,bid,2,0.0,25,2
+0,viewitem,0.0
+0,bid,1,0.0,30,3
+";
 
 fn main(rt: HostRuntime) -> Result<()> {
     let alloc = rt.alloc();

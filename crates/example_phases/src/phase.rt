@@ -1,10 +1,11 @@
 //! A phase of two workers, once it has begun.
-ghost use Rattle.std.specs.Prelude.{◌≡◌, ◌+◌, ◌<◌, ◌∷◌, [], length, vec_len, IfOk};
+ghost use Rattle.std.specs.Prelude.{◌≡◌, ◌+◌, ◌<◌, length, vec_len, IfOk};
 ghost use Rattle.phase_floor.specs.Closings.{AreReceiptsOf, IsReceipt};
 ghost use Rattle.example_phases.specs.Auctions.{IsOfTwo};
 
 use crate::auction::Auction;
 use crate::client::Client;
+use anyhow::Result;
 use auction_rows::{MOST_TRIES, Reply, Request};
 use phase_floor::{Floor, Joined};
 use phase_permits::{Kind, Permit, PermitFault, Receipt, Stash};
@@ -15,44 +16,41 @@ use std::thread;
 use std::thread::Threads;
 use worker_journals::History;
 
-/// A kind of phase, with what a worker does in it.
+/// A kind of phase, with what its permits answer.
 pub trait Work: Kind {
     /// Performs a request of the quota: None where it is deferred.
     fn perform<N: PhaseName, R: Wait>(
         rt: &R,
         floor: &Floor<N, Self>,
-        worker: u32,
         permit: &mut Permit<N, Self>,
         request: &Request,
         index: u32,
     ) -> Result<Option<Reply>, PermitFault>
         requires left { 0 < permit.old.left }
         requires tries { permit.old.tries < MOST_TRIES }
-        requires receipt { IsReceipt floor.now worker permit.old }
-        ensures { IsReceipt floor.now worker permit.new };
+        requires receipt { IsReceipt floor.now permit.old.key.worker permit.old }
+        ensures { IsReceipt floor.now permit.old.key.worker permit.new };
 
-    /// Performs requests of the worker's client, and answers them.
-    fn perform_all<N: PhaseName, R: Wait>(
+    /// Performs what was deferred first, if anything was: its index and its reply.
+    fn perform_deferred<N: PhaseName, R: Wait>(
         rt: &R,
         floor: &Floor<N, Self>,
-        worker: u32,
         permit: &mut Permit<N, Self>,
-        client: &mut Client,
-    ) -> Result<(), PermitFault>
-        requires { IsReceipt floor.now worker permit.old }
-        ensures { IsReceipt floor.now worker permit.new };
+    ) -> Result<Option<(u32, Reply)>, PermitFault>
+        requires tries { permit.old.tries < MOST_TRIES }
+        requires receipt { IsReceipt floor.now permit.old.key.worker permit.old }
+        ensures { IsReceipt floor.now permit.old.key.worker permit.new };
 }
 
-/// Performs the client's next request, if it has one, or defers it.
-pub fn perform_next<N: PhaseName, K: Work, R: Wait>(
+// Performs the client's next request, if it has one, and answers it unless it is deferred.
+fn perform_next<N: PhaseName, K: Work, R: Wait>(
     rt: &R,
     floor: &Floor<N, K>,
-    worker: u32,
     permit: &mut Permit<N, K>,
     client: &mut Client,
-) -> Result<(), PermitFault>
-    requires { IsReceipt floor.now worker permit.old }
-    ensures { IsReceipt floor.now worker permit.new }
+) -> Result<()>
+    requires { IsReceipt floor.now permit.old.key.worker permit.old }
+    ensures { IsReceipt floor.now permit.old.key.worker permit.new }
 {
     if permit.left() == 0 || permit.tries() >= MOST_TRIES {
         return Ok(());
@@ -60,113 +58,132 @@ pub fn perform_next<N: PhaseName, K: Work, R: Wait>(
     let Some((index, request)) = client.ask() else {
         return Ok(());
     };
-    match K::perform(rt, floor, worker, permit, &request, index)? {
-        Some(reply) => client.answer(index, reply),
-        None => Ok(()),
+    if let Some(reply) = K::perform(rt, floor, permit, &request, index)? {
+        client.answer(index, reply)?;
     }
+    Ok(())
+}
+
+// Performs what was deferred first, and answers it.
+fn perform_first<N: PhaseName, K: Work, R: Wait>(
+    rt: &R,
+    floor: &Floor<N, K>,
+    permit: &mut Permit<N, K>,
+    client: &mut Client,
+) -> Result<()>
+    requires { IsReceipt floor.now permit.old.key.worker permit.old }
+    ensures { IsReceipt floor.now permit.old.key.worker permit.new }
+{
+    if permit.tries() >= MOST_TRIES {
+        return Ok(());
+    }
+    if let Some((index, reply)) = K::perform_deferred(rt, floor, permit)? {
+        client.answer(index, reply)?;
+    }
+    Ok(())
+}
+
+// Performs what the worker has deferred, then what its client asks, as far as the quota goes.
+fn perform_all<N: PhaseName, K: Work, R: Wait>(
+    rt: &R,
+    floor: &Floor<N, K>,
+    permit: &mut Permit<N, K>,
+    client: &mut Client,
+) -> Result<()>
+    requires { IsReceipt floor.now permit.old.key.worker permit.old }
+    ensures { IsReceipt floor.now permit.old.key.worker permit.new }
+{
+    for _turn in 0..permit.stashed().saturating_add(permit.left() as usize) {
+        if K::IS_JOINED && permit.stashed() > 0 {
+            perform_first(rt, floor, permit, client)?;
+        } else {
+            perform_next(rt, floor, permit, client)?;
+        }
+    }
+    Ok(())
 }
 
 // What a worker has in the phase. Dropped, its permit is spent.
 struct Part<N: PhaseName, K: Kind> {
-    worker: u32,
     permit: Permit<N, K>,
     client: Client,
 }
 
 impl<N: PhaseName, K: Kind> Drop for Part<N, K> {
     fn drop(self) {
-        let Self {
-            worker: _,
-            permit,
-            client: _,
-        } = self;
+        let Self { permit, client: _ } = self;
         drop(permit.finish());
     }
 }
 
-// What a worker leaves at the end of the phase: the receipt of its permit, and its client unless a
-// fault stopped it.
-type Worked<N, K> = (Receipt<N, K>, Result<Client, PermitFault>);
+// What a worker leaves at the end of the phase: the receipt of its permit, and its client unless an
+// error stopped it.
+type Worked<N, K> = (Receipt<N, K>, Result<Client>);
 
 impl<N: PhaseName, K: Work> Part<N, K> {
     // Does what the worker has to do, and spends its permit.
     fn work<R: Wait>(self, rt: &R, floor: &Floor<N, K>) -> Worked<N, K>
-        requires { IsReceipt floor.now self.worker self.permit }
-        ensures { IsReceipt floor.now self.worker result.0 }
+        requires { IsReceipt floor.now self.permit.key.worker self.permit }
+        ensures { IsReceipt floor.now self.permit.key.worker result.0 }
     {
         let Self {
-            worker,
             mut permit,
             mut client,
         } = self;
-        let done = K::perform_all(rt, floor, worker, &mut permit, &mut client);
+        let done = perform_all(rt, floor, &mut permit, &mut client);
         (permit.finish(), done.and(Ok(client)))
     }
-}
-
-// The two items of a list.
-fn both<T>(mut items: Vec<T>) -> (T, T)
-    requires { vec_len items ≡ 2 }
-    ensures { items.items ≡ result.0 ∷ result.1 ∷ [] }
-{
-    let first = items.remove(0);
-    let second = items.remove(0);
-    items.destroy_empty();
-    (first, second)
 }
 
 // The floor, and the parts of the two workers.
 fn parts_of<N: PhaseName, K: Kind>(
     begun: (Floor<N, K>, Vec<Permit<N, K>>),
     clients: (Client, Client),
-) -> (Floor<N, K>, Part<N, K>, Part<N, K>)
+) -> (Floor<N, K>, (Part<N, K>, Part<N, K>))
     requires two { length begun.0.counters ≡ 2 }
     requires receipts { AreReceiptsOf begun.0 begun.1.items }
     ensures floor { result.0 ≡ begun.0 }
-    ensures workers { (result.1.worker ≡ 0) × (result.2.worker ≡ 1) }
-    ensures first { IsReceipt result.0 result.1.worker result.1.permit }
-    ensures second { IsReceipt result.0 result.2.worker result.2.permit }
+    ensures first { IsReceipt result.0 0 result.1.0.permit }
+    ensures second { IsReceipt result.0 1 result.1.1.permit }
 {
     let (floor, permits) = begun;
-    let (one, other) = both(permits);
-    let (first, second) = clients;
-    let one = Part {
-        worker: 0,
-        permit: one,
-        client: first,
-    };
-    let other = Part {
-        worker: 1,
-        permit: other,
-        client: second,
-    };
-    (floor, one, other)
+    let [first, second] = <[Permit<N, K>; 2]>::try_from(permits).unwrap();
+    let parts = (
+        Part {
+            permit: first,
+            client: clients.0,
+        },
+        Part {
+            permit: second,
+            client: clients.1,
+        },
+    );
+    (floor, parts)
 }
 
-// Has each worker perform on its thread.
+// Has each worker perform on its thread: their receipts, and their clients unless an error stopped
+// one of them.
 fn work_both<N, K, R>(
     rt: &R,
     floor: &Floor<N, K>,
-    one: Part<N, K>,
-    other: Part<N, K>,
-) -> (Worked<N, K>, Worked<N, K>)
+    parts: (Part<N, K>, Part<N, K>),
+) -> ((Receipt<N, K>, Receipt<N, K>), Result<(Client, Client)>)
 where
     N: PhaseName + Send + Sync,
     K: Work + Send + Sync,
     R: Threads + Wait + Sync,
-    requires first { IsReceipt floor.now one.worker one.permit }
-    requires second { IsReceipt floor.now other.worker other.permit }
-    ensures first { IsReceipt floor.now one.worker result.0.0 }
-    ensures second { IsReceipt floor.now other.worker result.1.0 }
+    requires first { IsReceipt floor.now 0 parts.0.permit }
+    requires second { IsReceipt floor.now 1 parts.1.permit }
+    ensures first { IsReceipt floor.now 0 result.0.0 }
+    ensures second { IsReceipt floor.now 1 result.0.1 }
 {
-    thread::join(rt, || one.work(rt, floor), || other.work(rt, floor))
+    let (first, second) = parts;
+    let (one, other) = thread::join(rt, || first.work(rt, floor), || second.work(rt, floor));
+    ((one.0, other.0), both(one.1, other.1))
 }
 
-// Both clients, unless a fault stopped a worker.
-fn both_of(
-    first: Result<Client, PermitFault>,
-    second: Result<Client, PermitFault>,
-) -> Result<(Client, Client), PermitFault> {
+// Both clients, unless an error stopped a worker.
+fn both(first: Result<Client>, second: Result<Client>) -> Result<(Client, Client)> {
     Ok((first?, second?))
 }
 
@@ -176,7 +193,7 @@ fn close<N: PhaseName, K: Kind>(
     floor: Floor<N, K>,
     mut history: History,
     receipts: (Receipt<N, K>, Receipt<N, K>),
-) -> anyhow::Result<(Joined, Vec<Stash>, History)>
+) -> Result<(Joined, Vec<Stash>, History)>
     requires two { length floor.counters ≡ 2 }
     requires first { IsReceipt floor 0 receipts.0 }
     requires second { IsReceipt floor 1 receipts.1 }
@@ -196,7 +213,7 @@ pub fn perform_begun<N, K, R>(
     begun: (Floor<N, K>, Vec<Permit<N, K>>),
     history: History,
     clients: (Client, Client),
-) -> anyhow::Result<Auction>
+) -> Result<Auction>
 where
     N: PhaseName + Send + Sync,
     K: Work + Send + Sync,
@@ -206,10 +223,9 @@ where
     ensures two { IfOk result IsOfTwo }
     ensures phase { IfOk result (λ next. next.state.phase ≡ begun.0.phase + 1) }
 {
-    let (floor, one, other) = parts_of(begun, clients);
-    let ((one, first), (other, second)) = work_both(rt, &floor, one, other);
-    let clients = both_of(first, second);
-    let (state, stashes, history) = close(alloc, floor, history, (one, other))?;
+    let (floor, parts) = parts_of(begun, clients);
+    let (receipts, clients) = work_both(rt, &floor, parts);
+    let (state, stashes, history) = close(alloc, floor, history, receipts)?;
     let (first, second) = clients?;
     Ok(Auction {
         state,
