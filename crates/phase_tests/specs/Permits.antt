@@ -4,7 +4,8 @@ use Rattle.shard_boxes.specs.{Keys.{BoxId, KeyState}, States.{ShardState}}
 use Rattle.phase_transactions.specs.{Performing.{HaveOpening}, Workers.{WorkerState, IsIdle}}
 
 -- a permit for these boxes, whose shards are of an auction with its users and categories
-pub record IsPermitFor (initial : List ShardState) (boxes : List BoxId) (permit : WorkerState) : Type 0 where
+pub record IsPermitFor (initial : List ShardState) (boxes : List BoxId)
+    (permit : WorkerState) : Type 0 where
   pub of : permit.key.boxes ≡ boxes
   pub users : HaveOpening initial permit.opening
 

@@ -1,5 +1,5 @@
-//! Of `phase_workers`: what the workers of a phase answer where one meets the end of commit numbers,
-//! which no run is long enough for.
+//! Of `phase_workers`: what the workers of a phase answer where one meets the end of commit
+//! numbers, which no run is long enough for.
 ghost use Rattle.std.specs.Prelude.{◌≡◌, ◌∷◌, []};
 ghost use Rattle.phase_workers.specs.{Tasks.{task, CanBeDone}, Working.{IsPermitOf}};
 ghost use Rattle.phase_tests.specs.NewShards.{BeginsWith};

@@ -1,5 +1,5 @@
-//! Of `auction_rows`: what requests of each kind touch and write, where objects lie, and why requests
-//! are refused.
+//! Of `auction_rows`: what requests of each kind touch and write, where objects lie, and why
+//! requests are refused.
 use auction_rows::{
     Facts, ItemId, Object, Refusal, Request, Stars, is_splittable, is_view, item_refusal,
     number_refusal, shard_of, touches, writes,

@@ -26,8 +26,7 @@ pub(crate) fn joined_permit<N: PhaseName>(
     requires unused { IsUnused key }
     requires few { length stash.requests + quota ≤ 3 }
     ensures key { IfOk result (λ permit. permit.key ≡ key) }
-    ensures users { IfOk result (λ permit.
-        permit.opening ≡ record { users = 10; categories = 2 }) }
+    ensures users { IfOk result (λ permit. permit.opening ≡ OPENING) }
     ensures stash { IfOk result (λ permit. permit.stash ≡ stash) }
     ensures left { IfOk result (λ permit. permit.left ≡ quota) }
     ensures tries { IfOk result (λ permit. permit.tries ≡ 0) }

@@ -23,7 +23,7 @@ pub(crate) fn split_permit<N: PhaseName>(
     requires worker { key.worker ≡ 0 }
     requires unused { IsUnused key }
     ensures key { result.key ≡ key }
-    ensures users { result.opening ≡ record { users = 10; categories = 2 } }
+    ensures users { result.opening ≡ OPENING }
 {
     let item = (Object::Item(FIRST), Some((vases(10, 1), 1)));
     let hot = [item, (Object::User(3), None)];

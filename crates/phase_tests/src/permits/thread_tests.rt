@@ -15,7 +15,7 @@ use std::process::Abort;
 use std::sync::Wait;
 use std::thread;
 use std::thread::Threads;
-use test_values::{LOOK, UNRATED};
+use test_values::{LOOK, OPENING, UNRATED};
 use worker_journals::Journal;
 
 // A worker views a user of the first shard twice: its journal and its key.
@@ -27,7 +27,7 @@ fn views<N: PhaseName, R: Wait + Abort>(
 ) -> (Journal, Key<N>)
     requires of { key.boxes ≡ boxes.now }
     requires unused { IsUnused key }
-    requires users { HaveOpening N.initial (record { users = 10; categories = 2 }) }
+    requires users { HaveOpening N.initial OPENING }
     ensures of { result.1.boxes ≡ boxes.now }
     ensures worker { result.1.worker ≡ key.worker }
     ensures idle { IsIdle result.1 }

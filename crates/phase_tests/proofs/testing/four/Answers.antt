@@ -2,6 +2,7 @@ use Rattle.std.proofs.Common.{◌≡◌, length, map, ap, ◌∙◌, arith}
 use Rattle.std.proofs.lemmas.List.{length-map, map_push}
 use Rattle.shard_boxes.proofs.{Each.{each_push}, StateLemmas.{new_is_opened}}
 use Rattle.shard_boxes.specs.States.{ShardState, state_of, no_shard, IsInitial}
+use Rattle.test_values.specs.declared.requests.TheConstants.{OPENING}
 use Rattle.phase_tests.proofs.testing.four.Goals as goal
 
 pub loop-number-preserved : goal.loop-number-preserved
@@ -14,6 +15,6 @@ loop-number-preserved c =
       omega (arith, was.0, p.len),
       each_push (λ s state. IsInitial 4 s state) (map state_of before.items) (map state_of c.push.new.self.items) (state_of shard) no_shard c.loop-number.number many grown was.1
           (new_is_opened c.loop-number.number 4 _ shard c.in_ok-new.ensures),
-      each_push (λ s (state : ShardState). state.opening ≡ record { users = 10; categories = 2 }) (map state_of before.items) (map state_of c.push.new.self.items) (state_of shard) no_shard c.loop-number.number many grown was.2
+      each_push (λ s (state : ShardState). state.opening ≡ OPENING) (map state_of before.items) (map state_of c.push.new.self.items) (state_of shard) no_shard c.loop-number.number many grown was.2
           c.in_ok-new.ensures.opening_is,
     )
