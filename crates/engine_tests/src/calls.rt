@@ -133,8 +133,7 @@ fn publish<J: WindowName, R: Wait + Print>(
     rows: &[Row],
 ) -> Result<Option<Reply>, Fail>
     requires rows { CanFollow J.opening (book_of J.rows publisher.old.phases) rows.now }
-    ensures { IfOk result (λ _. publisher.new
-        ≡ record { phases = publisher.old.phases ++ rows.now ∷ []; failed = false }) }
+    ensures { IfOk result (λ _. publisher.new ≡ record { phases = publisher.old.phases ++ rows.now ∷ []; failed = false }) }
 {
     let own = Vec::from_slice(alloc, rows)?;
     let again = Vec::from_slice(alloc, rows)?;

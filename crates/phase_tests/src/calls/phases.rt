@@ -1,8 +1,7 @@
 //! A joined phase of one worker, in whose stash a view waits, and a split phase in which the vases
 //! are hot.
-ghost use Rattle.std.specs.Prelude.{◌≡◌, ◌+◌, ◌<◌, ◌∷◌, [], length, map, vec_len, IfOk};
-ghost use Rattle.phase_floor.specs.Begins.{CanBegin, empty_stash};
-ghost use Rattle.phase_floor.specs.{Closings.{IsReceipt}, Floors.{AreBegun}};
+ghost use Rattle.std.specs.Prelude.{◌≡◌, ◌+◌, ◌<◌, ◌∷◌, [], ℕ, length, vec_len, IfErr, IfOk, ⊤};
+ghost use Rattle.phase_floor.specs.{Begins.{CanBegin}, Closings.{AreReceiptsOf, IsReceipt}};
 
 use crate::calls::printing::{
     kind_name, look_for_memory, print_answer, print_count, print_waiting,
@@ -10,7 +9,7 @@ use crate::calls::printing::{
 use crate::testing::waiting;
 use auction_rows::{MOST_TRIES, Object, Reply, Request};
 use indexmap::IndexSet;
-use phase_floor::{Floor, Joined, JoinedFloor, SplitFloor};
+use phase_floor::{BeginFault, Floor, Joined, JoinedFloor, SplitFloor};
 use phase_permits::{
     Done, JoinedPermit, JoinedPhase, Kind, Permit, PermitFault, SplitPermit, SplitPhase, Stash,
 };
@@ -26,9 +25,29 @@ use worker_journals::History;
 // A phase that has begun, and the permits of its workers.
 type Begun<N, K> = (Floor<N, K>, Vec<Permit<N, K>>);
 
-// A kind of phase, with what its permits answer.
+// A kind of phase: what it begins with beside the state, and what its permits answer.
 trait Performs: Kind {
+    type Given: Drop;
+
     type Answer: Debug + Drop;
+
+    // What is given is for so many workers.
+    ghost suits: { ℕ → Self.Given → Type 0 };
+
+    // Begins a phase in which each worker has a quota of eight. If it does not begin, the state and
+    // what was given come back.
+    fn begin<N: PhaseName>(
+        alloc: Global,
+        state: Joined,
+        given: Self::Given,
+    ) -> Result<Begun<N, Self>, (Joined, Self::Given, BeginFault)>
+        requires can { CanBegin N.initial N.workers state (8 ∷ []) }
+        requires suits { suits N.workers given }
+        ensures workers { IfOk result (λ begun. length begun.0.counters ≡ 1) }
+        ensures phase { IfOk result (λ begun. begun.0.phase ≡ state.phase) }
+        ensures receipts { IfOk result (λ begun. AreReceiptsOf begun.0 begun.1.items) }
+        ensures state { IfErr result (λ refused. refused.0 ≡ state) }
+        ensures given { IfErr result (λ refused. refused.1 ≡ given) };
 
     // Performs a request of the quota.
     fn perform<N: PhaseName, R: Wait>(
@@ -45,7 +64,22 @@ trait Performs: Kind {
 }
 
 impl Performs for JoinedPhase {
+    type Given = Vec<Stash>;
+
     type Answer = Reply;
+
+    ghost suits = { λ workers stashes. vec_len stashes ≡ workers };
+
+    fn begin<N: PhaseName>(
+        alloc: Global,
+        state: Joined,
+        stashes: Vec<Stash>,
+    ) -> Result<Begun<N, JoinedPhase>, (Joined, Vec<Stash>, BeginFault)> {
+        match state.begin_joined::<N>(alloc, &[8], stashes) {
+            Ok(begun) => Ok(begun),
+            Err(refused) => Err(refused),
+        }
+    }
 
     fn perform<N: PhaseName, R: Wait>(
         rt: &R,
@@ -59,7 +93,22 @@ impl Performs for JoinedPhase {
 }
 
 impl Performs for SplitPhase {
+    type Given = IndexSet<Object>;
+
     type Answer = Done;
+
+    ghost suits = { λ _ _. ⊤ };
+
+    fn begin<N: PhaseName>(
+        alloc: Global,
+        state: Joined,
+        hot: IndexSet<Object>,
+    ) -> Result<Begun<N, SplitPhase>, (Joined, IndexSet<Object>, BeginFault)> {
+        match state.begin_split::<N>(alloc, &[8], &hot) {
+            Ok(begun) => Ok(begun),
+            Err((state, fault)) => Err((state, hot, fault)),
+        }
+    }
 
     fn perform<N: PhaseName, R: Wait>(
         rt: &R,
@@ -69,6 +118,32 @@ impl Performs for SplitPhase {
         index: u32,
     ) -> Result<Done, PermitFault> {
         permit.perform(rt, floor.boxes(), request, index)
+    }
+}
+
+// Begins a phase; where memory is refused, once more on what came back.
+fn begin<N: PhaseName, K: Performs, R: Print>(
+    rt: &R,
+    alloc: Global,
+    state: Joined,
+    given: K::Given,
+) -> Result<Begun<N, K>, Fail>
+    requires can { CanBegin N.initial N.workers state (8 ∷ []) }
+    requires suits { K.suits N.workers given }
+    ensures workers { IfOk result (λ begun. length begun.0.counters ≡ 1) }
+    ensures phase { IfOk result (λ begun. begun.0.phase ≡ state.phase) }
+    ensures receipts { IfOk result (λ begun. AreReceiptsOf begun.0 begun.1.items) }
+{
+    let kind = kind_name::<K>();
+    match K::begin::<N>(alloc, state, given) {
+        Ok(begun) => Ok(begun),
+        Err((state, given, fault)) => {
+            let _ = println!(rt; "{kind} begin: {fault}");
+            match K::begin::<N>(alloc, state, given) {
+                Ok(begun) => Ok(begun),
+                Err((_state, _given, fault)) => Err(Fail::new(fault)),
+            }
+        }
     }
 }
 
@@ -156,57 +231,6 @@ fn close<N: PhaseName, K: Kind, R: Print>(
     }
 }
 
-// Begins a joined phase; where memory is refused, once more on the state and the stashes that came
-// back.
-fn begin_joined<N: PhaseName, R: Print>(
-    rt: &R,
-    alloc: Global,
-    state: Joined,
-    stashes: Vec<Stash>,
-) -> Result<Begun<N, JoinedPhase>, Fail>
-    requires can { CanBegin N.initial N.workers state (8 ∷ []) }
-    requires stashes { vec_len stashes ≡ N.workers }
-    ensures workers { IfOk result (λ begun. length begun.0.counters ≡ 1) }
-    ensures phase { IfOk result (λ begun. begun.0.phase ≡ state.phase) }
-    ensures permits { IfOk result (λ begun.
-        AreBegun begun.0 (8 ∷ []) stashes.items begun.1.items) }
-{
-    match state.begin_joined::<N>(alloc, &[8], stashes) {
-        Ok(begun) => Ok(begun),
-        Err((state, stashes, fault)) => {
-            let _ = println!(rt; "joined begin: {fault}");
-            match state.begin_joined::<N>(alloc, &[8], stashes) {
-                Ok(begun) => Ok(begun),
-                Err((_state, _stashes, fault)) => Err(Fail::new(fault)),
-            }
-        }
-    }
-}
-
-// Begins a split phase; where memory is refused, once more on the state that came back.
-fn begin_split<N: PhaseName, R: Print>(
-    rt: &R,
-    alloc: Global,
-    state: Joined,
-    hot: &IndexSet<Object>,
-) -> Result<Begun<N, SplitPhase>, Fail>
-    requires { CanBegin N.initial N.workers state (8 ∷ []) }
-    ensures workers { IfOk result (λ begun. length begun.0.counters ≡ 1) }
-    ensures permits { IfOk result (λ begun.
-        AreBegun begun.0 (8 ∷ []) (map empty_stash (8 ∷ [])) begun.1.items) }
-{
-    match state.begin_split::<N>(alloc, &[8], hot) {
-        Ok(begun) => Ok(begun),
-        Err((state, fault)) => {
-            let _ = println!(rt; "split begin: {fault}");
-            match state.begin_split::<N>(alloc, &[8], hot) {
-                Ok(begun) => Ok(begun),
-                Err((_state, fault)) => Err(Fail::new(fault)),
-            }
-        }
-    }
-}
-
 // A joined phase: what waits, a view of an unknown user between two looks for memory, a store, and
 // a bid.
 fn joined_phase<N: PhaseName, R: Wait + Print>(
@@ -221,14 +245,24 @@ fn joined_phase<N: PhaseName, R: Wait + Print>(
     ensures workers { IfOk result (λ after. length after.counters ≡ 1) }
     ensures phase { IfOk result (λ after. after.phase ≡ state.phase + 1) }
 {
-    let (floor, permits) = begin_joined::<N, R>(rt, alloc, state, stashes)?;
+    let (floor, permits) = begin::<N, JoinedPhase, R>(rt, alloc, state, stashes)?;
     print_count(rt, "joined begin", permits.len(), " permit");
     let mut permit = only(permits);
     perform_first(rt, &floor, &mut permit);
     look_for_memory(rt, alloc);
-    perform_each(rt, &floor, &mut permit, &[(1, Request::ViewUser { user: 10 })]);
+    perform_each(
+        rt,
+        &floor,
+        &mut permit,
+        &[(1, Request::ViewUser { user: 10 })],
+    );
     look_for_memory(rt, alloc);
-    perform_each(rt, &floor, &mut permit, &[(2, put_up(vases(10, 2))), (3, bid(1, 20, 5))]);
+    perform_each(
+        rt,
+        &floor,
+        &mut permit,
+        &[(2, put_up(vases(10, 2))), (3, bid(1, 20, 5))],
+    );
     close(rt, alloc, floor, permit, history)
 }
 
@@ -237,12 +271,12 @@ fn split_phase<N: PhaseName, R: Wait + Print>(
     rt: &R,
     alloc: Global,
     state: Joined,
-    hot: &IndexSet<Object>,
+    hot: IndexSet<Object>,
     history: &mut History,
 ) -> Result<Joined, Fail>
     requires { CanBegin N.initial N.workers state (8 ∷ []) }
 {
-    let (floor, permits) = begin_split::<N, R>(rt, alloc, state, hot)?;
+    let (floor, permits) = begin::<N, SplitPhase, R>(rt, alloc, state, hot)?;
     print_count(rt, "split begin", permits.len(), " permit");
     let mut permit = only(permits);
     let calls = [(4, bid(2, 30, 5)), (5, VIEW), (6, put_up(vases(10, 2)))];
@@ -271,7 +305,7 @@ pub(crate) fn phases_by_hand<R: Wait + Print>(
     let _ = println!(rt; "phases ready: a state, a stash and a hot item");
     let state = joined_phase::<Brand, R>(rt, alloc, state, stashes, history)?;
     print_view(rt, state.phase(), state.view(&VIEW));
-    let state = split_phase::<Brand, R>(rt, alloc, state, &hot, history)?;
+    let state = split_phase::<Brand, R>(rt, alloc, state, hot, history)?;
     print_view(rt, state.phase(), state.view(&VIEW));
     Ok(state)
 }
