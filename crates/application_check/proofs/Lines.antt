@@ -5,18 +5,18 @@ use Rattle.std.proofs.lemmas.Bool.{eq-eqb, eqb-false, ne_eqb, or_right, and_from
 use Rattle.std.proofs.lemmas.{List.Sums.{fold-append}, Option.{none-some, same_Some}}
 use Rattle.std.specs.{List.{AllByRecursion}, Option.{option_map}, Prelude.{slice_get, ◌&&◌, ◌||◌}}
 use Rattle.split_engine.specs.{Rules.{Rules}, Serving.{request_at}}
-use Rattle.application_check.specs.Checking.{has_line, IsRightLine, after_line, after_lines, lines_replay}
+use Rattle.application_check.specs.Checking.{has_line, IsRightLine, after_line, after_lines, LinesReplay}
 use Rattle.application_check.specs.{declared.referee.Line.{Line}, inner.Marking.{no_marks, AreMarks}}
 use Rattle.phase_laws.proofs.ListLemmas.{all_at}
 
 -- ---- requests
 
 -- what holds of all requests of scripts holds of one of them
-pub in_scripts : {Q : Type 0} (P : Q → Type 0) (L : List Q → Type 0) (scripts : List (List Q)) (w i : ℕ) (q : Q) →
-    AllByRecursion (λ script. AllByRecursion P script × L script) scripts → request_at scripts w i ≡ Some q → P q
-in_scripts P L [] w i q h at = absurd (none-some q at)
-in_scripts P L (s ∷ ss) zero i q h at = all_at P s i q h.0.0 at
-in_scripts P L (s ∷ ss) (suc w) i q h at = in_scripts P L ss w i q h.1 at
+pub in_scripts : {Q : Type 0} (P : Q → Type 0) (scripts : List (List Q)) (w i : ℕ) (q : Q) →
+    AllByRecursion (AllByRecursion P) scripts → request_at scripts w i ≡ Some q → P q
+in_scripts P [] w i q h at = absurd (none-some q at)
+in_scripts P (s ∷ ss) zero i q h at = all_at P s i q h.0 at
+in_scripts P (s ∷ ss) (suc w) i q h at = in_scripts P ss w i q h.1 at
 
 -- ---- marks
 
@@ -126,8 +126,8 @@ module _ {Q R : Type 0} (scripts : List (List Q)) (before : List (Line R)) (old 
   marks_more w i = more_if w i (w == line.worker) (i == line.index) refl refl
 
 module _ {Record Slice Look Request Reply Act : Type 0} (rules : Rules Record Slice Look Request Reply Act) (scripts : List (List Request)) where
-  pub lines_push : (before : List (Line Reply)) (t : List Record) (lines : List (Line Reply)) (line : Line Reply) → lines_replay rules scripts before t lines →
-      IsRightLine rules scripts (before ++ lines) (after_lines rules scripts t lines) line → lines_replay rules scripts before t (lines ++ line ∷ [])
+  pub lines_push : (before : List (Line Reply)) (t : List Record) (lines : List (Line Reply)) (line : Line Reply) → LinesReplay rules scripts before t lines →
+      IsRightLine rules scripts (before ++ lines) (after_lines rules scripts t lines) line → LinesReplay rules scripts before t (lines ++ line ∷ [])
   lines_push before t [] line h right = (subst (λ b. IsRightLine rules scripts b t line) (append-nil before) right, tt)
   lines_push before t (l ∷ lines) line h right = (
     h.0,

@@ -36,25 +36,25 @@ module _ {Record Slice Look Request Reply Act : Type 0}
   after_lines = fold after_line
 
   -- lines replay after others that leave this table: each is right after all before it
-  abbrev pub lines_replay : List (Line Reply) → List Record → List (Line Reply) → Type 0
-  lines_replay before table [] = ⊤
-  lines_replay before table (line ∷ lines) =
+  abbrev pub LinesReplay : List (Line Reply) → List Record → List (Line Reply) → Type 0
+  LinesReplay before table [] = ⊤
+  LinesReplay before table (line ∷ lines) =
       IsRightLine before table line
-      × lines_replay (before ++ line ∷ []) (after_line table line) lines
+      × LinesReplay (before ++ line ∷ []) (after_line table line) lines
 
   -- Lines are a history of the scripts: they replay, and each request has one.
   pub record IsHistory (table : List Record) (lines : List (Line Reply)) : Type 0 where
-    pub replays : lines_replay [] table lines
+    pub replays : LinesReplay [] table lines
     pub none_lacks : (worker index : ℕ) (q : Request) → request_at scripts worker index ≡ Some q →
         has_line lines worker index ≡ true
 
-  -- why lines are no history: the line at a place is the first that is not right; all are right, and
-  -- no line has a request; or no memory was left to judge them
+  -- why lines are no history: the line at a place is the first that is not right; all are right,
+  -- and no line has a request; or no memory was left to judge them
   abbrev pub IsHistoryFault : List Record → List (Line Reply) → HistoryFault → Type 0
-  IsHistoryFault table lines (Wrong place) = lines_replay [] table (take place lines)
+  IsHistoryFault table lines (Wrong place) = LinesReplay [] table (take place lines)
       × (line : Line Reply) × (slice_get lines place ≡ Some line)
       × (IsRightLine (take place lines) (after_lines table (take place lines)) line → ⊥)
-  IsHistoryFault table lines (Lacking worker index) = lines_replay [] table lines
+  IsHistoryFault table lines (Lacking worker index) = LinesReplay [] table lines
       × (q : Request) × (request_at scripts worker index ≡ Some q)
       × (has_line lines worker index ≡ false)
   IsHistoryFault table lines Memory = ⊤

@@ -1,7 +1,7 @@
 //! The referee: judges a history of an application on one thread.
 ghost use Rattle.std.specs.{Bool.{OnTrue}, List.{AllByRecursion}};
 ghost use Rattle.std.specs.Prelude.{◌≡◌, ◌↔◌, ℕ, Some, None, MatchOption, ◌+◌, ◌*◌, ◌<◌, ◌≤◌, ◌++◌, ◌∷◌, [], List, length, IfOk, IfErr, IsTrue};
-ghost use Rattle.split_engine.specs.{Rules.{most_acts}, Serving.{lists, request_at, IsScript}};
+ghost use Rattle.split_engine.specs.{Rules.{most_acts}, Serial.{IsWithin}, Serving.{lists, request_at}};
 ghost use Rattle.application_check.specs.Checking.{IsRightLine, after_line, after_lines, IsHistory, IsHistoryFault};
 ghost use Rattle.application_check.specs.inner.Marking.{AreMarks};
 ghost use Rattle.application_check.specs.declared.referee.Line.{Line as LineValue};
@@ -72,7 +72,7 @@ fn check_line<A: Checkable>(
     scripts: &[Vec<A::Request>],
     line: &Line<A::Reply>,
 ) -> bool
-    requires scripts { AllByRecursion (IsScript A.rules (length table.old.items))
+    requires scripts { AllByRecursion (AllByRecursion (IsWithin A.rules (length table.old.items)))
         (lists scripts.now) }
     requires marks { (before : List (LineValue A.Reply))
         × AreMarks (lists scripts.now) before (lists marks.old.items) }
@@ -101,14 +101,17 @@ fn check_line<A: Checkable>(
 }
 
 /// Judges a history that is given as lines. They are one if they replay from this table, which is
-/// then the one after them, and if each request of each script has just one line.
+/// then the one after them, and if each request of each script has just one line. After an error
+/// no clause says what the table holds.
+///
+/// `check_scripts` is a test of `scripts`.
 pub fn check_history<A: Checkable>(
     alloc: Global,
     table: &mut Vec<A::Record>,
     scripts: &[Vec<A::Request>],
     lines: &[Line<A::Reply>],
 ) -> Result<(), HistoryFault>
-    requires scripts { AllByRecursion (IsScript A.rules (length table.old.items))
+    requires scripts { AllByRecursion (AllByRecursion (IsWithin A.rules (length table.old.items)))
         (lists scripts.now) }
     requires fits { (n : ℕ) × (n + MOST_KEYS * length lines.now < most_acts)
         × AllByRecursion (A.fits n) table.old.items }

@@ -1,6 +1,7 @@
 //! The draws of a load: the same on every machine.
 ghost use Rattle.std.specs.Prelude.{◌≡◌, ◌<◌, ◌%◌};
 ghost use Rattle.rand_xoshiro.specs.SplitMix64.{next_state};
+ghost use Rattle.zipf_draws.specs.{Ranks.{IsRankAt}, Shares.{shares_below}};
 ghost use Rattle.application_loads.specs.Drawn.{drawn};
 
 use rand_core::SeedableRng;
@@ -43,11 +44,14 @@ impl Draws {
         (self.rng.next_word() % u64::from(end)) as u32
     }
 
-    /// A rank, by its popularity. It takes one draw, as each number does.
+    /// A rank, by its popularity: the one whose share the next draw is in, modulo all shares.
     pub fn rank(&mut self, popularity: &Popularity) -> u32
         ensures below { result < popularity.now.count }
+        ensures share { IsRankAt popularity.now.skew
+            (drawn self.old % shares_below popularity.now.skew popularity.now.count) result }
         ensures next { self.new ≡ next_state self.old }
     {
-        popularity.rank_of(self.rng.next_word())
+        let number = self.rng.next_word();
+        popularity.rank_of(number)
     }
 }

@@ -7,7 +7,7 @@ use crate::plan::{load_options, load_plan, tell_usage};
 use crate::timing::{TablePlan, print_spent, time_run};
 use anyhow::Result;
 use program_options::parse_words;
-use split_engine::Application;
+use split_engine::Threaded;
 use std::alloc::Global;
 use std::process::ExitCode;
 use std::rt::Clock;
@@ -22,15 +22,10 @@ use std::thread::Threads;
 /// which the table does not have.
 pub fn measure<A, L, R>(rt: &R, opening: A::Record, words: &[String]) -> Result<ExitCode>
 where
-    A: Application + Send + Sync,
+    A: Threaded,
     L: Load<Record = A::Record, Request = A::Request>,
     R: Threads + Wait + Sync + Clock + Print + Eprint + Alloc<A = Global>,
-    A::Record: Copy + Send + Sync,
-    A::Slice: Send,
-    A::Look: Send,
-    A::Request: Send + Sync,
-    A::Reply: Send,
-    A::Act: Send,
+    A::Record: Copy,
     requires fits { A.fits 1 opening }
     ensures { IfOk result (λ status. exit_status status ≤ 1) }
 {

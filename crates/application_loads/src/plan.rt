@@ -12,25 +12,35 @@ use std::alloc::{AllocError, Global};
 use std::io;
 use std::process::ExitCode;
 
+const MOST_WORKERS: u32 = 64;
+
+// Of all workers together.
+const MOST_REQUESTS: u32 = 16_000_000;
+
+// In hundredths.
+const MOST_SKEW: u32 = 200;
+
+const MOST_SHARE: u32 = 100;
+
 const WORKERS: NumberRange = NumberRange {
     least: 1,
-    greatest: 64,
+    greatest: MOST_WORKERS,
 };
 
 const REQUESTS: NumberRange = NumberRange {
     least: 0,
-    greatest: 16_000_000,
+    greatest: MOST_REQUESTS,
 };
 
 const SKEWS: NumberRange = NumberRange {
     least: 0,
-    greatest: 200,
+    greatest: MOST_SKEW,
 };
 
 /// The numbers that a percentage takes.
 pub const SHARES: NumberRange = NumberRange {
     least: 0,
-    greatest: 100,
+    greatest: MOST_SHARE,
 };
 
 /// What a load is made of, and how it is run.
@@ -80,10 +90,10 @@ pub(crate) fn tell_usage<R: Eprint>(rt: &R, fault: &UsageFault) -> io::Result<Ex
 /// What these options say.
 pub(crate) fn load_plan(matches: &ArgMatches<'_>) -> LoadPlan
     ensures said { SayPlan (one_text (found_of matches.now)) result }
-    ensures workers { (1 ≤ result.workers) × (result.workers ≤ 64) }
-    ensures requests { result.workers * result.each ≤ 16000000 }
-    ensures skew { result.skew ≤ 200 }
-    ensures views { result.views ≤ 100 }
+    ensures workers { (1 ≤ result.workers) × (result.workers ≤ MOST_WORKERS) }
+    ensures requests { result.workers * result.each ≤ MOST_REQUESTS }
+    ensures skew { result.skew ≤ MOST_SKEW }
+    ensures views { result.views ≤ MOST_SHARE }
     ensures joined { 1 ≤ result.policy.joined_quota }
 {
     let workers = number_of(matches, "workers", WORKERS);

@@ -7,8 +7,8 @@ ghost use Rattle.application_log.specs.{Faults.{IsOpenFault}, Lines.{HasNoEnd}};
 ghost use Rattle.application_log.specs.Logs.{HasOpened, Opens, log_text};
 
 use crate::loggable::{Loggable, MOST_LINES};
-use crate::reading::{is_within, read_whole_line, request_of};
-use split_engine::{Application, MOST_KEYS, perform};
+use crate::reading::{read_whole_line, request_of};
+use split_engine::{Application, MOST_KEYS, is_within, perform};
 use std::alloc::{AllocError, Global};
 use std::io;
 use std::io::BufRead;

@@ -1,12 +1,10 @@
 //! How a log is read: line by line, each as the request whose line it is.
-ghost use Rattle.std.specs.Prelude.{◌≡◌, ◌↔◌, ◌++◌, ◌∷◌, List, ℕ, true, false, Some, IfErr, IfOk, IfSome, IsTrue};
+ghost use Rattle.std.specs.Prelude.{◌≡◌, ◌++◌, ◌∷◌, List, ℕ, true, false, Some, IfErr, IfOk, IfSome};
 ghost use Rattle.std.specs.declared.io.Error.{Error as IoError};
-ghost use Rattle.split_engine.specs.Serial.{IsWithin};
 ghost use Rattle.application_log.specs.Lines.{HasNoEnd};
 
 use crate::loggable::Loggable;
 use crate::opening::OpenFault;
-use split_engine::are_within;
 use std::alloc::AllocError;
 use std::io::BufRead;
 
@@ -55,12 +53,4 @@ pub(crate) fn request_of<A: Loggable>(
         return Ok(None);
     }
     Ok(Some(request))
-}
-
-/// Whether a request names keys of a table of so many records.
-pub(crate) fn is_within<A: Loggable>(request: &A::Request, records: usize) -> bool
-    ensures { IsTrue result ↔ IsWithin A.rules records request.now }
-{
-    let keys = A::keys(request);
-    are_within(&keys, records)
 }

@@ -1,15 +1,15 @@
 //! What publishes the parts of a history.
 ghost use Rattle.std.specs.List.{AllByRecursion};
-ghost use Rattle.std.specs.Prelude.{◌≡◌, ◌++◌, ◌∷◌, ◌-◌, ◌<◌, ◌≤◌, [], true, false, length, All, Err, IfOk, OnOk, IfErr, OnErr};
+ghost use Rattle.std.specs.Prelude.{◌≡◌, ◌↔◌, ◌++◌, ◌∷◌, ◌-◌, ◌<◌, ◌≤◌, [], true, false, length, All, Err, IfOk, OnOk, IfErr, OnErr, IsTrue};
 ghost use Rattle.application_window.specs.Published.{room_after, with_part, with_failure, AreWithin, IsRefused};
 ghost use Rattle.application_window.specs.declared.publisher.PublishFault.TheVariants.{Memory};
 ghost use Rattle.published_parts.specs.Parts.{AreComparable};
 
 use crate::parts::{PartCount, PartLog, Prefix, WindowName};
-use crate::table_copy::{AddPart, MOST_ACTS, TableCopy, is_within};
+use crate::table_copy::{AddPart, MOST_ACTS, TableCopy};
 use crate::window::{Told, Window};
 use published_parts::{CopyWriter, MakeFault};
-use split_engine::{Application, Entry, MOST_KEYS};
+use split_engine::{Application, Entry, MOST_KEYS, is_within};
 use std::alloc::{AllocError, Global};
 use std::marker::Model;
 use std::sync::Wait;
@@ -95,7 +95,10 @@ impl<A: Application, J: WindowName<A::Record>> Publisher<A, J> {
         match copies.windows(
             alloc,
             windows,
-            |reader| Window::new(reader, records, &parts),
+            |reader|
+                requires { records ≡ length J.opened }
+                ensures { result ≡ parts }
+            { Window::new(reader, records, &parts) },
         ) {
             Ok(made) => {
                 let publisher = Publisher {
@@ -215,11 +218,10 @@ impl<A: Application, J: WindowName<A::Record>> Publisher<A, J> {
 
 // Whether the commits of a part name keys of a table of so many records alone.
 fn are_within<A: Application>(part: &[Entry<A::Request, A::Reply>], records: usize) -> bool
-    ensures yes { result ≡ true → AreWithin A.rules records part.now }
-    ensures no { result ≡ false → AreWithin A.rules records part.now → ⊥ }
+    ensures { IsTrue result ↔ AreWithin A.rules records part.now }
 {
-    for place in 0..part.len() {
-        if !is_within::<A>(&part[place].request, records) {
+    for commit in part {
+        if !is_within::<A>(&commit.request, records) {
             return false;
         }
     }

@@ -1,10 +1,10 @@
 //! The table that windows read, of which there are two copies, and how a copy takes in one part
 //! more.
 ghost use Rattle.std.specs.List.{AllByRecursion};
-ghost use Rattle.std.specs.Prelude.{◌≡◌, ℕ, ◌++◌, ◌∷◌, ◌+◌, ◌*◌, ◌<◌, ◌≤◌, [], List, true, false, length, IfSome};
+ghost use Rattle.std.specs.Prelude.{◌≡◌, ℕ, ◌++◌, ◌∷◌, ◌+◌, ◌*◌, ◌<◌, ◌≤◌, [], List, length, IfSome};
 ghost use mathlib.Core.List.{IsPrefix};
 ghost use Rattle.split_engine.specs.Rules.{most_acts};
-ghost use Rattle.split_engine.specs.Serial.{IsWithin, table_after, record_at, looks_at, reply};
+ghost use Rattle.split_engine.specs.Serial.{IsWithin, table_after, record_at, reply};
 ghost use Rattle.split_engine.specs.Serving.{total};
 ghost use Rattle.application_window.specs.Published.{table_of, AreWithin};
 ghost use Rattle.application_window.specs.inner.Copies.{IsLastPart, Shows};
@@ -12,7 +12,7 @@ ghost use Rattle.application_window.specs.inner.Copies.{IsLastPart, Shows};
 use crate::parts::{Part, Prefix, WindowName};
 use crate::window::Seen;
 use left_right::Absorb;
-use split_engine::{Application, Entry, Few, MOST_KEYS, are_within, perform};
+use split_engine::{Application, Entry, MOST_KEYS, looks_at, perform};
 use std::alloc::AllocError;
 use std::marker::Model;
 
@@ -117,7 +117,7 @@ impl<A: Application, J: WindowName<A::Record>> TableCopy<A, J> {
         let parts = self.parts_after(known)?;
         let seen = Seen {
             commits: self.commits,
-            value: look_at::<A>(&self.table, key),
+            value: A::look(&self.table[key as usize]),
         };
         Some((parts, seen))
     }
@@ -180,29 +180,9 @@ fn perform_part<A: Application>(table: &mut Vec<A::Record>, commits: &[Entry<A::
     ensures fits { (n : ℕ) → AllByRecursion (A.fits n) table.old.items →
         AllByRecursion (A.fits (n + MOST_KEYS * length commits.now)) table.new.items }
 {
-    for place in 0..commits.len() {
-        perform::<A>(table, &commits[place].request);
+    for commit in commits {
+        perform::<A>(table, &commit.request);
     }
-}
-
-// What a request sees of the record at a key.
-fn look_at<A: Application>(table: &[A::Record], key: u32) -> A::Look
-    requires { key < length table.now }
-    ensures { result ≡ A.rules.look (record_at A.rules table.now key) }
-{
-    A::look(&table[key as usize])
-}
-
-// What a request sees at its keys.
-fn looks_at<A: Application>(table: &[A::Record], keys: &Few<u32>) -> Few<A::Look>
-    requires within { AllByRecursion (λ key. key < length table.now) keys.now }
-    ensures { result ≡ looks_at A.rules table.now keys.now }
-{
-    let mut looks = Few::none();
-    for place in 0..keys.len() {
-        looks = looks.and(look_at::<A>(table, keys.at(place)));
-    }
-    looks
 }
 
 // The reply to a request, which is not performed.
@@ -213,13 +193,4 @@ fn reply_to<A: Application>(table: &[A::Record], request: &A::Request) -> A::Rep
     let keys = A::keys(request);
     let looks = looks_at::<A>(table, &keys);
     A::decide(request, &looks).reply
-}
-
-// Whether a request names keys of a table of so many records alone.
-pub(crate) fn is_within<A: Application>(request: &A::Request, records: usize) -> bool
-    ensures yes { result ≡ true → IsWithin A.rules records request.now }
-    ensures no { result ≡ false → IsWithin A.rules records request.now → ⊥ }
-{
-    let keys = A::keys(request);
-    are_within(&keys, records)
 }

@@ -5,9 +5,9 @@ ghost use Rattle.split_engine.specs.{Serial.{IsWithin, record_at, reply}, Servin
 ghost use Rattle.application_window.specs.Published.{table_of};
 
 use crate::parts::{Prefix, WindowName};
-use crate::table_copy::{TableCopy, is_within};
+use crate::table_copy::TableCopy;
 use published_parts::{CopyReader, NoGuard};
-use split_engine::Application;
+use split_engine::{Application, is_within};
 use std::marker::Model;
 
 /// What a window shows.

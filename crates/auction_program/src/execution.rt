@@ -9,10 +9,10 @@ ghost use Rattle.byte_texts.specs.declared.writing.WriteFault.{WriteFault};
 ghost use Rattle.program_opening.specs.Options.{opening_asked};
 ghost use Rattle.program_opening.specs.declared.options.Options.{Options as Asked};
 ghost use Rattle.auction_program.specs.Execution.{Answers, ArePartWritten, AreWritten, IsCausedBy, IsOneWritten, IsUnwritten, IsAnsweredBy};
-ghost use Rattle.auction_program.specs.inner.Performing.{IsNotPerformed, Performs};
+ghost use Rattle.auction_program.specs.inner.Performing.{IsFrom, IsNotPerformed, Performs};
 ghost use Rattle.auction_program.specs.inner.Views.{AreViews, IsEnd};
 
-use crate::texts::{report_lines, write_texts};
+use crate::texts::{AskedTexts, report_lines, write_texts};
 use auction_rows::{Object, Opening};
 use auction_run::{FreeGate, Outcome, WindowBoard, run, run_shown};
 use auction_text::{ReportLines, read_scripts_by_threads};
@@ -54,19 +54,38 @@ pub fn execute<R: Threads + Wait + Sync, I: Read + Drop, W: Write>(
 {
     let input = read_scripts_by_threads(rt, alloc, reader, options.workers)?;
     let book = OpeningBook::new(alloc, options.opening(), input.rows)?;
-    let performed = perform(rt, alloc, &book, input.scripts, options)?;
-    write_texts(rt, alloc, writer, options, book.rows(), &performed)?;
+    let asked = AskedRun {
+        book: &book,
+        scripts: input.scripts,
+        options,
+    };
+    let performed = perform(rt, alloc, asked)?;
+    let texts = AskedTexts {
+        options,
+        rows: book.rows(),
+        performed: &performed,
+    };
+    write_texts(rt, alloc, writer, texts)?;
     Ok(())
+}
+
+/// What an input asks for: a run of its scripts from the book of its rows, by these options.
+#[derive(Drop)]
+pub(crate) struct AskedRun<'a> {
+    pub(crate) book: &'a OpeningBook,
+    pub(crate) scripts: Vec<Script>,
+    pub(crate) options: &'a Options,
+    ghost opens: { opened.opening_of book.now ≡ opening_asked options.now },
 }
 
 /// What is told of a run, whose state is gone.
 #[derive(Drop)]
-pub struct Performed {
-    pub history: History,
+pub(crate) struct Performed {
+    pub(crate) history: History,
     /// What was hot in each phase.
-    pub hot: Vec<IndexSet<Object>>,
+    pub(crate) hot: Vec<IndexSet<Object>>,
     /// The lines of the report: none if it is not asked for, or memory was refused for them.
-    pub lines: Option<ReportLines>,
+    pub(crate) lines: Option<ReportLines>,
 }
 
 // What is told of an outcome.
@@ -85,26 +104,26 @@ fn told_of(outcome: Outcome, lines: Option<ReportLines>) -> Performed
     }
 }
 
-/// Performs the scripts from a book on. If a report is asked for, its lines are read through a
-/// window that was told of all phases.
-pub fn perform<R: Threads + Wait + Sync>(
+// Performs the run. If a report is asked for, its lines are read through a window that was told of
+// all phases.
+fn perform<R: Threads + Wait + Sync>(
     rt: &R,
     alloc: Global,
-    book: &OpeningBook,
-    scripts: Vec<Script>,
-    options: &Options,
+    asked: AskedRun<'_>,
 ) -> Result<Performed, Fault>
-    requires { opened.opening_of book.now ≡ opening_asked options.now }
-    ensures performs { IfOk result (
-        Performs options.now (opened.rows_of_book book.now) scripts.items) }
+    ensures performs { IfOk result (Performs asked.entry) }
     ensures unasked { IfOk result (λ performed.
-        ¬ IsTrue options.now.report → performed.lines ≡ None) }
-    ensures cause { IfErr result (λ fault.
-        IsNotPerformed options.now fault (opened.rows_of_book book.now) scripts.items) }
+        ¬ IsTrue asked.entry.options.now.report → performed.lines ≡ None) }
+    ensures cause { IfErr result (IsNotPerformed asked.entry) }
 {
-    if options.report {
-        return perform_watched::<Brand, R>(rt, alloc, PhaseLog::new(), book, scripts, options);
+    if asked.options.report {
+        return perform_watched::<Brand, R>(rt, alloc, PhaseLog::new(), asked);
     }
+    let AskedRun {
+        book,
+        scripts,
+        options,
+    } = asked;
     let outcome = run(rt, alloc, book, scripts, options.policy(), &FreeGate)?;
     Ok(told_of(outcome, None))
 }
@@ -114,24 +133,17 @@ fn perform_watched<J: WindowName, R: Threads + Wait + Sync>(
     rt: &R,
     alloc: Global,
     log: PhaseLog,
-    book: &OpeningBook,
-    scripts: Vec<Script>,
-    options: &Options,
+    asked: AskedRun<'_>,
 ) -> Result<Performed, Fault>
     requires log { log ≡ J.log }
-    requires opening { opened.opening_of book.now ≡ J.opening }
-    requires rows { opened.rows_of_book book.now ≡ J.rows }
-    requires options { opened.opening_of book.now ≡ opening_asked options.now }
-    requires report { IsTrue options.now.report }
-    ensures performs { IfOk result (
-        Performs options.now (opened.rows_of_book book.now) scripts.items) }
-    ensures cause { IfErr result (λ fault.
-        IsNotPerformed options.now fault (opened.rows_of_book book.now) scripts.items) }
+    requires book { IsFrom asked J.opening J.rows }
+    requires report { IsTrue asked.options.now.report }
+    ensures performs { IfOk result (Performs asked.entry) }
+    ensures cause { IfErr result (IsNotPerformed asked.entry) }
 {
-    let (publisher, mut windows) = Publisher::<J>::new(rt, alloc, log, book, 1)?;
+    let (publisher, mut windows) = Publisher::<J>::new(rt, alloc, log, asked.book, 1)?;
     let mut board = WindowBoard::new(publisher);
-    let window = &mut windows[0];
-    let performed = watch(rt, alloc, &mut board, window, book, scripts, options);
+    let performed = watch(rt, alloc, &mut board, &mut windows[0], asked);
     let WindowBoard { publisher, told: _ } = board;
     publisher.end(rt);
     performed
@@ -143,20 +155,19 @@ fn watch<J: WindowName, R: Threads + Wait + Sync>(
     alloc: Global,
     board: &mut WindowBoard<J>,
     window: &mut Window<J>,
-    book: &OpeningBook,
-    scripts: Vec<Script>,
-    options: &Options,
+    asked: AskedRun<'_>,
 ) -> Result<Performed, Fault>
     requires publisher { board.old.publisher ≡ record { phases = []; failed = false } }
     requires told { board.old.told ≡ None }
-    requires opening { opened.opening_of book.now ≡ J.opening }
-    requires rows { opened.rows_of_book book.now ≡ J.rows }
-    requires options { opened.opening_of book.now ≡ opening_asked options.now }
-    ensures performs { IfOk result (
-        Performs options.now (opened.rows_of_book book.now) scripts.items) }
-    ensures cause { IfErr result (λ fault.
-        IsNotPerformed options.now fault (opened.rows_of_book book.now) scripts.items) }
+    requires book { IsFrom asked J.opening J.rows }
+    ensures performs { IfOk result (Performs asked.entry) }
+    ensures cause { IfErr result (IsNotPerformed asked.entry) }
 {
+    let AskedRun {
+        book,
+        scripts,
+        options,
+    } = asked;
     let outcome = run_shown(rt, alloc, book, scripts, options.policy(), &FreeGate, board)?;
     let told = board.told.take();
     let lines = last_lines(alloc, told, window, &outcome.state, options.opening());

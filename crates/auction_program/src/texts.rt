@@ -4,10 +4,9 @@ ghost use Rattle.std.specs.Prelude.{◌≡◌, IfErr, OnOk, ◌≤◌, ◌<◌, 
 ghost use Rattle.auction_rows.specs.{Book.{Book}, Replies.{reply}, Requests.{is_view}};
 ghost use Rattle.auction_rows.specs.declared.rows.Row.{Row as Stored};
 ghost use Rattle.byte_texts.specs.Writing.{WritesText};
-ghost use Rattle.program_opening.specs.Options.{commits_text};
 ghost use Rattle.auction_program.specs.Execution.{AreWritten, ArePartWritten, IsOneWritten};
 ghost use Rattle.auction_program.specs.Report.{category_views, user_views, views};
-ghost use Rattle.auction_program.specs.inner.Performing.{HasLastViews, OfTexts};
+ghost use Rattle.auction_program.specs.inner.Performing.{added_of, commits_of, HasLastViews};
 ghost use Rattle.auction_program.specs.inner.Views.{view_of, IsEnd};
 
 use crate::execution::Performed;
@@ -22,35 +21,41 @@ use program_opening::Options;
 use std::alloc::{AllocError, Global};
 use std::io::Write;
 use std::thread::Threads;
-use worker_journals::History;
 
-/// Writes what the options ask for of a run from these rows, and then its report, if they ask for
-/// it. Without lines a report is refused as memory was for them. After `Write` a prefix of both
-/// was written; after `Memory` nothing, or all but the report.
+/// What is written of a run: what the options ask for, from these rows.
+#[derive(Clone, Copy)]
+pub(crate) struct AskedTexts<'a> {
+    pub(crate) options: &'a Options,
+    pub(crate) rows: &'a [Row],
+    pub(crate) performed: &'a Performed,
+}
+
+/// Writes what the options ask for, and then the report, if they ask for it. Without lines a
+/// report is refused as memory was for them. After `Write` a prefix of both was written; after
+/// `Memory` nothing, or all but the report.
 #[tactic(auto, using(crate::proofs::WrittenLemmas::part_of_first))]
 #[inline(never)]
-pub fn write_texts<R: Threads + Sync, W: Write>(
+pub(crate) fn write_texts<R: Threads + Sync, W: Write>(
     rt: &R,
     alloc: Global,
     writer: &mut W,
-    options: &Options,
-    rows: &[Row],
-    performed: &Performed,
+    texts: AskedTexts<'_>,
 ) -> Result<(), WriteFault>
-    requires { HasLastViews options.now rows.now performed.now.history.entries performed.now.lines }
-    ensures whole { OnOk result (OfTexts options.now rows.now performed.now
-        (AreWritten (W.contents writer.old) (W.contents writer.new))) }
+    requires { HasLastViews texts.options.now texts.rows.now texts.performed.now }
+    ensures whole { OnOk result (AreWritten (W.contents writer.old) (W.contents writer.new)
+        (commits_of texts.entry) (added_of texts.entry)) }
     ensures part { IfErr result (λ fault. fault ≡ WriteFault.Write →
-        OfTexts options.now rows.now performed.now
-        (ArePartWritten (W.contents writer.old) (W.contents writer.new))) }
+        ArePartWritten (W.contents writer.old) (W.contents writer.new)
+        (commits_of texts.entry) (added_of texts.entry)) }
     ensures memory { IfErr result (λ fault. fault ≡ WriteFault.Memory →
-        OfTexts options.now rows.now performed.now
-        (IsOneWritten options.now (W.contents writer.old) (W.contents writer.new))) }
+        IsOneWritten texts.entry.options.now (W.contents writer.old) (W.contents writer.new)
+        (commits_of texts.entry) (added_of texts.entry)) }
 {
-    write_commits(rt, alloc, writer, options, rows, &performed.history)?;
-    if !options.report {
+    write_commits(rt, alloc, writer, texts)?;
+    if !texts.options.report {
         return Ok(());
     }
+    let performed = texts.performed;
     match &performed.lines {
         Some(lines) => write_report(alloc, writer, &performed.history, &performed.hot, lines),
         None => Err(WriteFault::Memory),
@@ -62,16 +67,14 @@ fn write_commits<R: Threads + Sync, W: Write>(
     rt: &R,
     alloc: Global,
     writer: &mut W,
-    options: &Options,
-    rows: &[Row],
-    history: &History,
+    texts: AskedTexts<'_>,
 ) -> Result<(), WriteFault>
-    ensures { WritesText W.contents writer.old writer.new
-        (commits_text options.now rows.now history.now.entries) result }
+    ensures { WritesText W.contents writer.old writer.new (commits_of texts.entry) result }
 {
-    if options.rows {
-        write_rows(alloc, writer, rows, history)
-    } else if options.history {
+    let history = &texts.performed.history;
+    if texts.options.rows {
+        write_rows(alloc, writer, texts.rows, history)
+    } else if texts.options.history {
         write_history(writer, history)
     } else {
         write_replies_by_threads(rt, alloc, writer, history)
@@ -101,7 +104,7 @@ impl Viewed {
 /// The replies to the views of all categories and users at the end of a run: those of the window
 /// if it shows all phases, else those of the state. Both are the book's: no caller sees which it
 /// got.
-pub fn report_lines<J: WindowName>(
+pub(crate) fn report_lines<J: WindowName>(
     alloc: Global,
     window: &mut Window<J>,
     state: &Joined,

@@ -14,7 +14,7 @@ ghost use Rattle.phase_transactions.specs.Performing.{HasCommitted, HasFailed, s
 ghost use Rattle.phase_transactions.specs.Txns.{Setting, Txn, entry_of, hot_of, IsAnswered};
 ghost use Rattle.phase_transactions.specs.Workers.{WorkerState, IsExplained, IsIdle, setting_of, txn_of};
 ghost use Rattle.phase_transactions.specs.Works.{Work, IsWorkOf, IsCommitOf, with_txn};
-ghost use Rattle.phase_transactions.specs.declared.done.PermitFault.{PermitFault};
+ghost use Rattle.phase_transactions.specs.declared.fault.PermitFault.{PermitFault};
 ghost use Rattle.phase_permits.specs.Replying.{CountsOf, SawTrue, StoodFor, HasFixed, IsModelReply};
 
 /// The slices of rows and one row more are those of the rows after the acts that write the row.

@@ -63,7 +63,8 @@ bank_laws = record {
     acts_split (Balance of) accounts h = absurd (true≢false (sym h))
     acts_split (Close of) accounts h = absurd (true≢false (sym h))
 
-    fits_after : (n : ℕ) (a : Account) (x : Change) → IsSmall x → Fits n a → Fits (suc n) (applied a x)
+    fits_after : (n : ℕ) (a : Account) (x : Change) → IsSmall x → Fits n a →
+        Fits (suc n) (applied a x)
     fits_after n a (Add m) small h = omega (arith, small, h)
     fits_after n a (Take m) small h = omega (arith, h)
     fits_after n a Shut small h = omega (arith, h)

@@ -24,7 +24,7 @@ pub const FUNDED: Account = Account {
 };
 
 // Amounts are below this one.
-const MOST: u32 = 100;
+const AMOUNTS_END: u32 = 100;
 
 /// What is drawn: accounts by their popularity, and so many of a hundred requests are transfers.
 #[derive(Drop)]
@@ -65,7 +65,7 @@ impl Load for Mix {
 
     fn request(&self, draws: &mut Draws, _place: u32) -> BankRequest {
         let to = draws.rank(&self.accounts);
-        let amount = draws.below(MOST);
+        let amount = draws.below(AMOUNTS_END);
         let drawn = draws.below(100);
         if drawn < self.views {
             return BankRequest::Balance { of: to };

@@ -113,10 +113,7 @@ impl Application for Likes {
     }
 
     fn empty_slice() -> Tally {
-        Tally {
-            likes: 0,
-            last: None,
-        }
+        NONE
     }
 
     fn apply_to_slice(slice: &mut Tally, act: Change) {

@@ -4,13 +4,14 @@
 mod likes;
 mod load;
 
-use crate::likes::{LikeRequest, Likes, NONE};
+use crate::likes::{LikeReply, LikeRequest, Likes, NONE};
 use crate::load::Names;
 use anyhow::Result;
 use application_loads::measure;
 use program_options::program_words;
-use split_engine::{Policy, run};
+use split_engine::{History, Policy, run};
 use std::alloc::Global;
+use std::io;
 use std::process::ExitCode;
 use std::rt::{Clock, Env};
 use std::sync::Wait;
@@ -76,7 +77,13 @@ fn show<R: Threads + Wait + Sync + Print + Alloc<A = Global>>(rt: &R) -> Result<
     ]?;
     let scripts = [first, second];
     let outcome = run::<Likes, R>(rt, alloc, tallies, &scripts, POLICY)?;
-    for piece in outcome.history.pieces() {
+    print_history(rt, &outcome.history)?;
+    Ok(())
+}
+
+// The history in the order in which it replays.
+fn print_history(rt: &impl Print, history: &History<LikeRequest, LikeReply>) -> io::Result<()> {
+    for piece in history.pieces() {
         for entry in piece {
             println!(rt;
                 "worker {}, request {}: {:?}",

@@ -4,10 +4,11 @@ use Rattle.std.specs.Prelude.{IfOk, IfErr}
 use Rattle.auction_rows.specs.declared.requests.Request.{Request}
 use Rattle.shard_boxes.{proofs.Each.{each_push}, specs.States.{ShardState}}
 use Rattle.closing_laws.specs.Phases.{no_receipt, receipt_at}
-use Rattle.phase_transactions.specs.Performing.{HasDealt, HasFailed}
+use Rattle.phase_permits.specs.Dealing.{HasDealt}
+use Rattle.phase_transactions.specs.Performing.{HasFailed}
 use Rattle.phase_transactions.specs.Workers.{WorkerState, with_try}
-use Rattle.phase_transactions.specs.declared.done.Done.TheVariants.{Stashed}
-use Rattle.phase_transactions.specs.declared.done.PermitFault.{PermitFault}
+use Rattle.phase_permits.specs.declared.done.Done.TheVariants.{Stashed}
+use Rattle.phase_transactions.specs.declared.fault.PermitFault.{PermitFault}
 use Rattle.phase_floor.proofs.Receipts.{committed, dealt, failed}
 use Rattle.phase_floor.specs.{Closings.{IsReceipt, AreReceiptsOf}, Floors.{FloorState}}
 

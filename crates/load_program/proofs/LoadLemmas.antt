@@ -9,7 +9,7 @@ use Rattle.byte_texts.specs.{Writing.{IsPartWritten, WritesText}, declared.writi
 use Rattle.load_program.specs.{Faults.{fault_of}, Lines.{line_text}, Loads.{EachFrom, WritesLines, WritesPart, WritesRows, WritesSomeLines, WritesSomeRows}}
 use Rattle.load_program.specs.declared.faults.Fault.{Fault}
 use Rattle.load_program.specs.declared.faults.Fault.TheVariants as of_load
-use Rattle.load_program.specs.{Stored.{IsLineAt, IsRowAt}, declared.load.ScriptLine.{ScriptLine}}
+use Rattle.load_program.specs.{Stored.{IsLineAt, IsRowAt}, declared.texts.ScriptLine.{ScriptLine}}
 use Rattle.load_program.specs.declared.plan.{Counts.{Counts}, Plan.{Plan}}
 
 module _ {A : Type 0} (Holds : ℕ → A → Type 0) where

@@ -7,7 +7,7 @@ use Rattle.auction_rows.specs.declared.{values.Stars.Stars, requests.ItemId.Item
 use Rattle.auction_rows.specs.declared.requests.{Facts.Facts, Request.Request}
 use Rattle.auction_text.specs.RowLines.{quoted}
 use Rattle.byte_texts.specs.Labels.{labelled, labelled_id}
-use Rattle.load_program.specs.declared.load.ScriptLine.{ScriptLine}
+use Rattle.load_program.specs.declared.texts.ScriptLine.{ScriptLine}
 
 -- what an item's request says after its worker
 abbrev pub item_text : Facts → ℕ → List ℕ

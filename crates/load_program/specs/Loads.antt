@@ -5,7 +5,7 @@ use Rattle.auction_rows.specs.declared.rows.Row.{Row}
 use Rattle.auction_text.specs.RowLines.{rows_text}
 use Rattle.byte_texts.specs.Writing.{IsPartWritten}
 use Rattle.load_program.specs.{Lines.{line_text}, Stored.{IsLineAt, IsRowAt}}
-use Rattle.load_program.specs.declared.{load.ScriptLine.{ScriptLine}, plan.Counts.{Counts}}
+use Rattle.load_program.specs.declared.{texts.ScriptLine.{ScriptLine}, plan.Counts.{Counts}}
 use Rattle.load_program.specs.declared.plan.Plan.{Plan}
 
 -- this holds of each one and its place, where the first one's place is given

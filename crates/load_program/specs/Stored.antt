@@ -7,7 +7,7 @@ use Rattle.auction_rows.specs.declared.requests.Request.TheVariants.{ViewBids, V
 use Rattle.auction_rows.specs.declared.rows.Row.TheVariants.{Item, Bid, Comment, Buy}
 use Rattle.auction_rows.specs.declared.{requests.ItemId.ItemId, requests.Request.Request}
 use Rattle.auction_rows.specs.declared.{rows.ItemRow.ItemRow, rows.Row.Row}
-use Rattle.load_program.specs.declared.{load.ScriptLine.{ScriptLine}, plan.Counts.{Counts}}
+use Rattle.load_program.specs.declared.{texts.ScriptLine.{ScriptLine}, plan.Counts.{Counts}}
 use Rattle.load_program.specs.declared.plan.{Mix.{Mix}, Plan.{Plan}}
 
 -- the id of the item at a place of the rows, which are dealt out to the workers in turn

@@ -1,6 +1,6 @@
 -- What the program's words say of a plan, by the parser of words (`clap`).
 use Rattle.std.specs.Int.{div_ceil}
-use Rattle.std.specs.Prelude.{◌≤◌, ◌<◌, ◌+◌, ℕ, List, [], ◌∷◌, Option, Some, fold, codes, ⊤}
+use Rattle.std.specs.Prelude.{◌≤◌, ◌<◌, ◌+◌, ◌-◌, ◌^◌, ℕ, List, [], ◌∷◌, Option, Some, fold, codes, ⊤}
 use Rattle.auction_rows.specs.declared.limits.TheConstants.{MOST_OF_A_WORKER, MOST_WORKERS}
 use Rattle.auction_text.specs.InputLimits.{MOST_RECORDS}
 use Rattle.clap.specs.{Simple.{App, new_rule, with_rule}, Walk.{Rule}}
@@ -19,7 +19,7 @@ plain_seed_rule = record (new_rule (codes "seed")) {
   long = Some (codes "seed");
   action = Some Set;
   defaults = codes "1" ∷ [];
-  parser = Some (Unsigned 0 18446744073709551615);
+  parser = Some (Unsigned 0 (2 ^ 64 - 1));
 }
 
 -- the same, for which help has a word
@@ -65,7 +65,7 @@ pub record SayPlan (text : List ℕ → Option (List ℕ)) (plan : Plan) : Type 
   pub counts : SayCounts text plan.counts
   pub mix : SayMix text plan.mix
   pub skew : SaysNumber 0 200 (text (codes "skew")) plan.skew
-  pub seed : SaysNumber 0 18446744073709551615 (text (codes "seed")) plan.seed
+  pub seed : SaysNumber 0 (2 ^ 64 - 1) (text (codes "seed")) plan.seed
 
 -- no worker has more rows and requests than the auction takes
 abbrev pub Fits : Counts → Type 0

@@ -5,8 +5,8 @@ ghost use Rattle.load_program.specs.Loads.{EachFrom};
 ghost use Rattle.load_program.specs.Stored.{HasShare, IsLineAt, IsRowAt, IsStored, NamesStored};
 ghost use Rattle.load_program.specs.Stored.{item_at};
 
-use crate::load::ScriptLine;
 use crate::plan::{Counts, Plan};
+use crate::texts::ScriptLine;
 use auction_rows::{Facts, ItemId, ItemRow, MOST_QUANTITY, Name, Quantity, Request, Row, Stars};
 use rand::RngExt;
 use rand_xoshiro::Xoshiro256PlusPlus;

@@ -7,6 +7,7 @@ mod faults;
 mod load;
 mod options;
 mod plan;
+mod texts;
 
 pub use faults::{Fault, PlanFault, status, write_fault};
 pub use load::write_load;

@@ -75,8 +75,7 @@ fn command<'a>(alloc: Global) -> Result<Command<'a>, AllocError>
 }
 
 fn seed_of(matches: &ArgMatches<'_>) -> u64
-    ensures { SaysNumber 0 18446744073709551615
-        (one_text (found_of matches.now) (codes "seed")) result }
+    ensures { SaysNumber 0 u64.MAX (one_text (found_of matches.now) (codes "seed")) result }
 {
     matches.get_one::<u64>("seed").unwrap_or(1)
 }
@@ -154,7 +153,7 @@ All other requests are bids. The same options give the same bytes.
 Reads nothing. Writes a record per line to standard output, in the format that rubis_auction reads;
 give that program at least the same --workers, --users and --categories.
 Faults, this help and the version go to standard error.
-Status: 0 all written, 1 options or help, 3 no memory, 4 output.
+Status: 0 all written, 1 options or help, 3 no memory, 4 output or memory.
 
 Examples:
   rubis_load --workers 4 --requests 100000 --skew 100 > load.csv

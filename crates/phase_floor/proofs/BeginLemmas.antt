@@ -9,7 +9,8 @@ use Rattle.shard_boxes.specs.{States.{ShardState}, declared.limits.TheConstants.
 use Rattle.worker_slices.{proofs.Places.{stocks_of_rows}, specs.Slicing.{slices_of}}
 use Rattle.worker_slices.specs.{Stashes.{StashState}, declared.counters.Counters.{Counters}}
 use Rattle.worker_slices.specs.declared.slices.Hot.{Hot}
-use Rattle.phase_transactions.specs.Workers.{CanStart, HasStashRoom, IsEmptyIf, WorkerState, new_worker}
+use Rattle.phase_transactions.specs.Workers.{CanStart, HasStashRoom, WorkerState, new_worker}
+use Rattle.phase_permits.specs.Kinds.{IsEmptyIf}
 use Rattle.closing_laws.specs.Standing.{counters_at}
 use Rattle.phase_floor.proofs.HotItems.{objects_of_slices, hot_is_stored}
 use Rattle.phase_floor.proofs.StoredItems.{stored_before}

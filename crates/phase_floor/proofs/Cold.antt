@@ -6,7 +6,8 @@ use Rattle.auction_rows.specs.declared.{requests.Object.Object, rows.Entry.Entry
 use Rattle.item_shards.specs.declared.shard.slices.Slice.{Slice}
 use Rattle.shard_boxes.specs.States.{ShardState}
 use Rattle.worker_slices.specs.{Slicing.{stocks_of, slices_in}, declared.slices.Hot.{Hot}}
-use Rattle.phase_transactions.specs.Workers.{IsEmptyIf, WorkerState}
+use Rattle.phase_permits.specs.Kinds.{IsEmptyIf}
+use Rattle.phase_transactions.specs.Workers.{WorkerState}
 use Rattle.auction_shards.specs.{Merging.{after_merge}, Shards.{at_start}}
 use Rattle.closing_laws.specs.{Merging.{slices_left}, Phases.{no_receipt}}
 use Rattle.phase_floor.specs.Closings.{AreReceiptsOf, HasSettled, HasReconciled}

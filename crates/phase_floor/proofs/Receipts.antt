@@ -7,10 +7,12 @@ use Rattle.item_shards.specs.Writing.{writes_if}
 use Rattle.shard_boxes.specs.States.{ShardState}
 use Rattle.worker_slices.proofs.{Places.{stocks_of_rows}, StockLemmas.{stocks-acts}}
 use Rattle.worker_slices.specs.{Slicing.{stocks_of}, Stashes.{StashState}}
-use Rattle.phase_transactions.specs.Performing.{HasFailed, HasFailedFirst, HasPerformedFirst, HasDealtWith, HasCommitted}
+use Rattle.phase_transactions.specs.Performing.{HasFailed, HasCommitted}
+use Rattle.phase_permits.specs.Dealing.{HasFailedFirst, HasPerformedFirst, HasDealtWith}
 use Rattle.phase_transactions.specs.Workers.{with_first_unstashed, with_try, WorkerState}
-use Rattle.phase_transactions.specs.declared.done.Done.{TheVariants.{Committed, Stashed}, Done}
-use Rattle.phase_transactions.specs.declared.done.PermitFault.{PermitFault}
+use Rattle.phase_permits.specs.declared.done.Done.TheVariants.{Committed, Stashed}
+use Rattle.phase_permits.specs.declared.done.Done.{Done}
+use Rattle.phase_transactions.specs.declared.fault.PermitFault.{PermitFault}
 use Rattle.closing_laws.specs.Phases.{no_receipt}
 use Rattle.phase_floor.specs.Closings.{IsReceipt, AreReceiptsOf}
 use Rattle.phase_floor.specs.Floors.{FloorState, IsNewPermit, AreBegun}

@@ -64,7 +64,7 @@ pub type JoinedFloor<N> = Floor<N, JoinedPhase>;
 pub type SplitFloor<N> = Floor<N, SplitPhase>;
 
 impl<N: PhaseName, K: Kind> Model for Floor<N, K> {
-    ghost use Rattle.phase_transactions.specs.Workers.{IsEmptyIf};
+    ghost use Rattle.phase_permits.specs.Kinds.{IsEmptyIf};
     ghost use Rattle.phase_floor.specs.Floors.{FloorState, IsOpen};
 
     ghost Value = { FloorState };

@@ -5,7 +5,7 @@ ghost use Rattle.std.specs.Prelude.{◌≡◌, ◌+◌, ◌<◌, [], length, IsT
 ghost use Rattle.auction_rows.specs.Requests.{same_object};
 ghost use Rattle.shard_boxes.specs.Keys.{AreNewKeys};
 ghost use Rattle.worker_slices.specs.Slicing.{hot_objects, IsStocked};
-ghost use Rattle.phase_transactions.specs.Workers.{IsEmptyIf};
+ghost use Rattle.phase_permits.specs.Kinds.{IsEmptyIf};
 ghost use Rattle.phase_floor.specs.Begins.{IsTooLong, empty_stash, asked_in_all, CanBegin, OpensPhase};
 ghost use Rattle.phase_floor.specs.Floors.{stash_at, AreBegun};
 ghost use Rattle.phase_floor.specs.inner.Kits.{AreKits, CanBeGiven, HaveStashRoom};

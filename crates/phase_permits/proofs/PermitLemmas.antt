@@ -8,9 +8,10 @@ use Rattle.item_shards.specs.{Events.{Event, Look}, Writing.{writes_if}}
 use Rattle.shard_boxes.specs.States.{ShardState}
 use Rattle.phase_transactions.specs.Performing.{HasCommitted, HasFailed, HasPerformed}
 use Rattle.phase_transactions.specs.Txns.{Setting, is_put_off}
-use Rattle.phase_transactions.specs.Workers.{WorkerState, IsEmptyIf, CanStart, IsExplained, setting_of, txn_of, work_of, after_putting_off, with_first_unstashed, with_try}
+use Rattle.phase_transactions.specs.Workers.{WorkerState, CanStart, IsExplained, setting_of, txn_of, work_of, after_putting_off, with_first_unstashed, with_try}
+use Rattle.phase_permits.specs.Kinds.{IsEmptyIf}
 use Rattle.phase_transactions.specs.Works.{Work, IsWorkOf, with_txn}
-use Rattle.phase_transactions.specs.declared.done.PermitFault.{PermitFault}
+use Rattle.phase_transactions.specs.declared.fault.PermitFault.{PermitFault}
 use Rattle.worker_slices.proofs.StockLemmas.{stocks-acts}
 use Rattle.worker_slices.specs.Slicing.{hot_objects, stocks_of, slices_of, slices_after_acts}
 use Rattle.worker_slices.specs.declared.slices.Hot.{Hot}

@@ -21,7 +21,8 @@ use Rattle.shard_boxes.specs.Lines.{Line, acts_in, after_lines, AreTrueOf}
 use Rattle.shard_boxes.specs.States.{ShardState, state_at}
 use Rattle.worker_slices.specs.{Slicing.{stock_of}, declared.counters.Counters.{Counters}}
 use Rattle.phase_transactions.proofs.HomeLemmas.{no_other, same_objects_of}
-use Rattle.phase_transactions.specs.Performing.{HasCommitted, HasCommittedSome, HasPerformedFirstSome, asks}
+use Rattle.phase_transactions.specs.Performing.{HasCommitted, HasCommittedSome, asks}
+use Rattle.phase_permits.specs.Dealing.{HasPerformedFirstSome}
 use Rattle.phase_transactions.specs.Txns.{Setting, Txn, hot_of, takes, line_on, stock_seen, refusal_by, IsAnswered, ReadSet}
 use Rattle.phase_transactions.specs.Workers.{WorkerState, last_reply, setting_of, txn_of, with_first_unstashed}
 use Rattle.phase_permits.proofs.{LastLemmas.{as_read}, LookLemmas.{look_true, value_there}}

@@ -3,11 +3,12 @@ use Rattle.std.proofs.Common.{◌≡◌, ℕ, ◌+◌, ◌<◌, List, [], ◌∷
 use Rattle.std.{proofs.lemmas.List.{same_from_push}, specs.Prelude.{slice_get}}
 use Rattle.auction_rows.specs.declared.requests.Request.{Request}
 use Rattle.shard_boxes.specs.{Keys.{KeyState, seat_at}, States.{ShardState}}
-use Rattle.phase_transactions.specs.Performing.{HasCommitted, HasCommittedSome, HasFailed, HasFailedFirst, HasPerformedFirstSome, IsCause}
+use Rattle.phase_transactions.specs.Performing.{HasCommitted, HasCommittedSome, HasFailed, IsCause}
+use Rattle.phase_permits.specs.Dealing.{HasFailedFirst, HasPerformedFirstSome}
 use Rattle.phase_transactions.specs.Putting.{HasSameLines}
 use Rattle.phase_transactions.specs.Workers.{WorkerState, IsIdle, with_first_unstashed, with_try}
-use Rattle.phase_transactions.specs.declared.done.PermitFault.{PermitFault}
-use Rattle.phase_transactions.specs.declared.done.PermitFault.TheVariants.{Memory, NumberFull}
+use Rattle.phase_transactions.specs.declared.fault.PermitFault.{PermitFault}
+use Rattle.phase_transactions.specs.declared.fault.PermitFault.TheVariants.{Memory, NumberFull}
 
 -- where there is no first, there is none
 pub no_first : {A : Type 0} (items : List A) → None ≡ slice_get items 0 → items ≡ []

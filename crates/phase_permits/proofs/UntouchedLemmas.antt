@@ -6,10 +6,11 @@ use Rattle.auction_rows.specs.{Requests.{shard_of}, declared.replies.Reply.TheVa
 use Rattle.auction_rows.specs.declared.requests.Request.TheVariants.{StoreItem}
 use Rattle.auction_rows.specs.declared.{requests.Request.Request, replies.Refusal.Refusal, replies.Reply.Reply}
 use Rattle.shard_boxes.specs.{Keys.{KeyState, no_seat, seat_at}, States.{ShardState}}
-use Rattle.phase_transactions.specs.Performing.{HasCommitted, HasFailed, HasPerformed, IsUntouched, shards_asked}
+use Rattle.phase_transactions.specs.Performing.{HasCommitted, HasFailed, HasPerformed, shards_asked}
+use Rattle.phase_permits.specs.Dealing.{IsUntouched}
 use Rattle.phase_transactions.specs.Txns.{hot_of, IsAnswered, ReadSet}
 use Rattle.phase_transactions.specs.Workers.{WorkerState, setting_of, txn_of}
-use Rattle.phase_transactions.specs.declared.done.PermitFault.{PermitFault}
+use Rattle.phase_transactions.specs.declared.fault.PermitFault.{PermitFault}
 
 -- a commit with an empty footprint leaves the key, and so does a failure
 same_key : (old new : KeyState) → new.boxes ≡ old.boxes → new.worker ≡ old.worker → length new.seats ≡ length old.seats → ((shard : ℕ) → seat_at new shard ≡ seat_at old shard) → new ≡ old

@@ -1,2 +1,4 @@
 pub mod inner
+pub mod Dealing
+pub mod Kinds
 pub mod Replying

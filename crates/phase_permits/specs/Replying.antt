@@ -11,8 +11,9 @@ use Rattle.shard_boxes.specs.States.{ShardState, state_at}
 use Rattle.worker_slices.specs.Slicing.{hot_objects, stocks_of, stock_of}
 use Rattle.worker_slices.specs.declared.{counters.Counters.{Counters}, slices.Hot.{Hot}}
 use Rattle.phase_transactions.specs.{Performing.{asks}, Txns.{Setting, Txn, hot_of, takes, line_on}}
-use Rattle.phase_transactions.specs.{Workers.{WorkerState}, declared.done.Done.{Done}}
-use Rattle.phase_transactions.specs.declared.done.Done.TheVariants.{Committed, Stashed}
+use Rattle.phase_transactions.specs.Workers.{WorkerState}
+use Rattle.phase_permits.specs.declared.done.Done.{Done}
+use Rattle.phase_permits.specs.declared.done.Done.TheVariants.{Committed, Stashed}
 
 -- the worker's counters are those of a book
 pub record CountsOf (book : Book) (worker : ℕ) (counters : Counters) : Type 0 where

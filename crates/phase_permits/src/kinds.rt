@@ -2,12 +2,13 @@
 ghost use Rattle.std.specs.Prelude.{◌≡◌, ◌≤◌, ◌<◌, ◌↔◌, [], Bool, false, true, length, Ok, IsNone, IfNone, IfSome, IfOk, IfErr};
 ghost use Rattle.item_shards.specs.CommitNumbers.{last_number};
 
+use crate::done::Done;
 use crate::permit::Permit;
 use auction_rows::{ItemId, MOST_TRIES, Opening, Reply, Request, Stars};
-use phase_transactions::{Done, PermitFault, WorkerStart};
+use phase_transactions::{HotStore, PermitFault, WorkerStart};
 use shard_boxes::{Boxes, Key, PhaseName};
 use std::sync::Wait;
-use worker_journals::Journal;
+use worker_journals::{BidRequest, Journal};
 use worker_slices::{Counters, Slices, Stash};
 
 /// The kind of a phase.
@@ -38,7 +39,8 @@ impl Kind for SplitPhase {
 }
 
 impl<N: PhaseName> Permit<N, JoinedPhase> {
-    ghost use Rattle.phase_transactions.specs.Performing.{HasCommitted, HasFailed, HasFailedFirst, HasPerformedFirst, HaveOpening};
+    ghost use Rattle.phase_transactions.specs.Performing.{HasCommitted, HasFailed, HaveOpening};
+    ghost use Rattle.phase_permits.specs.Dealing.{HasFailedFirst, HasPerformedFirst};
     ghost use Rattle.phase_transactions.specs.Workers.{CanStart, new_worker, with_try};
     ghost use Rattle.phase_permits.specs.Replying.{IsModelReply, IsModelReplyToFirst};
 
@@ -121,10 +123,12 @@ impl<N: PhaseName> Permit<N, JoinedPhase> {
 impl<N: PhaseName> Permit<N, SplitPhase> {
     ghost use Rattle.auction_rows.specs.declared.requests.Object.TheVariants.{Item, User};
     ghost use Rattle.auction_rows.specs.declared.requests.Request.TheVariants.{StoreBid, StoreComment};
-    ghost use Rattle.phase_transactions.specs.Performing.{IsUntouched, HasCommitted, HasDealtWith, HasFailed, HaveOpening};
+    ghost use Rattle.phase_transactions.specs.Performing.{hot_request, HasCommitted, HasFailed, HaveOpening};
+    ghost use Rattle.phase_permits.specs.Dealing.{IsUntouched, HasDealtWith};
     ghost use Rattle.phase_transactions.specs.Txns.{is_put_off};
-    ghost use Rattle.phase_transactions.specs.Workers.{CanStart, IsHot, new_worker, with_try};
-    ghost use Rattle.phase_transactions.specs.declared.done.Done.TheVariants.{Stashed};
+    ghost use Rattle.phase_transactions.specs.Workers.{CanStart, new_worker, with_try};
+    ghost use Rattle.phase_permits.specs.Kinds.{IsHot};
+    ghost use Rattle.phase_permits.specs.declared.done.Done.TheVariants.{Stashed};
     ghost use Rattle.worker_slices.specs.{Homes.{IsHotStore}, Slicing.{hot_objects}};
     ghost use Rattle.phase_permits.specs.Replying.{IfCommitted, IsModelReply};
 
@@ -175,13 +179,13 @@ impl<N: PhaseName> Permit<N, SplitPhase> {
             (StoreBid bidder item amount time)) }
         ensures key { self.new.key ≡ self.old.key }
     {
-        let request = Request::StoreBid {
+        let bid = BidRequest {
             bidder,
             item,
             amount,
             time,
         };
-        self.perform_hot(&request, index)
+        self.perform_hot(HotStore::Bid(bid), index)
     }
 
     /// A comment about a hot user on the occasion of a hot item: None exactly where the worker's
@@ -206,27 +210,27 @@ impl<N: PhaseName> Permit<N, SplitPhase> {
             (StoreComment author about item stars)) }
         ensures key { self.new.key ≡ self.old.key }
     {
-        let request = Request::StoreComment {
+        let comment = HotStore::Comment {
             author,
             about,
             item,
             stars,
         };
-        self.perform_hot(&request, index)
+        self.perform_hot(comment, index)
     }
 
     // A store on hot objects alone.
-    fn perform_hot(&mut self, request: &Request, index: u32) -> Option<Reply>
-        requires hot { IsHotStore self.old.slices request.now }
+    fn perform_hot(&mut self, store: HotStore, index: u32) -> Option<Reply>
+        requires hot { IsHotStore self.old.slices (hot_request store) }
         requires left { 0 < self.old.left }
         ensures none { IsNone result ↔ (last_number ≤ self.old.clock) }
         ensures unchanged { IfNone result (self.new ≡ self.old) }
         ensures committed { IfSome result
-            (HasCommitted N.initial self.old self.new request.now index) }
-        ensures reply { IfSome result (IsModelReply N.initial self.old self.new request.now) }
+            (HasCommitted N.initial self.old self.new (hot_request store) index) }
+        ensures reply { IfSome result (IsModelReply N.initial self.old self.new (hot_request store)) }
         ensures key { self.new.key ≡ self.old.key }
     {
-        self.worker.perform_hot(request, index)?;
+        self.worker.perform_hot(store, index)?;
         Some(self.worker.last_reply())
     }
 

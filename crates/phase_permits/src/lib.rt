@@ -2,10 +2,12 @@
 //! leaves.
 #![tactic(auto)]
 
+mod done;
 mod kinds;
 mod permit;
 
+pub use done::Done;
 pub use kinds::{JoinedPhase, Kind, SplitPhase};
 pub use permit::{JoinedPermit, JoinedReceipt, Permit, Receipt, SplitPermit, SplitReceipt};
-pub use phase_transactions::{Done, PermitFault, WorkerStart};
+pub use phase_transactions::{PermitFault, WorkerStart};
 pub use worker_slices::{Counters, Hot, Slices, Stash};

@@ -1,6 +1,7 @@
 //! A worker's right to perform in a phase, and what it leaves.
 ghost use Rattle.std.specs.Prelude.{◌≡◌, ◌≤◌, ◌<◌, ◌↔◌, [], length, true, false, slice_get, Ok, Some, IfOk, IfErr};
-ghost use Rattle.phase_transactions.specs.Workers.{IsEmptyIf, CanStart, IsExplained, new_worker, with_try};
+ghost use Rattle.phase_permits.specs.Kinds.{IsEmptyIf};
+ghost use Rattle.phase_transactions.specs.Workers.{CanStart, IsExplained, new_worker, with_try};
 
 use crate::kinds::{JoinedPhase, Kind, SplitPhase};
 use auction_rows::{MOST_TRIES, Object, Request};
@@ -69,7 +70,8 @@ impl<N: PhaseName, K: Kind> Model for Receipt<N, K> {
 
 impl<N: PhaseName, K: Kind> Permit<N, K> {
     ghost use Rattle.auction_rows.specs.Footprint.{is_hot};
-    ghost use Rattle.phase_transactions.specs.Performing.{HasDealt, HasFailed, HasFailedFirst, HasPerformedFirstSome, HaveOpening, IsUntouched};
+    ghost use Rattle.phase_permits.specs.Dealing.{HasDealt, HasFailedFirst, HasPerformedFirstSome, IsUntouched};
+    ghost use Rattle.phase_transactions.specs.Performing.{HasFailed, HaveOpening};
     ghost use Rattle.phase_transactions.specs.Txns.{is_put_off};
     ghost use Rattle.request_scripts.specs.Scripts.{request_of};
     ghost use Rattle.worker_slices.specs.Slicing.{hot_objects};

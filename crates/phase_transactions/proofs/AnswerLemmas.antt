@@ -4,6 +4,7 @@ use Rattle.std.{proofs.lemmas.{Bool.{true≢false}, Option.{same_Some}}, specs.O
 use Rattle.std.specs.{Prelude.{◌≤◌, ◌↔◌, IsNone, IfNone, IfSome, IsErrAnd}, Result.{result_ok}}
 use Rattle.auction_rows.specs.{Footprint.{is_hot}, Refusals.{number_refusal, item_refusal}}
 use Rattle.auction_rows.specs.{Replies.{row_of}, Requests.{item_of, is_view}}
+use Rattle.auction_rows.specs.{StoreReplies.{reply_of}, declared.replies.StoreReply.{StoreReply}}
 use Rattle.auction_rows.specs.declared.replies.Reply.TheVariants.{Refused}
 use Rattle.auction_rows.specs.declared.requests.Object.TheVariants.{Item}
 use Rattle.auction_rows.specs.declared.requests.Request.TheVariants.{StoreItem, StoreBid, StoreComment, BuyNow, ViewItem, ViewBids, ViewCategory, ViewUser}
@@ -19,9 +20,11 @@ use Rattle.phase_transactions.proofs.HomeLemmas.{same_objects_of}
 use Rattle.phase_transactions.specs.Performing.{HasStoredSome}
 use Rattle.phase_transactions.specs.Txns.{refusal_by, refusal_seen, reason_seen, stock_seen, is_put_off, IsReplyTo, IsAnswered, ReadSet}
 use Rattle.phase_transactions.specs.Workers.{WorkerState, setting_of, txn_of, hot_txn, nothing, with_entry, after_commit}
-use Rattle.phase_transactions.specs.declared.done.PermitFault.{PermitFault}
-use Rattle.phase_transactions.specs.declared.done.PermitFault.TheVariants.{Memory, NumberFull}
-use Rattle.phase_transactions.specs.{declared.taken.Taken.{Taken}, inner.Begun.{IsRefusedBy}}
+use Rattle.phase_transactions.specs.declared.fault.PermitFault.{PermitFault}
+use Rattle.phase_transactions.specs.declared.fault.PermitFault.TheVariants.{Memory, NumberFull}
+use Rattle.phase_transactions.specs.declared.{asked.Stored.{Stored}, taken.Taken.{Taken}}
+use Rattle.phase_transactions.specs.declared.asked.Stored.TheVariants as stored
+use Rattle.phase_transactions.specs.inner.{Asking.{store_request}, Begun.{IsRefusedBy}}
 use Rattle.phase_transactions.specs.inner.Deeds.{IsReplyBy, IsReplyUnless, stock_on, stock_taken}
 use Rattle.phase_transactions.specs.inner.Homes.{AreHomesOf, HasHomes}
 use Rattle.phase_transactions.specs.inner.Storing.{HasStoredOrIsFull}
@@ -61,6 +64,18 @@ pub reply_by : (w : WorkerState) (seen : Option (Facts × ℕ)) (request : Reque
     → IsReplyUnless w refused request reply → IsReplyBy w seen request reply
 reply_by w seen request refused reply allowed by is =
     subst (λ reason. IsReplyUnless w reason request reply) (by ∙ sym (ap (λ first. option_or first (refusal_with seen request)) allowed)) is
+
+-- a store that is no bid is no view
+pub stores : (asks : Stored) → is_view (store_request asks) ≡ false
+stores (stored.Item facts time) = refl
+stores (stored.Comment author about item stars) = refl
+stores (stored.Buy buyer item quantity time) = refl
+
+-- the reply that is due, or a refusal
+pub unless_due : (w : WorkerState) (request : Request) (refused : Option Refusal) (reply due : StoreReply) → MatchOption refused (reply ≡ due) (λ reason. reply_of reply ≡ Refused reason)
+    → IsReplyTo w.counters w.journal.worker request (reply_of due) → IsReplyUnless w refused request (reply_of reply)
+unless_due w request None reply due is told = subst (λ r. IsReplyTo w.counters w.journal.worker request (reply_of r)) (sym is) told
+unless_due w request (Some reason) reply due is told = is
 
 -- the home of a request's item
 pub item_home : (w : WorkerState) (shards : ℕ) (request : Request) (homes : Homes) (item : ItemId) → AreHomesOf w shards request homes → item_of request ≡ Some item → IsHomeOf w.slices shards (Item item) homes.item

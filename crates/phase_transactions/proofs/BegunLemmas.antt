@@ -15,12 +15,12 @@ use Rattle.phase_transactions.proofs.AnswerLemmas.{in_setting, item_home, store_
 use Rattle.phase_transactions.proofs.ChainLemmas.{store_commits, store_fails}
 use Rattle.phase_transactions.proofs.FirstLemmas.{first_has, found_there, room_there, clocks_below}
 use Rattle.phase_transactions.proofs.WrittenLemmas.{can_deal}
-use Rattle.phase_transactions.specs.Performing.{HasCommitted, HasFailed, HasPerformed, HaveOpening, StoresItem, asks}
+use Rattle.phase_transactions.specs.Performing.{HasCommitted, HasFailed, HasPerformed, HaveOpening, StoresItem}
 use Rattle.phase_transactions.specs.Putting.{HasPutAll}
-use Rattle.phase_transactions.specs.Txns.{IsReplyTo, IsAnswered, is_put_off, refusal_by, ReadSet}
+use Rattle.phase_transactions.specs.Txns.{IsReplyTo, IsAnswered, refusal_by, ReadSet}
 use Rattle.phase_transactions.specs.Workers.{WorkerState, IsLawfulWorker, setting_of, next_item, txn_of, after_commit}
-use Rattle.phase_transactions.specs.declared.{deeds.Deeds.{Deeds}, done.PermitFault.{PermitFault}}
-use Rattle.phase_transactions.specs.declared.done.PermitFault.TheVariants.{Memory}
+use Rattle.phase_transactions.specs.declared.{deeds.Deeds.{Deeds}, fault.PermitFault.{PermitFault}}
+use Rattle.phase_transactions.specs.declared.fault.PermitFault.TheVariants.{Memory}
 use Rattle.phase_transactions.specs.declared.taken.Begun.{Begun}
 use Rattle.phase_transactions.specs.inner.Begun.{Step, FirstHas, HasBegun, HasFirst, HasRoomFor, IsAnsweredOn, IsSeen, MayBegin}
 use Rattle.phase_transactions.specs.inner.Deeds.{IsReplyBy, IsNextIf, AreDeedsOf, AreGoodOn, acts_for, event_with, found_on, acts_dealt, footprint_on}
@@ -30,16 +30,6 @@ use Rattle.worker_slices.specs.Homes.{IsHomeOf, shard_at}
 use Rattle.worker_slices.specs.Slicing.{hot_objects, stocks_of, stock_of}
 use Rattle.worker_slices.specs.declared.{homes.{Home.{Home}, Homes.{Homes}}, slices.Hot.{Hot}}
 use Rattle.worker_slices.specs.declared.homes.Home.TheVariants as home
-
--- a request may begin that the opening does not refuse
-pub may_begin : (shards : ℕ) (old at : WorkerState) (request : Request) (homes : Homes) (refused : Option Refusal) → at ≡ old → refused ≡ number_refusal at.opening request → refused ≡ None
-    → is_put_off (hot_objects old.slices) request ≡ false → AreHomesOf old shards request homes → ((t : ℕ) → asks shards old request t ≡ is_one_of (footprint_of homes) t) → MayBegin shards old request homes
-may_begin shards old at request homes refused same told none goes homes_are asked = record {
-  allowed = sym (ap (λ (w : WorkerState). number_refusal w.opening request) same) ∙ sym told ∙ none;
-  goes = goes;
-  homes_are = homes_are;
-  asked = asked;
-}
 
 -- whatever shards the key has taken
 homes_still : (w : WorkerState) (key : KeyState) (shards : ℕ) (request : Request) (homes : Homes) → AreHomesOf w shards request homes → AreHomesOf (record w { key = key }) shards request homes

@@ -1,6 +1,6 @@
 -- A bid on an item in a shard, which refuses it or takes it by one look-up: that is a commit.
-use Rattle.std.proofs.Common.{◌≡◌, ◌==◌, ◌||◌, ℕ, ◌+◌, ◌<◌, ◌^◌, Bool, true, false, cond, List, [], ◌∷◌, length, map, Option, Some, None, IsSome, refl, sym, ap, ◌∙◌, arith, eq-eqb}
-use Rattle.std.proofs.lemmas.{List.{length-map}, Option.{none-some, same_Some}}
+use Rattle.std.proofs.Common.{◌≡◌, ◌==◌, ◌||◌, ℕ, ◌+◌, ◌<◌, ◌^◌, Bool, true, false, cond, List, [], ◌∷◌, length, map, Option, Some, None, refl, sym, ap, ◌∙◌, arith, eq-eqb}
+use Rattle.std.proofs.lemmas.Option.{none-some, same_Some}
 use Rattle.auction_rows.specs.{Footprint.{is_hot}, Replies.{row_if}}
 use Rattle.auction_rows.specs.declared.replies.Reply.TheVariants.{BidStored}
 use Rattle.auction_rows.specs.declared.requests.Object.TheVariants.{Item}
@@ -44,11 +44,6 @@ one_owed : (hots : List (Object × Hot)) (shards t : ℕ) (x : Event) (h : Home)
     → padded (cond (is_done_on t shards (hot_objects hots) x) (x ∷ []) []) ≡ deeds_on x (event.Look shown.Nothing) h h t
 one_owed hots shards t x h first = ap (λ b. padded (cond b (x ∷ []) [])) first ∙ no_more (is_at h t) x
 
--- where one home is a shard and the other nowhere, that shard is the footprint
-alone : (a : Option ℕ) (other : Home) → IsSome a → other ≡ home.Nowhere → length (each_once a (shard_at other)) ≡ 1
-alone None other some none = absurd (cc)
-alone (Some t) other some none = ap (λ h. length (each_once (Some t) (shard_at h))) none
-
 at_number : (a : Option ℕ) (other : Home) (n : ℕ) → n ∷ [] ≡ each_once a (shard_at other) → other ≡ home.Nowhere → a ≡ Some n
 at_number None other n is none = absurd (cc (is ∙ ap (λ h. each_once None (shard_at h)) none))
 at_number (Some t) other n is none = let same : n ∷ [] ≡ t ∷ [] = is ∙ ap (λ h. each_once (Some t) (shard_at h)) none in cc
@@ -76,10 +71,6 @@ module _ {N : Type 0} (step : Step) (w : WorkerState) (item : ItemId) (entry : B
     (begun : HasBegun step w (bid_request item entry) b) where
   abbrev request : Request
   request = bid_request item entry
-
-  pub bid_took_one : IsSome (shard_at step.homes.item) → length (held_in b.taken) ≡ 1
-  bid_took_one some =
-      sym (length-map (held_in b.taken) (λ (h : HeldState). h.number)) ∙ ap length begun.taken.numbers ∙ alone (shard_at step.homes.item) step.homes.other some begun.may.homes_are.1
 
   module _ (held : HeldState) (is : b.taken ≡ taken.One held) where
     abbrev seen : Option (Facts × ℕ)

@@ -17,8 +17,8 @@ use Rattle.phase_transactions.specs.Performing.{HasCommitted, HasFailed, IsCause
 use Rattle.phase_transactions.specs.Putting.{clock_seen, HasPutAll}
 use Rattle.phase_transactions.specs.Txns.{Setting, Txn, hot_of, takes, line_on, greatest_clock, clock_found, clock_in, is_put_off, IsAnswered, ReadSet}
 use Rattle.phase_transactions.specs.Workers.{WorkerState, setting_of, next_item, txn_of, after_commit}
-use Rattle.phase_transactions.specs.declared.{deeds.Deeds.{Deeds}, done.PermitFault.{PermitFault}}
-use Rattle.phase_transactions.specs.declared.done.PermitFault.TheVariants.{Memory, NumberFull}
+use Rattle.phase_transactions.specs.declared.{deeds.Deeds.{Deeds}, fault.PermitFault.{PermitFault}}
+use Rattle.phase_transactions.specs.declared.fault.PermitFault.TheVariants.{Memory, NumberFull}
 use Rattle.phase_transactions.specs.declared.taken.Taken.{Taken}
 use Rattle.phase_transactions.specs.inner.Deeds.{first_dealt, second_dealt, clocks_of, found_on, acts_for, event_with, AreDeedsOf, AreGoodOn, footprint_on}
 use Rattle.phase_transactions.specs.inner.HeldShards.{IsAsTaken}

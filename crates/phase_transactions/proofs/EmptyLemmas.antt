@@ -16,8 +16,8 @@ use Rattle.phase_transactions.specs.Performing.{HasCommitted, HasCommittedSome, 
 use Rattle.phase_transactions.specs.Putting.{HasPutAll}
 use Rattle.phase_transactions.specs.Txns.{clock_found, hot_of, takes, greatest_clock, is_put_off}
 use Rattle.phase_transactions.specs.Workers.{WorkerState, IsIdle, setting_of, hot_txn, nothing, after_commit}
-use Rattle.phase_transactions.specs.declared.done.PermitFault.{PermitFault}
-use Rattle.phase_transactions.specs.declared.done.PermitFault.TheVariants.{Memory, NumberFull}
+use Rattle.phase_transactions.specs.declared.fault.PermitFault.{PermitFault}
+use Rattle.phase_transactions.specs.declared.fault.PermitFault.TheVariants.{Memory, NumberFull}
 use Rattle.phase_transactions.specs.inner.Storing.{HasStoredOrIsFull}
 use Rattle.phase_transactions.specs.inner.Takens.{each_once, footprint_of, is_one_of, no_line}
 use Rattle.worker_slices.specs.{Homes.{IsHotStore, shard_at}, Slicing.{hot_objects, stocks_of}}

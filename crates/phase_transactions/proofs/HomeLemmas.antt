@@ -1,6 +1,6 @@
 -- The footprint of a request is the shards among the homes of its objects.
-use Rattle.std.proofs.Common.{◌≡◌, ◌≢◌, ℕ, ◌==◌, ◌||◌, not, Bool, true, false, cond, if◌then◌else◌, List, [], ◌∷◌, map, filter, Some, None, is_some, refl, sym, ap, ◌∙◌, ◌⊎◌, inl, inr}
-use Rattle.std.{proofs.lemmas.Bool.Decides.{eqb_tells}, specs.List.{list_any}}
+use Rattle.std.proofs.Common.{◌≡◌, ◌≢◌, ℕ, ◌<◌, ◌==◌, ◌||◌, not, Bool, true, false, cond, if◌then◌else◌, List, [], ◌∷◌, map, filter, Option, Some, None, is_some, refl, sym, ap, subst, ◌∙◌, ◌⊎◌, inl, inr}
+use Rattle.std.{proofs.lemmas.{Bool.Decides.{eqb_tells}, Option.{same_Some}}, specs.List.{AllByRecursion, list_any}}
 use Rattle.auction_rows.specs.{Refusals.{number_refusal}, Requests.{shard_of}}
 use Rattle.auction_rows.specs.declared.replies.Reply.TheVariants.{ItemStored}
 use Rattle.auction_rows.specs.declared.requests.{Object.Object, Request.Request}
@@ -73,3 +73,21 @@ asked w shards request r none is t =
 pub no_other : (b : Bool) → (b || (false || false)) ≡ false → b ≡ false
 no_other true is = is
 no_other false is = refl
+
+-- each shard of a footprint is one of the phase
+known_if : (n a b : ℕ) (same : Bool) → a < n → b < n → AllByRecursion (λ s. s < n) (if same then a ∷ [] else a ∷ b ∷ [])
+known_if n a b true first second = (first, tt)
+known_if n a b false first second = (first, (second, tt))
+
+pub each_known : (n : ℕ) (a b : Option ℕ) → ((s : ℕ) → a ≡ Some s → s < n) → ((s : ℕ) → b ≡ Some s → s < n) → AllByRecursion (λ s. s < n) (each_once a b)
+each_known n None None first second = tt
+each_known n None (Some b) first second = (second b refl, tt)
+each_known n (Some a) None first second = (first a refl, tt)
+each_known n (Some a) (Some b) first second = known_if n a b (a == b) (first a refl) (second b refl)
+
+-- a shard among the homes that is known
+pub shard_known : (n shard : ℕ) → shard < n → (s : ℕ) → Some shard ≡ Some s → s < n
+shard_known n shard known s is = subst (λ t. t < n) (same_Some shard s is) known
+
+pub none_known : (n s : ℕ) → None ≡ Some s → s < n
+none_known n s is = absurd (cc)

@@ -3,7 +3,7 @@ use Rattle.std.proofs.Common.{◌≡◌, ◌↔◌, ℕ, suc, max, ◌≤◌, Bo
 use Rattle.std.proofs.{Math.Nat.{lt_of_not-le}, lemmas.{Bool.{true≢false}, Option.{same_Some}}}
 use Rattle.std.specs.Prelude.{IsNone, IfNone, IfSome, IfOk, IfErr, if◌then◌else◌, nat_lt}
 use Rattle.item_shards.specs.CommitNumbers.{last_number, next_number}
-use Rattle.phase_transactions.specs.declared.done.PermitFault.TheVariants.{NumberFull}
+use Rattle.phase_transactions.specs.declared.fault.PermitFault.TheVariants.{NumberFull}
 
 chosen : (b : Bool) (m n : ℕ) → Some n ≡ (if b then Some (suc m) else None) → n ≡ suc m
 chosen true m n is = same_Some n (suc m) is

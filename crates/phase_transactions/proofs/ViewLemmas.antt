@@ -7,7 +7,7 @@ use Rattle.auction_rows.specs.Requests.{is_view, shard_of}
 use Rattle.auction_rows.specs.declared.replies.Reply.TheVariants.{Refused}
 use Rattle.auction_rows.specs.declared.requests.Object.TheVariants.{Item, User, Category}
 use Rattle.auction_rows.specs.declared.requests.Request.TheVariants.{ViewItem, ViewBids, ViewCategory, ViewUser}
-use Rattle.auction_rows.specs.declared.{requests.Facts.Facts, requests.Object.Object, requests.Request.Request, replies.Reply.Reply}
+use Rattle.auction_rows.specs.declared.{requests.Object.Object, requests.Request.Request, replies.Reply.Reply}
 use Rattle.item_shards.specs.{Contents.{target}, Looking.{IsTrueOf}}
 use Rattle.item_shards.specs.{ShardContents.{clock, contents, LiesIn}, Writing.{padded, done_on}}
 use Rattle.item_shards.specs.declared.shard.acts.Act.TheVariants.{Look}
@@ -22,20 +22,19 @@ use Rattle.worker_slices.specs.declared.{homes.Homes.{Homes}, slices.Hot.{Hot}}
 use Rattle.worker_slices.specs.declared.homes.Home.TheVariants as home
 use Rattle.phase_transactions.proofs.{BegunLemmas.{begun_commits}, DeedLemmas.{done_is, one_owed}}
 use Rattle.phase_transactions.proofs.GoodLemmas.{home_number}
-use Rattle.phase_transactions.proofs.HomeLemmas.{same_objects_of, no_other}
+use Rattle.phase_transactions.proofs.HomeLemmas.{asked, asks_one, asks_other, same_objects_of, no_other}
 use Rattle.phase_transactions.specs.Performing.{HasCommittedSome, HaveOpening}
 use Rattle.phase_transactions.specs.Putting.{HasPutAll}
 use Rattle.phase_transactions.specs.Txns.{IsReplyTo, IsAnswered, is_put_off, reason_seen, refusal_seen, ReadSet}
 use Rattle.phase_transactions.specs.Workers.{WorkerState, setting_of, txn_of, with_entry, after_commit}
-use Rattle.phase_transactions.specs.declared.{deeds.{Deeds.{Deeds}, Viewed.{Viewed}}, taken.Begun.{Begun}}
+use Rattle.phase_transactions.specs.declared.{asked.Viewed.{Viewed}, deeds.Deeds.{Deeds}, taken.Begun.{Begun}}
 use Rattle.phase_transactions.specs.declared.taken.{BegunOne.{BegunOne}, Taken.{Taken}}
-use Rattle.phase_transactions.specs.inner.Begun.{Step, begun_of, CanView, HasBegun, HasBegunSome, look_for, viewed}
+use Rattle.phase_transactions.specs.inner.Begun.{Step, begun_of, CanView, HasBegun, HasBegunSome, MayBeginOn, look_for, viewed}
 use Rattle.phase_transactions.specs.inner.Deeds.{AreDeedsOf, AreGoodOn, acts_for, found_on, event_with, first_dealt, second_dealt, shown_with}
-use Rattle.phase_transactions.specs.inner.{HeldShards.{IsAsTaken, IsHeldFor}, Homes.{AreHomesOf}}
+use Rattle.phase_transactions.specs.inner.{HeldShards.{IsHeldFor}, Homes.{AreHomesOf}}
 use Rattle.phase_transactions.specs.inner.Takens.{each_once, footprint_of, held_in, numbers_of, is_one_of, dealt, line_among}
-use Rattle.phase_transactions.specs.inner.Viewing.{view_request}
-use Rattle.phase_transactions.specs.declared.taken.Taken.TheVariants as taken
-use Rattle.phase_transactions.specs.declared.deeds.Viewed.TheVariants as asks
+use Rattle.phase_transactions.specs.inner.Asking.{homes_viewed, view_request}
+use Rattle.phase_transactions.specs.declared.asked.Viewed.TheVariants as asks
 
 -- the home of the object that is viewed
 record IsOnlyHome (hots : List (Object × Hot)) (shards : ℕ) (homes : Homes) (object : Object) (h : Home) : Type 0 where
@@ -112,30 +111,56 @@ view_entered w number index (ViewCategory category) reply view = refl
 view_entered w number index (ViewUser user) reply view = refl
 view_entered w number index request reply view = absurd (false≢true view)
 
--- one shard was taken, and can show what a view asks for
-abbrev IsOnOne : {N : Type 0} → Request → Taken N → Type 0
-IsOnOne request taken.Nothing = ⊥
-IsOnOne request (taken.One one) = CanView one.shard request
-IsOnOne request (taken.Two one other) = ⊥
+-- a view may begin over the shard in which its object lies
+cold_at : (hots : List (Object × Hot)) (shards shard : ℕ) (a object : Object) → Some a ≡ Some object → is_hot (hot_objects hots) a ≡ false
+    → ((some : List (Object × Hot)) → is_hot (hot_objects some) object ≡ false → IsHomeOf some shards object (home.Shard shard)) → IsHomeOf hots shards a (home.Shard shard)
+cold_at hots shards shard a object is cold at =
+    let same : a ≡ object = same_Some a object is in
+    subst (λ o. IsHomeOf hots shards o (home.Shard shard)) (sym same) (at hots (subst (λ o. is_hot (hot_objects hots) o ≡ false) same cold))
 
-one_long : {N : Type 0} (request : Request) (took : Taken N) → IsOnOne request took → length (held_in took) ≡ 1
-one_long request taken.Nothing can = absurd can
-one_long request (taken.One one) can = refl
-one_long request (taken.Two one other) can = absurd can
+pub view_begins : (w : WorkerState) (shards : ℕ) (v : Viewed) (shard : ℕ) (object : Object) → viewed (view_request v) ≡ Some object → number_refusal w.opening (view_request v) ≡ None → is_put_off (hot_objects w.slices) (view_request v) ≡ false
+    → ((hots : List (Object × Hot)) → is_hot (hot_objects hots) object ≡ false → IsHomeOf hots shards object (home.Shard shard)) → MayBeginOn shards w (view_request v) (homes_viewed v shard) shard
+view_begins w shards (asks.Item item) shard object is allowed goes at =
+    let here = cold_at w.slices shards shard (Item item) object is (no_other _ goes) at in record {
+      may = record { allowed = allowed; goes = goes; homes_are = (here, refl); asked = λ t. asked w shards (ViewItem item) _ allowed refl t ∙ asks_one shards w.slices (Item item) (home.Shard shard) here t };
+      only = refl;
+    }
+view_begins w shards (asks.Bids item) shard object is allowed goes at =
+    let here = cold_at w.slices shards shard (Item item) object is (no_other _ goes) at in record {
+      may = record { allowed = allowed; goes = goes; homes_are = (here, refl); asked = λ t. asked w shards (ViewBids item) _ allowed refl t ∙ asks_one shards w.slices (Item item) (home.Shard shard) here t };
+      only = refl;
+    }
+view_begins w shards (asks.Category category) shard object is allowed goes at =
+    let here = cold_at w.slices shards shard (Category category) object is (no_other _ goes) at in record {
+      may = record { allowed = allowed; goes = goes; homes_are = (refl, here); asked = λ t. asked w shards (ViewCategory category) _ allowed refl t ∙ asks_other shards w.slices (Category category) (home.Shard shard) here t };
+      only = refl;
+    }
+view_begins w shards (asks.User user) shard object is allowed goes at =
+    let here = cold_at w.slices shards shard (User user) object is (no_other _ goes) at in record {
+      may = record { allowed = allowed; goes = goes; homes_are = (refl, here); asked = λ t. asked w shards (ViewUser user) _ allowed refl t ∙ asks_other shards w.slices (User user) (home.Shard shard) here t };
+      only = refl;
+    }
 
--- a transaction with its one shard
-module _ {N : Type 0} (b : Begun N) (one : BegunOne N) (is : b ≡ begun_of one) where
-  pub key_of_one : one.key.value ≡ b.key.value
-  key_of_one = ap (λ (of : Begun N). of.key.value) (sym is)
+-- its one shard can show what it asks for
+pub can_view : {N : Type 0} (step : Step) (w : WorkerState) (request : Request) (one : BegunOne N) → HasBegun step w request (begun_of one) → is_view request ≡ true → HaveOpening step.initial w.opening → CanView one.held.shard request
+can_view step w request one begun view openings =
+    let held = one.held in let taken = begun.taken.taken.0 in
+    let shown = shows_one request view in let object = shown.0 in
+    let its_home = only_home w (length step.initial) request step.homes object shown.1 begun.may.goes begun.may.homes_are in
+    let its_shard = shard_cold w.slices (length step.initial) object its_home.0 its_home.1.at its_home.1.cold in
+    let numbers : held.number ∷ [] ≡ its_shard.0 ∷ [] = begun.taken.numbers ∙ its_home.1.only its_shard.0 its_shard.1 in
+    let number : held.number ≡ its_shard.0 = (cc) in
+    let lies : LiesIn held.shard object =
+    ap (shard_of object) taken.shards_is ∙ sym (home_number w.slices (length step.initial) its_shard.0 object its_home.0 its_home.1.at its_shard.1) ∙ sym number ∙ sym taken.number_is in
+    record {
+      here = λ other is. subst (LiesIn held.shard) (same_Some object other (sym shown.1 ∙ is)) lies;
+      allowed = subst (λ start. number_refusal start request ≡ None) (sym (taken.opening_is ∙ openings held.number taken.known)) begun.may.allowed;
+    }
 
-  pub can_view : (request : Request) → IsOnOne request b.taken → CanView one.held.shard request
-  can_view request on = subst (λ (of : Begun N). IsOnOne request of.taken) is on
-
-  pub begun_on_one : {step : Step} {w : WorkerState} {request : Request} → HasBegun step w request b → b.key.value ≡ step.key → HasBegunSome step.initial step.workers step.boxes w request (begun_of one)
-  begun_on_one {step} {w} {request} begun key_is = (
-    step.homes,
-    subst (λ (k : KeyState). HasBegun (record step { key = k }) w request (begun_of one)) (sym (key_of_one ∙ key_is)) (subst (HasBegun step w request) is begun),
-  )
+-- it has begun with the key that it remembers
+pub begun_some : {N : Type 0} {step : Step} {w : WorkerState} {request : Request} (one : BegunOne N) → HasBegun step w request (begun_of one) → one.key.value ≡ step.key
+    → HasBegunSome step.initial step.workers step.boxes w request (begun_of one)
+begun_some {N} {step} {w} {request} one begun key_is = (step.homes, subst (λ (k : KeyState). HasBegun (record step { key = k }) w request (begun_of one)) (sym key_is) begun)
 
 -- its shard can go back with a line
 pub one_held : {N : Type 0} {step : Step} {w : WorkerState} {request : Request} (one : BegunOne N) → HasBegun step w request (begun_of one) → IsHeldFor step.initial w.key one.held one.number
@@ -178,23 +203,6 @@ module _ {N : Type 0} (step : Step) (w : WorkerState) (request : Request) (b : B
 
   abbrev n : ℕ
   n = its_shard.0
-
-  -- it took one shard, which can show what it asks for
-  pub on_one : HaveOpening initial w.opening → IsOnOne request took
-  on_one openings = go took begun.taken.taken (begun.taken.numbers ∙ its_home.1.only n its_shard.1) where
-    go : (its : Taken N) → AllByRecursion (IsAsTaken initial step.workers w.key) (held_in its) → numbers_of (held_in its) ≡ n ∷ [] → IsOnOne request its
-    go (taken.One one) all numbers =
-        let number : one.number ≡ n = (cc) in
-        let lies : LiesIn one.shard object =
-        ap (shard_of object) all.0.shards_is ∙ sym (home_number w.slices (length initial) n object h its_home.1.at its_shard.1) ∙ sym number ∙ sym all.0.number_is in
-        record {
-          here = λ other is. subst (LiesIn one.shard) (same_Some object other (sym (shows_one request view).1 ∙ is)) lies;
-          allowed = subst (λ start. number_refusal start request ≡ None) (sym (all.0.opening_is ∙ openings one.number all.0.known)) begun.may.allowed;
-        }
-    go its all numbers = absurd (cc)
-
-  pub took_one : HaveOpening initial w.opening → length (held_in took) ≡ 1
-  took_one openings = one_long request took (on_one openings)
 
   -- what it did is a commit
   view_answered : (index : ℕ) (reply : Reply) (found : ReadSet) → ((counters : Counters) (worker : ℕ) → IsReplyTo counters worker request reply) → IsAnswered (setting_of w (length initial)) w.counters (txn_of w number request index reply found)

@@ -1,18 +1,19 @@
 -- What becomes of a request.
-use Rattle.std.specs.Prelude.{◌≡◌, ℕ, suc, max, ◌<◌, ◌≤◌, Bool, true, false, List, [], length, Some, None, Result, Ok, Err, ⊤, slice_get}
+use Rattle.std.specs.Prelude.{◌≡◌, ℕ, suc, max, ◌<◌, ◌≤◌, Bool, false, List, length, None, Result, Ok, Err, ⊤}
 use Rattle.phase_laws.specs.Numbers.{greatest_by}
 use Rattle.auction_rows.specs.{Footprint.{footprint, takes_shard}, Refusals.{number_refusal}}
 use Rattle.auction_rows.specs.declared.replies.Reply.TheVariants.{ItemStored}
-use Rattle.auction_rows.specs.declared.requests.Request.TheVariants.{StoreItem}
+use Rattle.auction_rows.specs.declared.requests.Request.TheVariants.{StoreItem, StoreComment}
 use Rattle.auction_rows.specs.declared.{values.Opening.Opening, requests.Request.Request, replies.Reply.Reply, rows.Entry.Entry}
 use Rattle.item_shards.specs.CommitNumbers.{last_number}
 use Rattle.shard_boxes.specs.{Keys.{BoxId, KeyState, seat_at}, States.{ShardState, state_at}}
 use Rattle.phase_transactions.specs.Putting.{HasPutAll, clock_seen, HasSameLines}
 use Rattle.phase_transactions.specs.Txns.{Setting, Txn, hot_of, txn_number, takes, line_on, greatest_clock, is_put_off, IsAnswered, ReadSet}
-use Rattle.phase_transactions.specs.Workers.{WorkerState, setting_of, next_entry, next_item, txn_of, hot_txn, after_commit, after_putting_off, with_first_unstashed, IsIdle}
-use Rattle.phase_transactions.specs.declared.done.Done.{TheVariants.{Committed, Stashed}, Done}
-use Rattle.phase_transactions.specs.declared.done.PermitFault.{PermitFault}
-use Rattle.phase_transactions.specs.declared.done.PermitFault.TheVariants.{Memory, NumberFull}
+use Rattle.phase_transactions.specs.Workers.{WorkerState, setting_of, next_entry, next_item, txn_of, hot_txn, after_commit, IsIdle}
+use Rattle.phase_transactions.specs.declared.asked.HotStore.{TheVariants.{Bid, Comment}, HotStore}
+use Rattle.phase_transactions.specs.declared.fault.PermitFault.{PermitFault}
+use Rattle.phase_transactions.specs.declared.fault.PermitFault.TheVariants.{Memory, NumberFull}
+use Rattle.request_scripts.specs.Scripts.{request_of}
 use Rattle.worker_slices.specs.Slicing.{hot_objects}
 
 -- the shards of a phase are those of an auction with as many users and categories
@@ -73,6 +74,11 @@ pub record HasStored (old new : WorkerState) (request : Request) (index : ℕ)
 abbrev pub HasStoredSome : WorkerState → WorkerState → Request → ℕ → Type 0
 HasStoredSome old new request index = (answer : Reply) × HasStored old new request index answer
 
+-- a store on hot objects, as a request
+abbrev pub hot_request : HotStore → Request
+hot_request (Bid bid) = request_of bid
+hot_request (Comment author about item stars) = StoreComment author about item stars
+
 -- the entry of a request, of which the objects are looked at alone: an item to be stored has the
 -- worker's next id
 abbrev pub entry_asked : WorkerState → Request → Entry
@@ -127,45 +133,3 @@ abbrev pub HasPerformed : List ShardState → WorkerState → WorkerState → Re
 HasPerformed initial old new request index (Ok done) =
     HasCommittedSome initial old new request index
 HasPerformed initial old new request index (Err fault) = HasFailed initial old new request fault
-
--- The request waits for the next joined phase.
-pub record HasPutOff (old new : WorkerState) (request : Request) (index : ℕ) : Type 0 where
-  -- it is stashable, and touches what is hot
-  pub put_off : is_put_off (hot_objects old.slices) request ≡ true
-  -- it waits in the stash, and one of the quota is used
-  pub worker : new ≡ after_putting_off old index request
-
--- what a split permit did with a request
-abbrev pub HasDealtWith : List ShardState → WorkerState → WorkerState → Request → ℕ → Done → Type 0
-HasDealtWith initial old new request index (Committed reply) =
-    HasCommitted initial old new request index reply
-HasDealtWith initial old new request index Stashed = HasPutOff old new request index
-
--- what a split permit did with a request whose reply is left in the journal
-abbrev pub HasDealt : List ShardState → WorkerState → WorkerState → Request → ℕ → Bool → Type 0
-HasDealt initial old new request index true = HasCommittedSome initial old new request index
-HasDealt initial old new request index false = HasPutOff old new request index
-
--- a request that takes no shard leaves the key
-abbrev pub IsUntouched : ℕ → WorkerState → WorkerState → Request → Type 0
-IsUntouched shards old new request = shards_asked shards old request ≡ [] → new.key ≡ old.key
-
--- the first stashed request was committed as one of the quota, into which it was taken
-pub record HasPerformedFirst (initial : List ShardState) (old new : WorkerState)
-    (answer : Reply) : Type 0 where
-  pub index : ℕ
-  pub request : Request
-  pub first : slice_get old.stash.requests 0 ≡ Some (index, request)
-  pub committed : HasCommitted initial (with_first_unstashed old) new request index answer
-
--- the first stashed request was not performed, for its cause: it waits as before
-pub record HasFailedFirst (initial : List ShardState) (old new : WorkerState)
-    (fault : PermitFault) : Type 0 where
-  pub index : ℕ
-  pub request : Request
-  pub first : slice_get old.stash.requests 0 ≡ Some (index, request)
-  pub failed : HasFailed initial old new request fault
-
--- the first stashed request was committed with some reply
-abbrev pub HasPerformedFirstSome : List ShardState → WorkerState → WorkerState → Type 0
-HasPerformedFirstSome initial old new = (answer : Reply) × HasPerformedFirst initial old new answer

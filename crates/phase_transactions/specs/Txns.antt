@@ -126,7 +126,7 @@ IsReplyTo counters worker (ViewBids item) reply = SuitsBids reply
 IsReplyTo counters worker (ViewCategory category) reply = ⊤
 IsReplyTo counters worker (ViewUser user) reply = ⊤
 
--- the first reason that a permit itself gives: views of items are refused by their shards
+-- the first reason that a worker itself gives: views of items are refused by their shards
 abbrev pub reason_seen : Setting → Txn → Option Refusal
 reason_seen z txn =
     let request = (entry_of txn).request in

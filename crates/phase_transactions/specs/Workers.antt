@@ -1,5 +1,5 @@
 -- A worker in a phase.
-use Rattle.std.specs.Prelude.{◌≡◌, ℕ, suc, ◌+◌, ◌-◌, ◌<◌, ◌≤◌, Bool, true, false, List, [], ◌∷◌, ◌++◌, Option, None, length, option_map, slice_get, ⊤}
+use Rattle.std.specs.Prelude.{◌≡◌, ℕ, suc, ◌+◌, ◌-◌, ◌<◌, ◌≤◌, true, false, List, [], ◌∷◌, ◌++◌, Option, None, length, option_map, slice_get, ⊤}
 use Rattle.phase_laws.specs.Numbers.{last_by}
 use Rattle.auction_rows.specs.{Footprint.{is_hot}, Replies.{row_of}}
 use Rattle.auction_rows.specs.declared.requests.Object.TheVariants.{Item}
@@ -40,10 +40,6 @@ pub record WorkerState : Type 0 where
 -- the phase with so many shards
 abbrev pub setting_of : WorkerState → ℕ → Setting
 setting_of w shards = record { opening = w.opening; shards = shards; stocks = stocks_of w.slices }
-
--- the object is one of the slices'
-abbrev pub IsHot : WorkerState → Object → Type 0
-IsHot w object = is_hot (hot_objects w.slices) object ≡ true
 
 -- the id of a worker's next item
 abbrev pub next_item : WorkerState → ItemId
@@ -136,11 +132,6 @@ with_first_unstashed w = record w { stash = without_first w.stash; left = w.left
 -- the worker after one try more
 abbrev pub with_try : WorkerState → WorkerState
 with_try w = record w { tries = w.tries + 1 }
-
--- there are none in a joined phase
-abbrev pub IsEmptyIf : {A : Type 0} → Bool → List A → Type 0
-IsEmptyIf true items = items ≡ []
-IsEmptyIf false items = ⊤
 
 -- the key holds no shard
 abbrev pub IsIdle : KeyState → Type 0

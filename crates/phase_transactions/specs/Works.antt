@@ -46,7 +46,7 @@ pub record Explains (z : Setting) (worker : ℕ) (work : Work) (txns : List Txn)
   -- the slices are those of the rows that they add
   pub sliced : work.slices ≡ slices_of z.stocks (rows_of work.entries)
 
--- What a permit and its receipt keep: there are transactions that explain the worker's work.
+-- What a worker keeps between two requests: there are transactions that explain its work.
 pub record IsWorkOf (z : Setting) (worker : ℕ) (work : Work) : Type 0 where
   pub txns : List Txn
   pub explained : Explains z worker work txns

@@ -1,4 +1,5 @@
 -- What no contract of a public function names.
+pub mod Asking
 pub mod Begun
 pub mod Deeds
 pub mod Homes

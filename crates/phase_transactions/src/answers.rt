@@ -1,22 +1,22 @@
 //! What a store is answered, by what it sees of the item that it needs, and what a view shows.
-ghost use Rattle.std.specs.Prelude.{◌≡◌, ℕ, None, Some, false};
-ghost use Rattle.auction_rows.specs.{ItemViews.{item_told}, Requests.{is_view, item_of}};
+ghost use Rattle.std.specs.Prelude.{◌≡◌, ℕ, None, Some, MatchOption};
+ghost use Rattle.auction_rows.specs.{ItemViews.{item_told}, Requests.{item_of}};
 ghost use Rattle.auction_rows.specs.StoreReplies.{reply_of};
+ghost use Rattle.auction_rows.specs.declared.replies.Reply.TheVariants.{Refused};
 ghost use Rattle.auction_rows.specs.declared.requests.Request.TheVariants.{ViewItem};
-ghost use Rattle.auction_rows.specs.declared.requests.BidEntry.{BidEntry as BidEntryValue};
 ghost use Rattle.auction_rows.specs.declared.requests.ItemId.{ItemId as ItemIdValue};
 ghost use Rattle.auction_rows.specs.declared.requests.Object.{Object as ObjectValue};
-ghost use Rattle.item_shards.specs.{Answering.{bid_request}, Looking.{IsTrueOf}};
+ghost use Rattle.item_shards.specs.Looking.{IsTrueOf};
 ghost use Rattle.item_shards.specs.ShardContents.{contents};
 ghost use Rattle.item_shards.specs.declared.shard.acts.Look.TheVariants as look;
 ghost use Rattle.worker_slices.specs.{Homes.{IsHomeOf, shard_at}, Slicing.{stocks_of, stock_of}};
 ghost use Rattle.worker_slices.specs.declared.counters.Counters.{Counters as CountersValue};
 ghost use Rattle.phase_transactions.specs.Txns.{IsReplyTo};
 ghost use Rattle.phase_transactions.specs.inner.Begun.{CanView, FirstHas, IsRefusedBy, look_for};
-ghost use Rattle.phase_transactions.specs.inner.Deeds.{IsReplyUnless, shown_with};
-ghost use Rattle.phase_transactions.specs.inner.{Homes.{HasHomes}, Viewing.{IsShownBy, view_request}};
+ghost use Rattle.phase_transactions.specs.inner.Asking.{store_request, view_request};
+ghost use Rattle.phase_transactions.specs.inner.{Deeds.{shown_with}, Homes.{HasHomes}, Viewing.{IsShownBy}};
 
-use crate::deeds::Viewed;
+use crate::asked::{Stored, Viewed};
 use crate::taken::{Taken, refusal_in};
 use crate::worker::Worker;
 use auction_rows::{
@@ -60,41 +60,35 @@ impl<N: PhaseName> Worker<N> {
         }
     }
 
-    /// The reply to a bid: the reason to refuse it, or else the worker's next id.
+    /// The reply to a store that is no bid, if it is accepted: the worker's next id of the kind.
     #[inline(always)]
-    pub(crate) fn reply_to_bid(&self, refused: Option<Refusal>) -> StoreReply
-        ensures { (item : ItemIdValue) → (bid : BidEntryValue) →
-            IsReplyUnless self.now refused (bid_request item bid) (reply_of result) }
+    pub(crate) fn due(&self, stored: &Stored<'_>) -> StoreReply
+        ensures { IsReplyTo self.now.counters self.now.journal.worker
+            (store_request stored.now) (reply_of result) }
     {
-        match refused {
-            Some(reason) => StoreReply::Refused(reason),
-            None => StoreReply::BidStored(self.next_bid()),
-        }
-    }
-
-    /// The reply to a store: the reason to refuse it, or else the worker's next id of the kind.
-    #[inline(always)]
-    pub(crate) fn reply(&self, refused: Option<Refusal>, request: &Request) -> StoreReply
-        requires store { is_view request.now ≡ false }
-        ensures { IsReplyUnless self.now refused request.now (reply_of result) }
-    {
-        if let Some(reason) = refused {
-            return StoreReply::Refused(reason);
-        }
         let worker = self.worker;
-        match *request {
-            Request::StoreItem { .. } => StoreReply::ItemStored(self.next_item()),
-            Request::StoreBid { .. } => StoreReply::BidStored(self.next_bid()),
-            Request::StoreComment { .. } => StoreReply::CommentStored(CommentId {
+        match stored {
+            Stored::Item(..) => StoreReply::ItemStored(self.next_item()),
+            Stored::Comment(..) => StoreReply::CommentStored(CommentId {
                 worker,
                 serial: self.counters.comments,
             }),
-            Request::BuyNow { .. } => StoreReply::Bought(BuyId {
+            Stored::Buy(..) => StoreReply::Bought(BuyId {
                 worker,
                 serial: self.counters.buys,
             }),
-            _ => unreachable!(),
         }
+    }
+}
+
+/// The reply to a store: the reason to refuse it, or else the one that is due.
+#[inline(always)]
+pub(crate) fn reply_unless(refused: Option<Refusal>, due: StoreReply) -> StoreReply
+    ensures { MatchOption refused (result ≡ due) (λ reason. reply_of result ≡ Refused reason) }
+{
+    match refused {
+        Some(reason) => StoreReply::Refused(reason),
+        None => due,
     }
 }
 

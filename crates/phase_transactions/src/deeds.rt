@@ -1,21 +1,15 @@
 //! What a store does on the shards that it takes.
-ghost use Rattle.std.specs.Prelude.{◌≡◌, ℕ, false, Option};
-ghost use Rattle.auction_rows.specs.{Requests.{is_view}, StoreReplies.{reply_of}};
+ghost use Rattle.std.specs.Prelude.{◌≡◌, ℕ, Option};
+ghost use Rattle.auction_rows.specs.StoreReplies.{reply_of};
 ghost use Rattle.auction_rows.specs.declared.requests.Facts.{Facts as FactsValue};
-ghost use Rattle.phase_transactions.specs.inner.Begun.{AreGoodFor, AreOwedBy, HaveFootprint, look_for};
-ghost use Rattle.phase_transactions.specs.inner.{Deeds.{acts_dealt, IsBid}, Viewing.{view_request}};
+ghost use Rattle.phase_transactions.specs.inner.Begun.{AreGoodFor, AreOwedBy, HaveFootprint};
+ghost use Rattle.phase_transactions.specs.inner.{Asking.{store_request}, Deeds.{acts_dealt}};
 
-use auction_rows::{ItemEntry, ItemId, Request, StoreReply};
+use crate::asked::{Call, Stored};
+use auction_rows::{ItemEntry, StoreReply};
 use item_shards::{Act, Look};
 use worker_journals::Answer;
 use worker_slices::{Home, Homes};
-
-/// A request of the quota, with its index in the script.
-#[derive(Clone, Copy)]
-pub(crate) struct Call<'a> {
-    pub(crate) request: &'a Request,
-    pub(crate) index: u32,
-}
 
 /// A store whose reply is known, with the homes of its objects.
 #[derive(Drop)]
@@ -23,30 +17,6 @@ pub(crate) struct Store<'a> {
     pub(crate) call: Call<'a>,
     pub(crate) homes: &'a Homes,
     pub(crate) reply: StoreReply,
-}
-
-/// What a view asks for.
-#[derive(Clone, Copy)]
-pub(crate) enum Viewed {
-    Item(ItemId),
-    Bids(ItemId),
-    Category(u32),
-    User(u32),
-}
-
-impl Viewed {
-    /// What the view looks at.
-    #[inline(always)]
-    pub(crate) fn look(self) -> Look
-        ensures { result ≡ look_for (view_request self) }
-    {
-        match self {
-            Viewed::Item(item) => Look::Item(item),
-            Viewed::Bids(item) => Look::Bids(item),
-            Viewed::Category(category) => Look::Category(category),
-            Viewed::User(user) => Look::User(user),
-        }
-    }
 }
 
 /// A view of the quota whose reply is known, with what it looks at.
@@ -69,14 +39,12 @@ pub(crate) struct Deeds {
 impl Deeds {
     /// The acts of a store with this reply that is no bid, whatever it saw of its item.
     #[inline]
-    pub(crate) fn of(request: &Request, reply: StoreReply, homes: &Homes) -> Deeds
-        requires store { is_view request.now ≡ false }
-        requires no_bid { ¬ IsBid request.now }
+    pub(crate) fn of(stored: &Stored<'_>, reply: StoreReply, homes: &Homes) -> Deeds
         ensures owed { (seen : Option (FactsValue × ℕ)) →
-            AreOwedBy request.now (reply_of reply) seen homes.now result }
+            AreOwedBy (store_request stored.now) (reply_of reply) seen homes.now result }
         ensures good { (seen : Option (FactsValue × ℕ)) →
-            AreGoodFor request.now (reply_of reply) seen homes.now result }
-        ensures footprint { HaveFootprint request.now homes.now result }
+            AreGoodFor (store_request stored.now) (reply_of reply) seen homes.now result }
+        ensures footprint { HaveFootprint (store_request stored.now) homes.now result }
     {
         let mut deeds = Deeds {
             first: Act::Look(Look::Nothing),
@@ -84,26 +52,21 @@ impl Deeds {
             home: homes.item,
             other: homes.other,
         };
-        match *request {
-            Request::StoreItem { facts, time } => {
+        match *stored {
+            Stored::Item(facts, time) => {
                 if let StoreReply::ItemStored(id) = reply {
                     let category = facts.category;
-                    deeds.first = Act::AddItem(id, facts);
+                    deeds.first = Act::AddItem(id, *facts);
                     deeds.second = Act::ListItem(category, ItemEntry { time, id });
                 }
             }
-            Request::StoreComment {
-                item,
-                about,
-                stars,
-                ..
-            } => {
+            Stored::Comment(_, about, item, stars) => {
                 deeds.first = Act::Look(Look::Facts(item));
                 if let StoreReply::CommentStored(_) = reply {
                     deeds.second = Act::Comment(about, stars);
                 }
             }
-            Request::BuyNow { item, quantity, .. } => {
+            Stored::Buy(_, item, quantity, _) => {
                 deeds.first = Act::Look(Look::Left(item));
                 // Both acts are on the item.
                 deeds.other = homes.item;
@@ -111,7 +74,6 @@ impl Deeds {
                     deeds.second = Act::Buy(item, quantity);
                 }
             }
-            _ => unreachable!(),
         }
         deeds
     }

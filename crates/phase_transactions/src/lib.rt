@@ -3,12 +3,14 @@
 #![tactic(auto)]
 
 mod answers;
+mod asked;
 mod deeds;
-mod done;
+mod fault;
 mod homes;
 mod taken;
 mod transaction;
 mod worker;
 
-pub use done::{Done, PermitFault};
+pub use asked::HotStore;
+pub use fault::PermitFault;
 pub use worker::{Worker, WorkerStart};

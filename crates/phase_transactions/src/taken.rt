@@ -1,6 +1,6 @@
 //! The shards that a transaction takes, its number, and how they go back with their lines.
 ghost use Rattle.std.specs.List.{AllByRecursion};
-ghost use Rattle.std.specs.Prelude.{◌≡◌, ◌<◌, ◌≤◌, suc, max, length, Some, IfNone, IfSome, IfOk};
+ghost use Rattle.std.specs.Prelude.{◌≡◌, ◌<◌, ◌≤◌, suc, max, [], ◌∷◌, length, Some, IfNone, IfSome, IfOk};
 ghost use Rattle.auction_rows.specs.Requests.{item_of};
 ghost use Rattle.auction_rows.specs.declared.requests.ItemId.{ItemId as ItemIdValue};
 ghost use Rattle.item_shards.specs.{Answering.{refusal_with}, CommitNumbers.{last_number}};
@@ -45,21 +45,19 @@ pub(crate) struct BegunOne<N: PhaseName> {
     pub(crate) key: Snapshot<Key<N>>,
 }
 
-impl<N: PhaseName> Begun<N> {
-    ghost use Rattle.phase_transactions.specs.inner.Begun.{begun_of};
-
-    /// The transaction with its one shard.
-    #[inline(always)]
-    pub(crate) fn one(self) -> BegunOne<N>
-        requires { length (held_in self.taken) ≡ 1 }
-        ensures { self ≡ begun_of result }
-    {
-        let Begun { taken, number, key } = self;
-        match taken {
-            Taken::One(held) => BegunOne { held, number, key },
-            _ => unreachable!(),
-        }
-    }
+/// Takes one shard.
+#[inline(always)]
+pub(crate) fn take_one<N: PhaseName, R: Wait>(
+    rt: &R,
+    boxes: &Boxes<N>,
+    key: &mut Key<N>,
+    shard: u32,
+) -> Held<N>
+    requires ready { IsReady boxes.now key.old }
+    requires known { shard < length N.initial }
+    ensures { HasTakenAll N.initial N.workers key.old key.new (shard ∷ []) (result ∷ []) }
+{
+    boxes.take(rt, key, shard)
 }
 
 /// Takes the shards of a footprint, in ascending order, each once.
@@ -77,8 +75,8 @@ pub(crate) fn take_all<N: PhaseName, R: Wait>(
 {
     match (homes.item.shard(), homes.other.shard()) {
         (None, None) => Taken::Nothing,
-        (Some(item), None) => Taken::One(boxes.take(rt, key, item)),
-        (None, Some(other)) => Taken::One(boxes.take(rt, key, other)),
+        (Some(item), None) => Taken::One(take_one(rt, boxes, key, item)),
+        (None, Some(other)) => Taken::One(take_one(rt, boxes, key, other)),
         (Some(item), Some(other)) if item < other => {
             let on_item = boxes.take(rt, key, item);
             let on_other = boxes.take(rt, key, other);
@@ -89,7 +87,7 @@ pub(crate) fn take_all<N: PhaseName, R: Wait>(
             let on_item = boxes.take(rt, key, item);
             Taken::Two(on_item, on_other)
         }
-        (Some(both), Some(_same)) => Taken::One(boxes.take(rt, key, both)),
+        (Some(both), Some(_same)) => Taken::One(take_one(rt, boxes, key, both)),
     }
 }
 
@@ -103,11 +101,22 @@ pub(crate) fn number_on<N: PhaseName>(taken: &Taken<N>, own: u64) -> Option<u64>
 {
     match taken {
         Taken::Nothing => next_number(own, 0),
-        Taken::One(one) => next_number(own, one.shard().clock()),
+        Taken::One(one) => number_with(one, own),
         Taken::Two(item, other) => {
             next_number(own.max(other.shard().clock()), item.shard().clock())
         }
     }
+}
+
+/// The number after a worker's clock and that of one shard, if there is one.
+#[inline(always)]
+pub(crate) fn number_with<N: PhaseName>(held: &Held<N>, own: u64) -> Option<u64>
+    ensures number { IfSome result (λ number.
+        number ≡ suc (max own (greatest_held (held.now ∷ [])))) }
+    ensures within { IfSome result (λ number. number ≤ last_number) }
+    ensures full { IfNone result (last_number ≤ max own (greatest_held (held.now ∷ []))) }
+{
+    next_number(own, held.shard().clock())
 }
 
 /// The first reason for which its item, which lies in the first of the shards, refuses a request.

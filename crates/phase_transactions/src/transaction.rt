@@ -4,14 +4,16 @@ ghost use Rattle.std.specs.Prelude.{◌≡◌, ◌<◌, ◌≤◌, ◌↔◌, su
 ghost use Rattle.auction_rows.specs.{Refusals.{number_refusal}, Requests.{is_view}};
 ghost use Rattle.auction_rows.specs.StoreReplies.{reply_of};
 ghost use Rattle.item_shards.specs.CommitNumbers.{last_number};
-ghost use Rattle.phase_transactions.specs.declared.done.PermitFault.TheVariants.{NumberFull};
-ghost use Rattle.phase_transactions.specs.inner.Deeds.{IsBid};
+ghost use Rattle.phase_transactions.specs.declared.fault.PermitFault.TheVariants.{NumberFull};
+ghost use Rattle.phase_transactions.specs.inner.Asking.{store_request, view_request};
 
-use crate::answers::{item_on, view_on};
-use crate::deeds::{Call, Deeds, Numbered, Store, View, Viewed};
-use crate::done::PermitFault;
+use crate::answers::{item_on, reply_unless, view_on};
+use crate::asked::{Asked, Call, HotStore, Stored, Viewed, bid_request};
+use crate::deeds::{Deeds, Numbered, Store, View};
+use crate::fault::PermitFault;
 use crate::taken::{
-    Begun, BegunOne, make_room, number_on, put_all, put_back, put_with_line, take_all,
+    Begun, BegunOne, Taken, make_room, number_on, number_with, put_all, put_back, put_with_line,
+    take_all, take_one,
 };
 use crate::worker::Worker;
 use auction_rows::{BidEntry, Refusal, Request, StoreReply, bidder_refusal, number_refusal};
@@ -21,17 +23,18 @@ use std::alloc::AllocError;
 use std::snapshot::Snapshot;
 use std::sync::Wait;
 use worker_journals::{Answer, BidRequest, ReplyForm};
-use worker_slices::Homes;
+use worker_slices::{Home, Homes};
 
 impl<N: PhaseName> Worker<N> {
     ghost use Rattle.auction_rows.specs.declared.requests.Request.{Request as RequestValue};
     ghost use Rattle.worker_slices.specs.{Homes.{IsHotStore, shard_at}, Slicing.{hot_objects}};
-    ghost use Rattle.phase_transactions.specs.Performing.{CanTransact, HasCommitted, HasCommittedSome, HasFailed, HasPerformed, HasStoredSome, HaveOpening, StoresItem};
-    ghost use Rattle.phase_transactions.specs.Txns.{is_put_off};
-    ghost use Rattle.phase_transactions.specs.inner.Begun.{step_of, begun_of, CanView, HasBegun, HasBegunSome, HasFirst, HasRoomFor, IsAnsweredBy, MayBegin, states_in};
-    ghost use Rattle.phase_transactions.specs.inner.{Homes.{HasHomes}, Storing.{HasStoredOrIsFull}};
+    ghost use Rattle.worker_slices.specs.declared.homes.Homes.{Homes as HomesValue};
+    ghost use Rattle.phase_transactions.specs.Performing.{hot_request, CanTransact, HasCommitted, HasCommittedSome, HasFailed, HasPerformed, HasStoredSome, HaveOpening, StoresItem};
+    ghost use Rattle.phase_transactions.specs.Txns.{is_put_off, IsReplyTo};
+    ghost use Rattle.phase_transactions.specs.inner.Begun.{step_of, begun_of, CanView, HasBegun, HasBegunSome, HasFirst, HasRoomFor, IsAnsweredBy, MayBegin, MayBeginOn, states_in};
+    ghost use Rattle.phase_transactions.specs.inner.Storing.{HasStoredOrIsFull};
     ghost use Rattle.phase_transactions.specs.inner.Takens.{footprint_of, IsReady};
-    ghost use Rattle.phase_transactions.specs.inner.Viewing.{IsShownBy, view_request};
+    ghost use Rattle.phase_transactions.specs.inner.Viewing.{IsShownBy};
     ghost use Rattle.request_scripts.specs.Scripts.{request_of};
 
     /// Performs a request of the quota that is not put off. After a fault nothing has changed but
@@ -47,30 +50,10 @@ impl<N: PhaseName> Worker<N> {
         ensures { HasPerformed N.initial self.old self.new request.now index result }
     {
         let call = Call { request, index };
-        match *request {
-            Request::StoreBid {
-                bidder,
-                item,
-                amount,
-                time,
-            } => {
-                let bid = BidRequest {
-                    bidder,
-                    item,
-                    amount,
-                    time,
-                };
-                self.transact_bid(rt, boxes, &bid, index)
-            }
-            Request::StoreItem { .. } | Request::StoreComment { .. } | Request::BuyNow { .. } => {
-                self.store(rt, boxes, request, index)
-            }
-            Request::ViewItem { item } => self.show(rt, boxes, call, Viewed::Item(item)),
-            Request::ViewBids { item } => self.show(rt, boxes, call, Viewed::Bids(item)),
-            Request::ViewCategory { category } => {
-                self.show(rt, boxes, call, Viewed::Category(category))
-            }
-            Request::ViewUser { user } => self.show(rt, boxes, call, Viewed::User(user)),
+        match Asked::of(request) {
+            Asked::Bid(bid) => self.bid(rt, boxes, call, &bid),
+            Asked::Store(stored) => self.store(rt, boxes, call, &stored),
+            Asked::View(viewed) => self.show(rt, boxes, call, viewed),
         }
     }
 
@@ -86,40 +69,54 @@ impl<N: PhaseName> Worker<N> {
         requires { CanTransact N.initial boxes.now self.old (request_of bid.now) }
         ensures { HasPerformed N.initial self.old self.new (request_of bid.now) index result }
     {
-        let entry = BidEntry {
-            amount: bid.amount,
-            time: bid.time,
-            id: self.next_bid(),
-            bidder: bid.bidder,
-        };
-        // The request is made anew: then the compiler knows its kind.
-        let request = &Request::StoreBid {
-            bidder: bid.bidder,
-            item: bid.item,
-            amount: bid.amount,
-            time: bid.time,
-        };
-        let call = Call { request, index };
+        let request = &bid_request(bid);
+        self.bid(rt, boxes, Call { request, index }, bid)
+    }
+
+    // Performs a bid. Inlined: where the request is made the compiler knows its kind.
+    #[inline(always)]
+    fn bid<R: Wait>(
+        &mut self,
+        rt: &R,
+        boxes: &Boxes<N>,
+        call: Call<'_>,
+        bid: &BidRequest,
+    ) -> Result<(), PermitFault>
+        requires asks { call.request.now ≡ request_of bid.now }
+        requires can { CanTransact N.initial boxes.now self.old call.request.now }
+        ensures { HasPerformed N.initial self.old self.new
+            call.entry.request.now call.entry.index result }
+    {
         if let Some(reason) = bidder_refusal(self.opening, bid.bidder) {
             return self.refuse(call, reason);
         }
-        let homes = self.homes(request);
-        if homes.item.shard().is_none() {
-            return self.store_hot(call, &homes);
-        }
+        let id = self.next_bid();
+        let home = self.bid_home(bid);
+        let Some(shard) = home.shard() else {
+            let homes = &Homes {
+                item: home,
+                other: Home::Nowhere,
+            };
+            return self.store_hot(call, homes, StoreReply::BidStored(id));
+        };
 
-        let begun = self.begin(rt, boxes, &homes)?;
-        let one = begun.one();
+        let one = self.begin_one(rt, boxes, shard)?;
         let BegunOne {
             mut held,
             number,
             key: _,
         } = one;
-        let (trace, refused) = held.bid(number, index, bid.item, entry);
+        let entry = BidEntry {
+            amount: bid.amount,
+            time: bid.time,
+            id,
+            bidder: bid.bidder,
+        };
+        let (trace, refused) = held.bid(number, call.index, bid.item, entry);
         boxes.put_acted(&mut self.key, held, trace);
         // The item is in a shard, so no slice is written.
         let answer = Answer {
-            form: ReplyForm::Store(self.reply_to_bid(refused)),
+            form: ReplyForm::Store(reply_unless(refused, StoreReply::BidStored(id))),
         };
         self.add_entry(number, call, &answer);
         Ok(())
@@ -130,23 +127,23 @@ impl<N: PhaseName> Worker<N> {
         &mut self,
         rt: &R,
         boxes: &Boxes<N>,
-        request: &Request,
-        index: u32,
+        call: Call<'_>,
+        stored: &Stored<'_>,
     ) -> Result<(), PermitFault>
-        requires store { is_view request.now ≡ false }
-        requires no_bid { ¬ IsBid request.now }
-        requires can { CanTransact N.initial boxes.now self.old request.now }
-        ensures { HasPerformed N.initial self.old self.new request.now index result }
+        requires asks { call.request.now ≡ store_request stored.now }
+        requires can { CanTransact N.initial boxes.now self.old call.request.now }
+        ensures { HasPerformed N.initial self.old self.new
+            call.entry.request.now call.entry.index result }
     {
-        let call = Call { request, index };
-
         // A store that the opening refuses takes no shard, nor does one on hot objects alone.
+        let request = call.request;
         if let Some(reason) = number_refusal(self.opening, *request) {
             return self.refuse(call, reason);
         }
-        let homes = self.homes(request);
+        let homes = self.homes(stored);
         if let (None, None) = (homes.item.shard(), homes.other.shard()) {
-            return self.store_hot(call, &homes);
+            let due = self.due(stored);
+            return self.store_hot(call, &homes, due);
         }
 
         // The shards are taken in ascending order, each once, before anything is read.
@@ -162,13 +159,13 @@ impl<N: PhaseName> Worker<N> {
         }
 
         let refused = self.refusal(&begun.taken, request, &homes);
-        let reply = self.reply(refused, request);
+        let reply = reply_unless(refused, self.due(stored));
         let store = Store {
             call,
             homes: &homes,
             reply,
         };
-        self.put_store(boxes, begun, &store);
+        self.put_store(boxes, begun, &store, stored);
         Ok(())
     }
 
@@ -203,6 +200,37 @@ impl<N: PhaseName> Worker<N> {
         }
     }
 
+    // Takes one shard, with the number after both clocks, or puts it back.
+    #[inline(always)]
+    fn begin_one<R: Wait>(
+        &mut self,
+        rt: &R,
+        boxes: &Boxes<N>,
+        shard: u32,
+    ) -> Result<BegunOne<N>, PermitFault>
+        requires ready { IsReady boxes.now self.old.key }
+        requires known { shard < length N.initial }
+        ensures worker { self.new ≡ record self.old { key = self.new.key } }
+        ensures key { IfOk result (λ one. one.key.value ≡ self.old.key) }
+        ensures begun { IfOk result (λ one. (request : RequestValue) → (homes : HomesValue) →
+            MayBeginOn (length N.initial) self.old request homes shard → HasBegun
+            (step_of N.initial N.workers boxes.now self.old.key homes)
+            self.new request (begun_of one)) }
+        ensures full { IfErr result (λ fault. (request : RequestValue) → (homes : HomesValue) →
+            MayBeginOn (length N.initial) self.old request homes shard →
+            HasFailed N.initial self.old self.new request fault) }
+    {
+        let key = Snapshot::of(&self.key);
+        let held = take_one(rt, boxes, &mut self.key, shard);
+        match number_with(&held, self.clock) {
+            Some(number) => Ok(BegunOne { held, number, key }),
+            None => {
+                put_back(boxes, &mut self.key, Taken::One(held));
+                Err(PermitFault::NumberFull)
+            }
+        }
+    }
+
     // Makes room for the item that a request stores, on the shard in which it will lie.
     #[inline(always)]
     fn prepare(&self, begun: &mut Begun<N>, request: &Request) -> Result<(), AllocError>
@@ -221,9 +249,14 @@ impl<N: PhaseName> Worker<N> {
 
     // Does a store's acts on the shards that were taken, puts these back, and commits it.
     #[inline]
-    fn put_store(&mut self, boxes: &Boxes<N>, begun: Begun<N>, store: &Store<'_>)
-        requires store { is_view store.now.call.request.now ≡ false }
-        requires no_bid { ¬ IsBid store.now.call.request.now }
+    fn put_store(
+        &mut self,
+        boxes: &Boxes<N>,
+        begun: Begun<N>,
+        store: &Store<'_>,
+        stored: &Stored<'_>,
+    )
+        requires asks { store.now.call.request.now ≡ store_request stored.now }
         requires opened { HaveOpening N.initial self.old.opening }
         requires begun { HasBegun
             (step_of N.initial N.workers boxes.now begun.key.value store.now.homes.now)
@@ -240,7 +273,7 @@ impl<N: PhaseName> Worker<N> {
             number,
             key: _,
         } = begun;
-        let deeds = Deeds::of(store.call.request, store.reply, store.homes);
+        let deeds = Deeds::of(stored, store.reply, store.homes);
         let acts = deeds.dealt();
         let index = store.call.index;
         let at = Numbered { number, index };
@@ -266,21 +299,26 @@ impl<N: PhaseName> Worker<N> {
     }
 
     /// Performs a store on objects with these homes, of which none is in a shard, that the opening
-    /// does not refuse. It takes no shard and no memory.
+    /// does not refuse: with this reply, if its item accepts it. It takes no shard and no memory.
     #[inline(always)]
-    pub(crate) fn store_hot(&mut self, call: Call<'_>, homes: &Homes) -> Result<(), PermitFault>
-        requires allowed { number_refusal self.old.opening call.request.now ≡ None }
+    pub(crate) fn store_hot(
+        &mut self,
+        call: Call<'_>,
+        homes: &Homes,
+        due: StoreReply,
+    ) -> Result<(), PermitFault>
+        requires may { MayBegin (length N.initial) self.old call.request.now homes.now }
         requires store { is_view call.request.now ≡ false }
-        requires goes { is_put_off (hot_objects self.old.slices) call.request.now ≡ false }
-        requires homes { HasHomes self.old call.request.now homes.now }
         requires hot { shard_at homes.now.item ≡ None }
+        requires due { IsReplyTo self.old.counters self.old.journal.worker
+            call.request.now (reply_of due) }
         requires left { 0 < self.old.left }
         ensures { HasStoredOrIsFull self.old self.new
             call.entry.request.now call.entry.index result }
     {
         let number = number_after(self.clock)?;
         let refused = refusal_with(&self.fixed(homes.item), call.request);
-        let reply = self.reply(refused, call.request);
+        let reply = reply_unless(refused, due);
         let store = Store { call, homes, reply };
         self.add_store(number, &store);
         Ok(())
@@ -288,21 +326,72 @@ impl<N: PhaseName> Worker<N> {
 
     /// Performs a store on hot objects alone: None exactly where the clock is at the end of
     /// numbers, and then nothing has changed. It takes no shard and no memory.
-    pub fn perform_hot(&mut self, request: &Request, index: u32) -> Option<()>
-        requires hot { IsHotStore self.old.slices request.now }
+    pub fn perform_hot(&mut self, store: HotStore, index: u32) -> Option<()>
+        requires hot { IsHotStore self.old.slices (hot_request store) }
         requires left { 0 < self.old.left }
         ensures none { IsNone result ↔ (last_number ≤ self.old.clock) }
         ensures unchanged { IfNone result (self.new ≡ self.old) }
-        ensures stored { IfSome result (λ done. HasStoredSome self.old self.new request.now index) }
+        ensures stored { IfSome result (λ done.
+            HasStoredSome self.old self.new (hot_request store) index) }
     {
-        let call = Call { request, index };
-        match number_refusal(self.opening, *request) {
-            Some(reason) => self.refuse(call, reason).ok(),
-            None => {
-                let homes = self.homes(request);
-                self.store_hot(call, &homes).ok()
+        match store {
+            HotStore::Bid(bid) => {
+                let request = &bid_request(&bid);
+                self.bid_hot(Call { request, index }, &bid).ok()
+            }
+            HotStore::Comment {
+                author,
+                about,
+                item,
+                stars,
+            } => {
+                let request = &Request::StoreComment {
+                    author,
+                    about,
+                    item,
+                    stars,
+                };
+                let stored = Stored::Comment(author, about, item, stars);
+                self.comment_hot(Call { request, index }, &stored).ok()
             }
         }
+    }
+
+    // Performs a bid on a hot item.
+    #[inline(always)]
+    fn bid_hot(&mut self, call: Call<'_>, bid: &BidRequest) -> Result<(), PermitFault>
+        requires asks { call.request.now ≡ request_of bid.now }
+        requires hot { IsHotStore self.old.slices call.request.now }
+        requires left { 0 < self.old.left }
+        ensures { HasStoredOrIsFull self.old self.new
+            call.entry.request.now call.entry.index result }
+    {
+        if let Some(reason) = bidder_refusal(self.opening, bid.bidder) {
+            return self.refuse(call, reason);
+        }
+        let home = self.bid_home(bid);
+        let homes = &Homes {
+            item: home,
+            other: Home::Nowhere,
+        };
+        self.store_hot(call, homes, StoreReply::BidStored(self.next_bid()))
+    }
+
+    // Performs a comment about a hot user, on the occasion of a hot item.
+    #[inline(always)]
+    fn comment_hot(&mut self, call: Call<'_>, stored: &Stored<'_>) -> Result<(), PermitFault>
+        requires asks { call.request.now ≡ store_request stored.now }
+        requires hot { IsHotStore self.old.slices call.request.now }
+        requires left { 0 < self.old.left }
+        ensures { HasStoredOrIsFull self.old self.new
+            call.entry.request.now call.entry.index result }
+    {
+        if let Some(reason) = number_refusal(self.opening, *call.request) {
+            return self.refuse(call, reason);
+        }
+        let homes = self.homes(stored);
+        let due = self.due(stored);
+        self.store_hot(call, &homes, due)
     }
 
     // Performs a view. Not inlined: other requests need none of its room on the stack.
@@ -323,9 +412,8 @@ impl<N: PhaseName> Worker<N> {
         if let Some(reason) = number_refusal(self.opening, *request) {
             return self.refuse(call, reason);
         }
-        let homes = self.homes(request);
-        let begun = self.begin(rt, boxes, &homes)?;
-        let one = begun.one();
+        let shard = self.shard_viewed(viewed);
+        let one = self.begin_one(rt, boxes, shard)?;
         if let Viewed::Item(item) = viewed {
             let seen = item_on(&one.held, item);
             let view = View {
@@ -343,13 +431,7 @@ impl<N: PhaseName> Worker<N> {
     // Shows what a view asks for on the shard that it took, by a whole reply. Not inlined: the view
     // of an item needs no room for one on the stack.
     #[inline(never)]
-    fn show_whole(
-        &mut self,
-        boxes: &Boxes<N>,
-        one: BegunOne<N>,
-        call: Call<'_>,
-        viewed: Viewed,
-    )
+    fn show_whole(&mut self, boxes: &Boxes<N>, one: BegunOne<N>, call: Call<'_>, viewed: Viewed)
         requires view { call.request.now ≡ view_request viewed }
         requires can { CanView one.held.shard call.request.now }
         requires begun { HasBegunSome N.initial N.workers boxes.now

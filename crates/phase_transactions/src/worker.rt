@@ -7,7 +7,8 @@ ghost use Rattle.worker_slices.specs.Slicing.{hot_objects, HaveAtMost};
 ghost use Rattle.phase_transactions.specs.{Txns.{is_put_off}, WorkerFields.{state_in, AreLawful}};
 ghost use Rattle.phase_transactions.specs.Workers.{WorkerState, CanStart, new_worker, next_bid, next_item, last_reply, with_try, after_putting_off, with_first_unstashed, with_entry, after_commit};
 
-use crate::deeds::{Call, Store};
+use crate::asked::Call;
+use crate::deeds::Store;
 use auction_rows::{BidId, ItemId, MOST_TRIES, Object, Opening, Reply, Request};
 use shard_boxes::{Key, MOST_COMMITS, PhaseName};
 use std::marker::Model;

@@ -4,7 +4,8 @@ use Rattle.std.proofs.lemmas.{List.{map-append, length-map}, Slice.Zip.{AllZip-l
 use Rattle.std.specs.List.{AllByRecursion, AllZip}
 use Rattle.std.specs.Prelude.{OnOk, IfErr, Result, unwrap_or, None, Some, Ok, Err}
 use Rattle.auction_rows.specs.declared.requests.Request.{Request}
-use Rattle.phase_transactions.specs.{Workers.{WorkerState}, declared.done.PermitFault.{PermitFault}}
+use Rattle.phase_transactions.specs.Workers.{WorkerState}
+use Rattle.phase_transactions.specs.declared.fault.PermitFault.{PermitFault}
 use Rattle.phase_laws.proofs.ListLemmas.{all-append}
 use Rattle.shard_boxes.specs.States.{ShardState}
 use Rattle.job_threads.specs.{Threads.{IsUnstarted}, declared.fault.JobFault.{JobFault}}

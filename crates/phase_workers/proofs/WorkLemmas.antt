@@ -8,9 +8,10 @@ use Rattle.auction_rows.specs.{Phases.{is_put_off}, Replies.{row_of}}
 use Rattle.auction_rows.specs.declared.{requests.Object.Object, requests.Request.Request, replies.Reply.Reply, rows.Entry.Entry}
 use Rattle.item_shards.specs.Writing.{writes_if}
 use Rattle.phase_transactions.proofs.{HomeLemmas.{same_objects_of}, LawfulLemmas.{objects-acts}}
-use Rattle.phase_transactions.specs.Performing.{HasFailed, IsCause, HasCommitted, HasFailedFirst, HasDealt, HasPerformedFirstSome}
+use Rattle.phase_transactions.specs.Performing.{HasFailed, IsCause, HasCommitted}
+use Rattle.phase_permits.specs.Dealing.{HasFailedFirst, HasDealt, HasPerformedFirstSome}
 use Rattle.phase_transactions.specs.Workers.{WorkerState, with_try, with_first_unstashed}
-use Rattle.phase_transactions.specs.declared.done.PermitFault.{PermitFault}
+use Rattle.phase_transactions.specs.declared.fault.PermitFault.{PermitFault}
 use Rattle.worker_slices.{proofs.StockLemmas.{stocks-acts}, specs.Slicing.{hot_objects, stocks_of}}
 use Rattle.phase_permits.proofs.PermitLemmas.{none_put_off}
 use Rattle.phase_laws.proofs.ListLemmas.{all-append}

@@ -4,7 +4,7 @@ use Rattle.auction_rows.specs.declared.limits.TheConstants.{MOST_TRIES, MOST_OF_
 use Rattle.auction_rows.specs.declared.requests.Request.{Request}
 use Rattle.shard_boxes.specs.{Keys.{BoxId}, States.{ShardState}}
 use Rattle.phase_transactions.specs.{Performing.{HaveOpening}, Workers.{WorkerState}}
-use Rattle.phase_transactions.specs.declared.done.PermitFault.{PermitFault}
+use Rattle.phase_transactions.specs.declared.fault.PermitFault.{PermitFault}
 use Rattle.phase_workers.specs.Working.{calls_from, committed, stashed, taken, still_waiting, hot_for, put_off, not_put_off, IsSamePermit, HasStopped}
 use Rattle.phase_workers.specs.declared.round.ServingFault.{ServingFault}
 use Rattle.phase_workers.specs.declared.round.ServingFault.TheVariants.{Worker, Spawn, Memory}

@@ -6,7 +6,7 @@ use Rattle.auction_rows.specs.declared.requests.{Object.Object, Request.Request}
 use Rattle.shard_boxes.specs.States.{ShardState}
 use Rattle.worker_slices.specs.Slicing.{hot_objects, stocks_of}
 use Rattle.phase_transactions.specs.{Performing.{IsCause}, Workers.{WorkerState}}
-use Rattle.phase_transactions.specs.declared.done.PermitFault.{PermitFault}
+use Rattle.phase_transactions.specs.declared.fault.PermitFault.{PermitFault}
 use Rattle.run_laws.specs.{Serving.{call_of}, Turns.{numbered}}
 
 -- so many calls of a script, from an index on

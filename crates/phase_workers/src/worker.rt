@@ -1,7 +1,8 @@
 //! What a worker does in a phase of a run, and where it can be watched.
 ghost use Rattle.std.specs.Prelude.{◌≡◌, ◌+◌, ◌-◌, ◌≤◌, ◌<◌, ◌++◌, false, true, Some, length, slice_get, OnOk, IfErr};
 ghost use Rattle.auction_rows.specs.declared.requests.Request.{Request as Asked};
-ghost use Rattle.phase_transactions.specs.Performing.{HasFailed, HaveOpening, HasFailedFirst};
+ghost use Rattle.phase_transactions.specs.Performing.{HasFailed, HaveOpening};
+ghost use Rattle.phase_permits.specs.Dealing.{HasFailedFirst};
 ghost use Rattle.phase_transactions.specs.Workers.{with_try};
 ghost use Rattle.phase_workers.specs.Tasks.{task, CanBeDone, HasDoneTask, HasMetFault};
 ghost use Rattle.phase_workers.specs.Working.{calls_from, committed, stashed, taken, hot_for, put_off, not_put_off, IsPermitOf, IsSamePermit, HasPerformedStash, HasStopped};

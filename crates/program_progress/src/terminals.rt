@@ -25,11 +25,17 @@ impl Terminals {
         ensures input { IsTrue result.input → IsTrue result.errors }
         ensures output { IsTrue result.output → IsTrue result.errors }
     {
-        let errors = errors.is_terminal();
+        if !errors.is_terminal() {
+            return Terminals {
+                input: false,
+                output: false,
+                errors: false,
+            };
+        }
         Terminals {
-            input: errors && input.is_terminal(),
-            output: errors && output.is_terminal(),
-            errors,
+            input: input.is_terminal(),
+            output: output.is_terminal(),
+            errors: true,
         }
     }
 

@@ -16,7 +16,7 @@ use Rattle.program_serving.proofs.Sessions.{all_more, each_more, runs_more, text
 use Rattle.program_serving.proofs.ToldLemmas.{part_kept, part_more, told_at, whole_part}
 use Rattle.program_serving.specs.PartRuns.{IsStart, rows_before}
 use Rattle.program_serving.specs.ServeFaults.{AreToldAt, IsPartFault, IsServeFault, IsStop, StopsAtAnswer, StopsAtPart}
-use Rattle.program_serving.specs.Serving.{AreStepRuns, ArePartTold, AreTold, HasServedBook, IsLoggedBefore, IsNothingTold, IsStepRun, LogHasBook, Part, Answer, PartRun, ServesAll, ServesFirst, Step, book_left, book_past, gone_after, line_answer, nothing_gone, served_rows, served_text, step_rows, step_said, step_text}
+use Rattle.program_serving.specs.Serving.{AreStepRuns, HasServedBook, IsLoggedBefore, IsStepRun, LogHasBook, Part, Answer, PartRun, ServesAll, ServesFirst, Step, book_left, book_past, gone_after, line_answer, nothing_gone, served_rows, served_text, step_rows, step_said, step_text, told_by}
 
 -- nothing is said of a success that there is not
 pub no_success : {T E : Type 0} (r : Result T E) (e : E) (P : Type 0) → IsErr r × IsErrAnd r (λ x. x ≡ e) → OnOk r P
@@ -50,7 +50,7 @@ has_more (Some known) (Some now) book after more is had added =
 
 -- what a log has after what was logged before it was told
 pub served_book : {L W : Type 0} (accepted : L → Option (List ℕ)) (contents : W → Option (List ℕ)) (old new : Teller L W) (options : Options) (book : Book) (all : List Said)
-    → LogHasBook (accepted old.log) book → IsLoggedBefore accepted contents old new options book all → HasServedBook (accepted new.log) options book all
+    → LogHasBook (accepted old.log) book → IsLoggedBefore (told_by accepted contents old new) options book all → HasServedBook (accepted new.log) options book all
 served_book accepted contents old new options book all had first = record {
   steps = first.steps;
   rest = first.rest;
@@ -62,7 +62,7 @@ served_book accepted contents old new options book all had first = record {
 
 module _ {L W : Type 0} (accepted : L → Option (List ℕ)) (contents : W → Option (List ℕ)) (options : Options) (book : Book) (all : List Said) (old between new : Teller L W) where
   -- nothing more is told
-  told_kept : ServesFirst options book all (AreTold accepted contents old between) → IsNothingTold accepted contents between new → IsLoggedBefore accepted contents old new options book all
+  told_kept : ServesFirst options book all (told_by accepted contents old between).whole → (told_by accepted contents between new).nothing → IsLoggedBefore (told_by accepted contents old new) options book all
   told_kept told kept = record {
     steps = told.steps;
     rest = told.rest;
@@ -71,10 +71,10 @@ module _ {L W : Type 0} (accepted : L → Option (List ℕ)) (contents : W → O
   }
 
   -- one step more, which may not be told whole
-  told_step : (told : ServesFirst options book all (AreTold accepted contents old between)) (step : Step) (behind : List Said) → told.rest ≡ step_said step ++ behind
+  told_step : (told : ServesFirst options book all (told_by accepted contents old between).whole) (step : Step) (behind : List Said) → told.rest ≡ step_said step ++ behind
       → IsStepRun options (book_left options book told.steps) step
-      → ArePartTold accepted contents between new (step_rows step) (step_text options (gone_after options told.steps) step) ⊎ IsNothingTold accepted contents between new
-      → IsLoggedBefore accepted contents old new options book all
+      → (told_by accepted contents between new).part (step_rows step) (step_text options (gone_after options told.steps) step) ⊎ (told_by accepted contents between new).nothing
+      → IsLoggedBefore (told_by accepted contents old new) options book all
   told_step told step behind is run (inr kept) = told_kept told kept
   told_step told step behind is run (inl part) =
       let more : List Step = told.steps ++ step ∷ [] in record {
@@ -86,41 +86,41 @@ module _ {L W : Type 0} (accepted : L → Option (List ℕ)) (contents : W → O
             (sym (each_more step_rows told.steps step)) (text_more options nothing_gone told.steps step) told.holds part;
       }
 
-  module _ (told : ServesFirst options book all (AreTold accepted contents old between)) (fault : Fault) where
+  module _ (told : ServesFirst options book all (told_by accepted contents old between).whole) (fault : Fault) where
     abbrev at : Book
     at = book_left options book told.steps
 
     abbrev gone : Gone
     gone = gone_after options told.steps
 
-    answer_told : StopsAtAnswer options at gone told.rest (AreToldAt accepted contents between new fault) → IsLoggedBefore accepted contents old new options book all
+    answer_told : StopsAtAnswer options at gone told.rest (AreToldAt (told_by accepted contents between new) fault) → IsLoggedBefore (told_by accepted contents old new) options book all
     answer_told stops =
-        told_step told (Answer stops.line) stops.behind stops.rest_is (stops.goes_on, stops.turned_away) (told_at accepted contents between new fault [] (line_answer options gone stops.line) stops.holds)
+        told_step told (Answer stops.line) stops.behind stops.rest_is (stops.goes_on, stops.turned_away) (told_at (told_by accepted contents between new) fault [] (line_answer options gone stops.line) stops.holds)
 
-    part_told : (stops : StopsAtPart accepted contents between new options at gone (rows_before told.steps) told.rest fault)
-        → IsPartFault accepted contents between new options at gone (rows_before told.steps) (asked_in options.workers stops.next) fault → IsLoggedBefore accepted contents old new options book all
+    part_told : (stops : StopsAtPart (told_by accepted contents between new) options at gone (rows_before told.steps) told.rest fault)
+        → IsPartFault (told_by accepted contents between new) options at gone (rows_before told.steps) (asked_in options.workers stops.next) fault → IsLoggedBefore (told_by accepted contents old new) options book all
     part_told stops (inl why) = told_kept told why.0
     part_told stops (inr runs) =
         let part : PartRun = record { said = stops.next; added = runs.added; hot = runs.hot; history = runs.history } in
         told_step told (Part part) stops.behind stops.rest_is (record { few = stops.few; adds = runs.adds; answer = runs.answer })
-        (told_at accepted contents between new fault (step_rows (Part part)) (step_text options gone (Part part)) runs.holds)
+        (told_at (told_by accepted contents between new) fault (step_rows (Part part)) (step_text options gone (Part part)) runs.holds)
 
-    told_either : StopsAtAnswer options at gone told.rest (AreToldAt accepted contents between new fault) ⊎ StopsAtPart accepted contents between new options at gone (rows_before told.steps) told.rest fault
-        → IsLoggedBefore accepted contents old new options book all
+    told_either : StopsAtAnswer options at gone told.rest (AreToldAt (told_by accepted contents between new) fault) ⊎ StopsAtPart (told_by accepted contents between new) options at gone (rows_before told.steps) told.rest fault
+        → IsLoggedBefore (told_by accepted contents old new) options book all
     told_either (inl stops) = answer_told stops
     told_either (inr stops) = part_told stops stops.stops
 
-  told_stop : (told : ServesFirst options book all (AreTold accepted contents old between)) (fault : Fault)
-      → IsStop accepted contents between new options (book_left options book told.steps) (gone_after options told.steps) (rows_before told.steps) told.rest fault → IsLoggedBefore accepted contents old new options book all
+  told_stop : (told : ServesFirst options book all (told_by accepted contents old between).whole) (fault : Fault)
+      → IsStop (told_by accepted contents between new) options (book_left options book told.steps) (gone_after options told.steps) (rows_before told.steps) told.rest fault → IsLoggedBefore (told_by accepted contents old new) options book all
   told_stop told (Read fault) stops = told_kept told stops.0
   told_stop told fault stops = told_either told fault stops
 
 module _ {L W : Type 0} (accepted : L → Option (List ℕ)) (contents : W → Option (List ℕ)) (options : Options) (book : Book) (old new : Teller L W) where
   -- whatever ends serving, what is written was logged before
-  fault_logged : (all : List Said) (fault : Fault) → IsServeFault accepted contents old new options book all fault → IsLoggedBefore accepted contents old new options book all
+  fault_logged : (all : List Said) (fault : Fault) → IsServeFault (told_by accepted contents) old new options book all fault → IsLoggedBefore (told_by accepted contents old new) options book all
   fault_logged all fault why = told_stop accepted contents options book all old why.between new why.told fault why.stops
 
-  all_logged : (all : List Said) → ServesAll options book all (AreTold accepted contents old new) → IsLoggedBefore accepted contents old new options book all
+  all_logged : (all : List Said) → ServesAll options book all (told_by accepted contents old new).whole → IsLoggedBefore (told_by accepted contents old new) options book all
   all_logged all all_served = record {
     steps = all_served.steps;
     rest = [];
@@ -131,8 +131,8 @@ module _ {L W : Type 0} (accepted : L → Option (List ℕ)) (contents : W → O
   module _ (known : Option (List ℕ)) (says : List ℕ → List Said) (auction : JoinedState) (start : IsStart options auction book) where
     -- whether serving ends with a fault or not
     pub either_logged : {T : Type 0} (result : Result T Fault)
-        → OnOk result ((b : Book) → IsStart options auction b → IfSome known (λ input. ServesAll options b (says input) (AreTold accepted contents old new)))
-        → IfErr result (λ fault. (b : Book) → IsStart options auction b → IfSome known (λ input. IsServeFault accepted contents old new options b (says input) fault))
-        → IfSome known (λ input. IsLoggedBefore accepted contents old new options book (says input))
+        → OnOk result ((b : Book) → IsStart options auction b → IfSome known (λ input. ServesAll options b (says input) (told_by accepted contents old new).whole))
+        → IfErr result (λ fault. (b : Book) → IsStart options auction b → IfSome known (λ input. IsServeFault (told_by accepted contents) old new options b (says input) fault))
+        → IfSome known (λ input. IsLoggedBefore (told_by accepted contents old new) options book (says input))
     either_logged (Ok done) good cause = IfSome_then known (good book start) (λ input. all_logged (says input))
     either_logged (Err fault) good cause = IfSome_then known (cause book start) (λ input. fault_logged (says input) fault)

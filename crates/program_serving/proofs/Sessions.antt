@@ -25,7 +25,7 @@ use Rattle.program_serving.proofs.RowsBefore.{same_rows}
 use Rattle.program_serving.proofs.ToldLemmas.{nothing_told, told_more, told_none}
 use Rattle.program_serving.specs.PartRuns.{IsStart, rows_before}
 use Rattle.program_serving.specs.ServeFaults.{AreToldAt, IsPartFault, IsServeFault, IsStop, StopsAtPart}
-use Rattle.program_serving.specs.Serving.{AreStepRuns, AreTold, IsStepRun, Part, Answer, PartRun, ServesAll, Step, book_left, book_past, ends_at_fault, gone_past, line_answer, nothing_gone, served_rows, served_text, step_rows, step_said, step_text}
+use Rattle.program_serving.specs.Serving.{AreStepRuns, IsStepRun, Part, Answer, PartRun, ServesAll, Step, book_left, book_past, ends_at_fault, gone_past, line_answer, nothing_gone, served_rows, served_text, step_rows, step_said, step_text, told_by}
 use Rattle.program_serving.specs.declared.parts.Served.{Served}
 use Rattle.program_serving.specs.inner.Parts.{AreDoneOf, BeginsAt, ServesPart}
 use Rattle.program_serving.specs.inner.Sessions.{GoesOnTo, IsSession, MayHaveToSay, PassesFault, fault_answer, fault_said, past_answer}
@@ -92,7 +92,7 @@ part_read remaining options workers most asked same rest part read keeps =
 -- nothing is served yet
 pub session_begins : {L W : Type 0} (accepted : L → Option (List ℕ)) (contents : W → Option (List ℕ)) (options : Options) (book : Book) (all : List Said) (teller : Teller L W) (served : Served)
     (Left : List Said → Type 0) → IsStart options served.auction book → served.rows ≡ 0 → (gone_by served.before) ≡ nothing_gone → Left all
-    → IsSession options book all served Left (AreTold accepted contents teller teller)
+    → IsSession options book all served Left (told_by accepted contents teller teller).whole
 unfolding AreStepRuns served_text
 session_begins accepted contents options book all teller served Left start none gone left = record {
   steps = [];
@@ -111,17 +111,17 @@ if_any (Some x) P holds = holds x
 
 -- nothing is read
 pub unread : {L W : Type 0} (accepted : L → Option (List ℕ)) (contents : W → Option (List ℕ)) (options : Options) (book : Book) (teller : Teller L W) (known : Option (List ℕ)) (says_this : List ℕ → List Said)
-    (fault : ReadFault) → (IsInputFault fault → ⊥) → IfSome known (λ input. IsServeFault accepted contents teller teller options book (says_this input) (Read fault))
+    (fault : ReadFault) → (IsInputFault fault → ⊥) → IfSome known (λ input. IsServeFault (told_by accepted contents) teller teller options book (says_this input) (Read fault))
 unfolding AreStepRuns served_text
 unread accepted contents options book teller known says_this fault none =
-    if_any known (λ input. IsServeFault accepted contents teller teller options book (says_this input) (Read fault)) (λ input. record {
+    if_any known (λ input. IsServeFault (told_by accepted contents) teller teller options book (says_this input) (Read fault)) (λ input. record {
       between = teller;
       told = record { steps = []; rest = says_this input; served = record { all_is = refl; runs = tt }; holds = told_none accepted contents teller };
       stops = (nothing_told accepted contents teller, λ is. absurd (none is));
     })
 
 module _ {L W : Type 0} (accepted : L → Option (List ℕ)) (contents : W → Option (List ℕ)) (options : Options) (book : Book) (all : List Said) (start old new : Teller L W)
-    (served : Served) (Left : List Said → Type 0) (session : IsSession options book all served Left (AreTold accepted contents start old)) where
+    (served : Served) (Left : List Said → Type 0) (session : IsSession options book all served Left (told_by accepted contents start old).whole) where
   -- the book that the next part is run from
   abbrev now : Book
   now = book_left options book session.steps
@@ -129,7 +129,7 @@ module _ {L W : Type 0} (accepted : L → Option (List ℕ)) (contents : W → O
   -- one step more
   session_step : (step : Step) (behind : List Said) (next : Served) (Next : List Said → Type 0) → session.rest ≡ step_said step ++ behind → IsStepRun options now step
       → IsStart options next.auction (book_past options now step) → next.rows ≡ served.rows + length (rows_said (step_said step)) → (gone_by next.before) ≡ gone_past options (gone_by served.before) step
-      → Next behind → AreTold accepted contents old new (step_rows step) (step_text options (gone_by served.before) step) → IsSession options book all next Next (AreTold accepted contents start new)
+      → Next behind → (told_by accepted contents old new).whole (step_rows step) (step_text options (gone_by served.before) step) → IsSession options book all next Next (told_by accepted contents start new).whole
   session_step step behind next Next is run starts counted before left told =
       let steps : List Step = session.steps in
       let more : List Step = steps ++ step ∷ [] in record {
@@ -147,7 +147,7 @@ module _ {L W : Type 0} (accepted : L → Option (List ℕ)) (contents : W → O
       }
 
   -- all is served
-  pub session_ends : session.rest ≡ [] → ServesAll options book all (AreTold accepted contents start old)
+  pub session_ends : session.rest ≡ [] → ServesAll options book all (told_by accepted contents start old).whole
   session_ends none = record {
     steps = session.steps;
     served = record { all_is = session.so_far.all_is ∙ ap (λ (xs : List Said). flat_map step_said session.steps ++ xs) none; runs = session.so_far.runs };
@@ -155,21 +155,21 @@ module _ {L W : Type 0} (accepted : L → Option (List ℕ)) (contents : W → O
   }
 
   -- it goes no further
-  pub session_stops : (fault : AnyFault) → IsStop accepted contents old new options now (gone_by served.before) served.rows session.rest fault → IsServeFault accepted contents start new options book all fault
+  pub session_stops : (fault : AnyFault) → IsStop (told_by accepted contents old new) options now (gone_by served.before) served.rows session.rest fault → IsServeFault (told_by accepted contents) start new options book all fault
   session_stops fault stops = record {
     between = old;
     told = record { steps = session.steps; rest = session.rest; served = session.so_far; holds = session.holds };
-    stops = subst (λ (g : Gone). IsStop accepted contents old new options now g (rows_before session.steps) session.rest fault) session.before
-        (subst (λ (n : ℕ). IsStop accepted contents old new options now (gone_by served.before) n session.rest fault) session.rows stops);
+    stops = subst (λ (g : Gone). IsStop (told_by accepted contents old new) options now g (rows_before session.steps) session.rest fault) session.before
+        (subst (λ (n : ℕ). IsStop (told_by accepted contents old new) options now (gone_by served.before) n session.rest fault) session.rows stops);
   }
 
   module _ {R : Type 0} (remaining : R → Option (List ℕ)) where
     -- the next line may be answered
-    pub session_passed : (left : Option (LiveInput R)) → PassesFault remaining options.workers options (gone_by served.before) left session.rest (AreTold accepted contents old new)
-        → IsSession options book all served (MayHaveToSay remaining options.workers left) (AreTold accepted contents start new)
+    pub session_passed : (left : Option (LiveInput R)) → PassesFault remaining options.workers options (gone_by served.before) left session.rest (told_by accepted contents old new).whole
+        → IsSession options book all served (MayHaveToSay remaining options.workers left) (told_by accepted contents start new).whole
     session_passed left passes = passed passes.met passes.goes_on passes.behind passes.rest_is passes.left_is passes.holds where
       passed : (met : Option LineFault) → IfSome met (λ _. ends_at_fault options ≡ false) → (behind : List Said) → session.rest ≡ fault_said met ++ behind → MayHaveToSay remaining options.workers left behind
-          → AreTold accepted contents old new [] (fault_answer options (gone_by served.before) met) → IsSession options book all served (MayHaveToSay remaining options.workers left) (AreTold accepted contents start new)
+          → (told_by accepted contents old new).whole [] (fault_answer options (gone_by served.before) met) → IsSession options book all served (MayHaveToSay remaining options.workers left) (told_by accepted contents start new).whole
       passed None goes_on behind is has told = record {
         steps = session.steps;
         rest = session.rest;
@@ -190,30 +190,30 @@ module _ {L W : Type 0} (accepted : L → Option (List ℕ)) (contents : W → O
 
   -- one part more
   pub session_part : (most : ℕ) (asked : Asked) (Next : List Said → Type 0) → ReadsPart options most session.rest asked Next → (next : Served) → next.rows ≡ served.rows + length asked.rows
-      → ServesPart options now (gone_by served.before) asked next (AreTold accepted contents old new) → IsSession options book all next Next (AreTold accepted contents start new)
+      → ServesPart options now (gone_by served.before) asked next (told_by accepted contents old new).whole → IsSession options book all next Next (told_by accepted contents start new).whole
   session_part most asked Next reads next counted serves =
-      let more : ServesPart options now (gone_by served.before) (asked_in options.workers reads.said) next (AreTold accepted contents old new)
-      = subst (λ (a : Asked). ServesPart options now (gone_by served.before) a next (AreTold accepted contents old new)) reads.asked_is serves in
+      let more : ServesPart options now (gone_by served.before) (asked_in options.workers reads.said) next (told_by accepted contents old new).whole
+      = subst (λ (a : Asked). ServesPart options now (gone_by served.before) a next (told_by accepted contents old new).whole) reads.asked_is serves in
       let part : PartRun = record { said = reads.said; added = more.runs.added; hot = more.runs.hot; history = more.runs.history } in
       session_step (Part part) reads.behind next Next reads.rest_is (record { few = reads.few; adds = more.runs.adds; answer = more.runs.answer }) more.start
       (counted ∙ ap (λ (n : ℕ). served.rows + n) (ap (λ (a : Asked). length a.rows) reads.asked_is ∙ sym (ap length (same_rows reads.said)))) more.before reads.goes_on more.runs.holds
 
   -- a part that is not served
   pub part_stops : (most : ℕ) (asked : Asked) (Next : List Said → Type 0) → ReadsPart options most session.rest asked Next → (fault : AnyFault)
-      → IsPartFault accepted contents old new options now (gone_by served.before) served.rows asked fault
-      → StopsAtPart accepted contents old new options now (gone_by served.before) served.rows session.rest fault
+      → IsPartFault (told_by accepted contents old new) options now (gone_by served.before) served.rows asked fault
+      → StopsAtPart (told_by accepted contents old new) options now (gone_by served.before) served.rows session.rest fault
   part_stops most asked Next reads fault why = record {
     next = reads.said;
     behind = reads.behind;
     rest_is = reads.rest_is;
     few = reads.few;
-    stops = subst (λ (a : Asked). IsPartFault accepted contents old new options now (gone_by served.before) served.rows a fault) reads.asked_is why;
+    stops = subst (λ (a : Asked). IsPartFault (told_by accepted contents old new) options now (gone_by served.before) served.rows a fault) reads.asked_is why;
   }
 
 -- ---- a request past a limit
 
 module _ {L W : Type 0} (accepted : L → Option (List ℕ)) (contents : W → Option (List ℕ)) (options : Options) (book : Book) (all : List Said) (start old new : Teller L W)
-    (served : Served) (Left : List Said → Type 0) (worker : ℕ) (session : IsSession options book all served (IsNextPast served.auction Left worker) (AreTold accepted contents start old))
+    (served : Served) (Left : List Said → Type 0) (worker : ℕ) (session : IsSession options book all served (IsNextPast served.auction Left worker) (told_by accepted contents start old).whole)
     (goes_on : ends_at_fault options ≡ false) where
   -- the book to which the rows of its part led
   abbrev here : Book
@@ -231,31 +231,31 @@ module _ {L W : Type 0} (accepted : L → Option (List ℕ)) (contents : W → O
       ap (λ (limit : ℕ). past_answer options (gone_by served.before) limit (Some worker)) session.start.fits.limit
       ∙ ap (λ (w : ℕ). past_answer options (gone_by served.before) MOST_COMMITS (Some w)) (sym session.left.worker_is)
 
-  pub past_answered : AreTold accepted contents old new [] (past_answer options (gone_by served.before) served.auction.limit (Some worker)) → IsSession options book all served Left (AreTold accepted contents start new)
+  pub past_answered : (told_by accepted contents old new).whole [] (past_answer options (gone_by served.before) served.auction.limit (Some worker)) → IsSession options book all served Left (told_by accepted contents start new).whole
   past_answered told =
       session_step accepted contents options book all start old new served (IsNextPast served.auction Left worker) session (Answer (says.Record session.left.one)) session.left.behind served Left session.left.rest_is
-      (goes_on, past_it) session.start (omega (arith, no_row session.left.one session.left.request)) refl session.left.left (subst (AreTold accepted contents old new []) answer_is told)
+      (goes_on, past_it) session.start (omega (arith, no_row session.left.one session.left.request)) refl session.left.left (subst ((told_by accepted contents old new).whole []) answer_is told)
     where
       no_row : (one : Record) → one.is_row ≡ false → length (rows_said (says.Record one ∷ [])) ≡ 0
       no_row one request = ap (λ (b : Bool). length {A = Opened} (cons_option (if b then Some (record { worker = one.worker; request = one.request }) else None) [])) request
 
-  pub past_stops : (fault : AnyFault) → AreToldAt accepted contents old new fault [] (past_answer options (gone_by served.before) served.auction.limit (Some worker)) → IsServeFault accepted contents start new options book all fault
+  pub past_stops : (fault : AnyFault) → AreToldAt (told_by accepted contents old new) fault [] (past_answer options (gone_by served.before) served.auction.limit (Some worker)) → IsServeFault (told_by accepted contents) start new options book all fault
   past_stops fault told =
       session_stops accepted contents options book all start old new served (IsNextPast served.auction Left worker) session fault
-      (answer_stops accepted contents old new options here (gone_by served.before) served.rows session.rest fault (record {
+      (answer_stops (told_by accepted contents old new) options here (gone_by served.before) served.rows session.rest fault (record {
         line = says.Record session.left.one;
         behind = session.left.behind;
         rest_is = session.left.rest_is;
         goes_on = goes_on;
         turned_away = past_it;
-        holds = subst (AreToldAt accepted contents old new fault []) answer_is told;
+        holds = subst (AreToldAt (told_by accepted contents old new) fault []) answer_is told;
       }))
 
 module _ {L W : Type 0} (accepted : L → Option (List ℕ)) (contents : W → Option (List ℕ)) (options : Options) (book : Book) (all : List Said) (start old new : Teller L W)
     (served : Served) (Left : List Said → Type 0) where
   -- a request that may be past a limit is answered
-  pub session_answered : (past : Option ℕ) → IsSession options book all served (LeftBehind served.auction Left past) (AreTold accepted contents start old) → IfSome past (λ worker. ends_at_fault options ≡ false)
-      → AreTold accepted contents old new [] (past_answer options (gone_by served.before) served.auction.limit past) → IsSession options book all served Left (AreTold accepted contents start new)
+  pub session_answered : (past : Option ℕ) → IsSession options book all served (LeftBehind served.auction Left past) (told_by accepted contents start old).whole → IfSome past (λ worker. ends_at_fault options ≡ false)
+      → (told_by accepted contents old new).whole [] (past_answer options (gone_by served.before) served.auction.limit past) → IsSession options book all served Left (told_by accepted contents start new).whole
   session_answered (Some worker) session goes_on told = past_answered accepted contents options book all start old new served Left worker session goes_on told
   session_answered None session goes_on told = record {
     steps = session.steps;
@@ -270,8 +270,8 @@ module _ {L W : Type 0} (accepted : L → Option (List ℕ)) (contents : W → O
   }
 
   -- or it is not
-  pub answer_stops_all : (past : Option ℕ) → IsSession options book all served (LeftBehind served.auction Left past) (AreTold accepted contents start old) → IfSome past (λ worker. ends_at_fault options ≡ false) → (fault : AnyFault)
-      → MatchOption past ⊥ (λ worker. AreToldAt accepted contents old new fault [] (past_answer options (gone_by served.before) served.auction.limit (Some worker))) → IsServeFault accepted contents start new options book all fault
+  pub answer_stops_all : (past : Option ℕ) → IsSession options book all served (LeftBehind served.auction Left past) (told_by accepted contents start old).whole → IfSome past (λ worker. ends_at_fault options ≡ false) → (fault : AnyFault)
+      → MatchOption past ⊥ (λ worker. AreToldAt (told_by accepted contents old new) fault [] (past_answer options (gone_by served.before) served.auction.limit (Some worker))) → IsServeFault (told_by accepted contents) start new options book all fault
   answer_stops_all None session goes_on fault told = absurd told
   answer_stops_all (Some worker) session goes_on fault told = past_stops accepted contents options book all start old new served Left worker session goes_on fault told
 

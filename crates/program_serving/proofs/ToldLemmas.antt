@@ -17,7 +17,7 @@ use Rattle.program_opening.specs.{Options.{commits_text}, declared.faults.Fault.
 use Rattle.program_opening.specs.declared.faults.Fault.TheVariants.{Write, Log}
 use Rattle.program_opening.specs.declared.options.Options.{Options}
 use Rattle.program_serving.{proofs.TextLemmas.{part_of_added}, specs.ServeFaults.{AreToldAt}}
-use Rattle.program_serving.specs.Serving.{ArePartTold, AreTold, IsNothingTold}
+use Rattle.program_serving.specs.Serving.{Telling, told_by}
 
 -- what is appended to known bytes
 pub appends_known : (old new : Option (List ℕ)) (bytes others : List ℕ) → IfSome old (λ _. bytes ≡ others) → Appends old new bytes → Appends old new others
@@ -49,28 +49,28 @@ pub whole_part : (old new : Option (List ℕ)) (text : List ℕ) → Appends old
 whole_part old new text whole = (length text, subst (Appends old new) (sym (take-length text)) whole)
 
 module _ {L W : Type 0} (accepted : L → Option (List ℕ)) (contents : W → Option (List ℕ)) where
-  pub nothing_told : (teller : Teller L W) → IsNothingTold accepted contents teller teller
+  pub nothing_told : (teller : Teller L W) → (told_by accepted contents teller teller).nothing
   nothing_told teller = (Keeps-refl (accepted teller.log), Keeps-refl (contents teller.writer))
 
-  pub told_none : (teller : Teller L W) → AreTold accepted contents teller teller [] []
+  pub told_none : (teller : Teller L W) → (told_by accepted contents teller teller).whole [] []
   told_none teller = (Appends-nil (accepted teller.log), Appends-nil (contents teller.writer))
 
   module _ (start old new : Teller L W) where
     pub told_more : (logs more_logs all_logs text more_text all_text : List ℕ) → logs ++ more_logs ≡ all_logs → text ++ more_text ≡ all_text
-        → AreTold accepted contents start old logs text → AreTold accepted contents old new more_logs more_text → AreTold accepted contents start new all_logs all_text
+        → (told_by accepted contents start old).whole logs text → (told_by accepted contents old new).whole more_logs more_text → (told_by accepted contents start new).whole all_logs all_text
     told_more logs more_logs all_logs text more_text all_text logs_are text_is first second = (
       subst (Appends (accepted start.log) (accepted new.log)) logs_are (Appends-trans (accepted start.log) (accepted old.log) (accepted new.log) logs more_logs first.0 second.0),
       subst (Appends (contents start.writer) (contents new.writer)) text_is (Appends-trans (contents start.writer) (contents old.writer) (contents new.writer) text more_text first.1 second.1),
     )
 
     pub part_more : (logs more_logs all_logs text more_text all_text : List ℕ) → logs ++ more_logs ≡ all_logs → text ++ more_text ≡ all_text
-        → AreTold accepted contents start old logs text → ArePartTold accepted contents old new more_logs more_text → ArePartTold accepted contents start new all_logs all_text
+        → (told_by accepted contents start old).whole logs text → (told_by accepted contents old new).part more_logs more_text → (told_by accepted contents start new).part all_logs all_text
     part_more logs more_logs all_logs text more_text all_text logs_are text_is first second = (
       subst (Appends (accepted start.log) (accepted new.log)) logs_are (Appends-trans (accepted start.log) (accepted old.log) (accepted new.log) logs more_logs first.0 second.0),
       subst (IsPartWritten (contents start.writer) (contents new.writer)) text_is (part_of_added (contents start.writer) (contents old.writer) (contents new.writer) text more_text first.1 second.1),
     )
 
-    pub part_kept : (logs text : List ℕ) → AreTold accepted contents start old logs text → IsNothingTold accepted contents old new → ArePartTold accepted contents start new logs text
+    pub part_kept : (logs text : List ℕ) → (told_by accepted contents start old).whole logs text → (told_by accepted contents old new).nothing → (told_by accepted contents start new).part logs text
     part_kept logs text first kept = (
       Appends-kept (accepted start.log) (accepted old.log) (accepted new.log) logs first.0 kept.0,
       whole_part (contents start.writer) (contents new.writer) text (Appends-kept (contents start.writer) (contents old.writer) (contents new.writer) text first.1 kept.1),
@@ -78,23 +78,22 @@ module _ {L W : Type 0} (accepted : L → Option (List ℕ)) (contents : W → O
 
   -- a teller's fault says how far it told
   pub told_so_far : (old new : Teller L W) (fault : TellFault) (rows all_rows text all_text : List ℕ) → IsToldSoFar fault (accepted old.log) (accepted new.log) rows (contents old.writer) (contents new.writer) text
-      → IfSome (accepted old.log) (λ _. rows ≡ all_rows) → text ≡ all_text → AreToldAt accepted contents old new (of_telling fault) all_rows all_text
+      → IfSome (accepted old.log) (λ _. rows ≡ all_rows) → text ≡ all_text → AreToldAt (told_by accepted contents old new) (of_telling fault) all_rows all_text
   told_so_far old new (telling.Log fault) rows all_rows text all_text far are same = far
   told_so_far old new (telling.Write fault) rows all_rows text all_text far are same =
-      subst (λ (f : WriteFault). AreToldAt accepted contents old new (Write f) all_rows all_text) (sym far.0)
+      subst (λ (f : WriteFault). AreToldAt (told_by accepted contents old new) (Write f) all_rows all_text) (sym far.0)
       (appends_known (accepted old.log) (accepted new.log) rows all_rows are far.1.0, subst (IsPartWritten (contents old.writer) (contents new.writer)) same far.1.1)
 
   -- without memory for a text nothing is told
   pub not_told : {T : Type 0} (result : Result T Fault) (fault : Fault) (teller : Teller L W) (rows text : List ℕ) → IsErr result × IsErrAnd result (λ f. f ≡ fault) → fault ≡ Write write.Memory
-      → IfErr result (λ f. AreToldAt accepted contents teller teller f rows text)
+      → IfErr result (λ f. AreToldAt (told_by accepted contents teller teller) f rows text)
   not_told result fault teller rows text is memory =
-      error_is result fault (λ f. AreToldAt accepted contents teller teller f rows text) is
-      (subst (λ (f : Fault). AreToldAt accepted contents teller teller f rows text) (sym memory) (nothing_told teller))
+      error_is result fault (λ f. AreToldAt (told_by accepted contents teller teller) f rows text) is
+      (subst (λ (f : Fault). AreToldAt (told_by accepted contents teller teller) f rows text) (sym memory) (nothing_told teller))
 
-  -- of what is told at a fault the rows are logged before a byte is written
-  pub told_at : (old new : Teller L W) (fault : Fault) (rows text : List ℕ) → AreToldAt accepted contents old new fault rows text
-      → ArePartTold accepted contents old new rows text ⊎ IsNothingTold accepted contents old new
-  told_at old new (Log fault) rows text at = inr at
-  told_at old new (Write write.Memory) rows text at = inr at
-  told_at old new (Write write.Write) rows text at = inl at
-  told_at old new fault rows text at = absurd at
+-- of what is told at a fault the rows are logged before a byte is written
+pub told_at : (told : Telling) (fault : Fault) (rows text : List ℕ) → AreToldAt told fault rows text → told.part rows text ⊎ told.nothing
+told_at told (Log fault) rows text at = inr at
+told_at told (Write write.Memory) rows text at = inr at
+told_at told (Write write.Write) rows text at = inl at
+told_at told fault rows text at = absurd at

@@ -1,5 +1,5 @@
 -- Why serving ends with a fault, and how far was told by then.
-use Rattle.std.specs.Prelude.{ℕ, ◌≡◌, ◌<◌, ◌≤◌, ◌+◌, ◌++◌, ◌∷◌, ◌⊎◌, List, [], Option, false, true, length, slice_index_or}
+use Rattle.std.specs.Prelude.{ℕ, ◌≡◌, ◌<◌, ◌≤◌, ◌+◌, ◌++◌, ◌∷◌, ◌⊎◌, List, [], false, true, length, slice_index_or}
 use Rattle.auction_rows.specs.Book.{Book}
 use Rattle.auction_rows.specs.declared.{values.Opening.Opening, requests.Request.Request, requests.Opened.Opened}
 use Rattle.auction_run.specs.{Beginning.{AreShortFor, HasQuotas}, Phases.{HaveMetLastNumber}}
@@ -19,19 +19,15 @@ use Rattle.program_opening.specs.{Options.{opening_asked, policy_of}, declared.f
 use Rattle.program_opening.specs.declared.faults.Fault.TheVariants.{Read, Row, Run, Limit, Write, Log}
 use Rattle.program_opening.specs.declared.options.Options.{Options}
 use Rattle.program_serving.specs.PartRuns.{RunsPart, rows_before}
-use Rattle.program_serving.specs.Serving.{ArePartTold, AreTold, IsNothingTold, IsTurnedAway, ServesFirst, book_left, ends_at_fault, gone_after, line_answer}
+use Rattle.program_serving.specs.Serving.{IsTurnedAway, ServesFirst, Telling, book_left, ends_at_fault, gone_after, line_answer}
 
 -- how far rows and a text are told at a fault: not at all, or if the writer fails, the rows are
 -- logged and a prefix of the text is written; no other fault comes while they are told
-abbrev pub AreToldAt : {L W : Type 0} → (L → Option (List ℕ)) → (W → Option (List ℕ)) →
-    Teller L W → Teller L W → Fault → List ℕ → List ℕ → Type 0
-AreToldAt accepted contents old new (Log fault) rows text =
-    IsNothingTold accepted contents old new
-AreToldAt accepted contents old new (Write write.Memory) rows text =
-    IsNothingTold accepted contents old new
-AreToldAt accepted contents old new (Write write.Write) rows text =
-    ArePartTold accepted contents old new rows text
-AreToldAt accepted contents old new _ rows text = ⊥
+abbrev pub AreToldAt : Telling → Fault → List ℕ → List ℕ → Type 0
+AreToldAt told (Log fault) rows text = told.nothing
+AreToldAt told (Write write.Memory) rows text = told.nothing
+AreToldAt told (Write write.Write) rows text = told.part rows text
+AreToldAt told _ rows text = ⊥
 
 -- ---- why a part is not served
 
@@ -92,24 +88,21 @@ IsPartRefused options book gone before asked (Limit most) = (ends_at_fault optio
 IsPartRefused options book gone before asked _ = ⊥
 
 -- why a part is not served from a book: it is not done, or it is and is not told
-abbrev pub IsPartFault : {L W : Type 0} → (L → Option (List ℕ)) → (W → Option (List ℕ)) →
-    Teller L W → Teller L W → Options → Book → Gone → ℕ → Asked → Fault → Type 0
-IsPartFault accepted contents old new options book gone before asked fault =
-    (IsNothingTold accepted contents old new × IsPartRefused options book gone before asked fault)
-    ⊎ RunsPart options book gone asked (AreToldAt accepted contents old new fault)
+abbrev pub IsPartFault : Telling → Options → Book → Gone → ℕ → Asked → Fault → Type 0
+IsPartFault told options book gone before asked fault =
+    (told.nothing × IsPartRefused options book gone before asked fault)
+    ⊎ RunsPart options book gone asked (AreToldAt told fault)
 
 -- ---- why serving ends
 
 -- Of what lines have yet to say, the next part is not served.
-pub record StopsAtPart {L W : Type 0} (accepted : L → Option (List ℕ))
-    (contents : W → Option (List ℕ)) (old new : Teller L W) (options : Options) (book : Book)
-    (gone : Gone) (before : ℕ) (rest : List Said) (fault : Fault) : Type 0 where
+pub record StopsAtPart (told : Telling) (options : Options) (book : Book) (gone : Gone) (before : ℕ)
+    (rest : List Said) (fault : Fault) : Type 0 where
   pub next : List Record
   pub behind : List Said
   pub rest_is : rest ≡ records_said next ++ behind
   pub few : 1 ≤ options.live → requests_in next ≤ options.live
-  pub stops : IsPartFault accepted contents old new options book gone before
-      (asked_in options.workers next) fault
+  pub stops : IsPartFault told options book gone before (asked_in options.workers next) fault
 
 -- The next line is turned away, which does not end the input, and this holds of its answer.
 pub record StopsAtAnswer (options : Options) (book : Book) (gone : Gone) (rest : List Said)
@@ -131,21 +124,19 @@ pub record EndsAtFault (options : Options) (rest : List Said) (fault : ReadFault
 
 -- why serving goes no further than to a book: the next line ends the input or is not answered, the
 -- next part is not served, or the input cannot be read on
-abbrev pub IsStop : {L W : Type 0} → (L → Option (List ℕ)) → (W → Option (List ℕ)) →
-    Teller L W → Teller L W → Options → Book → Gone → ℕ → List Said → Fault → Type 0
-IsStop accepted contents old new options book gone before rest (Read fault) =
-    IsNothingTold accepted contents old new
-    × (IsInputFault fault → EndsAtFault options rest fault)
-IsStop accepted contents old new options book gone before rest fault =
-    StopsAtAnswer options book gone rest (AreToldAt accepted contents old new fault)
-    ⊎ StopsAtPart accepted contents old new options book gone before rest fault
+abbrev pub IsStop : Telling → Options → Book → Gone → ℕ → List Said → Fault → Type 0
+IsStop told options book gone before rest (Read fault) =
+    told.nothing × (IsInputFault fault → EndsAtFault options rest fault)
+IsStop told options book gone before rest fault =
+    StopsAtAnswer options book gone rest (AreToldAt told fault)
+    ⊎ StopsAtPart told options book gone before rest fault
 
--- Why serving ends: the first of what lines say is served from a book and told whole, and then it
--- goes no further.
-pub record IsServeFault {L W : Type 0} (accepted : L → Option (List ℕ))
-    (contents : W → Option (List ℕ)) (old new : Teller L W) (options : Options) (book : Book)
-    (all : List Said) (fault : Fault) : Type 0 where
+-- Why serving ends, if this is told between two states: the first of what lines say is served from
+-- a book and told whole, and then it goes no further.
+pub record IsServeFault {L W : Type 0} (telling : Teller L W → Teller L W → Telling)
+    (old new : Teller L W) (options : Options) (book : Book) (all : List Said) (fault : Fault)
+    : Type 0 where
   pub between : Teller L W
-  pub told : ServesFirst options book all (AreTold accepted contents old between)
-  pub stops : IsStop accepted contents between new options (book_left options book told.steps)
+  pub told : ServesFirst options book all (telling old between).whole
+  pub stops : IsStop (telling between new) options (book_left options book told.steps)
       (gone_after options told.steps) (rows_before told.steps) told.rest fault

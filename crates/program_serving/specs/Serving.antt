@@ -177,30 +177,29 @@ pub record ServesFirst (options : Options) (book : Book) (all : List Said)
   pub served : IsServed options book all steps rest
   pub holds : Holds (served_rows steps) (served_text options nothing_gone steps)
 
--- rows are logged, and a text is written whole
-abbrev pub AreTold : {L W : Type 0} → (L → Option (List ℕ)) → (W → Option (List ℕ)) →
-    Teller L W → Teller L W → List ℕ → List ℕ → Type 0
-AreTold accepted contents old new rows text = Appends (accepted old.log) (accepted new.log) rows
-    × Appends (contents old.writer) (contents new.writer) text
+-- What may be told: whole, rows are logged and a text is written; in part, the rows are logged and
+-- of the text a prefix is written; or nothing is logged or written.
+pub record Telling : Type 1 where
+  pub whole : List ℕ → List ℕ → Type 0
+  pub part : List ℕ → List ℕ → Type 0
+  pub nothing : Type 0
 
--- rows are logged, and of a text a prefix is written
-abbrev pub ArePartTold : {L W : Type 0} → (L → Option (List ℕ)) → (W → Option (List ℕ)) →
-    Teller L W → Teller L W → List ℕ → List ℕ → Type 0
-ArePartTold accepted contents old new rows text = Appends (accepted old.log) (accepted new.log) rows
-    × IsPartWritten (contents old.writer) (contents new.writer) text
-
--- nothing is logged or written
-abbrev pub IsNothingTold : {L W : Type 0} → (L → Option (List ℕ)) → (W → Option (List ℕ)) →
-    Teller L W → Teller L W → Type 0
-IsNothingTold accepted contents old new = Keeps (accepted old.log) (accepted new.log)
-    × Keeps (contents old.writer) (contents new.writer)
+-- what is told between two states of a log and a writer, of which so much is known
+abbrev pub told_by : {L W : Type 0} → (L → Option (List ℕ)) → (W → Option (List ℕ)) →
+    Teller L W → Teller L W → Telling
+told_by accepted contents old new = record {
+  whole = λ rows text. Appends (accepted old.log) (accepted new.log) rows
+      × Appends (contents old.writer) (contents new.writer) text;
+  part = λ rows text. Appends (accepted old.log) (accepted new.log) rows
+      × IsPartWritten (contents old.writer) (contents new.writer) text;
+  nothing = Keeps (accepted old.log) (accepted new.log)
+      × Keeps (contents old.writer) (contents new.writer);
+}
 
 -- no byte is written of a part whose rows are not logged: those of the parts that are written, to
 -- the last one's, are
-abbrev pub IsLoggedBefore : {L W : Type 0} → (L → Option (List ℕ)) → (W → Option (List ℕ)) →
-    Teller L W → Teller L W → Options → Book → List Said → Type 0
-IsLoggedBefore accepted contents old new options book all =
-    ServesFirst options book all (ArePartTold accepted contents old new)
+abbrev pub IsLoggedBefore : Telling → Options → Book → List Said → Type 0
+IsLoggedBefore told options book all = ServesFirst options book all told.part
 
 -- a log has the rows of a book, and nothing else
 abbrev pub LogHasBook : Option (List ℕ) → Book → Type 0

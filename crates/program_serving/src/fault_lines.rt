@@ -2,7 +2,7 @@
 ghost use Rattle.std.specs.Prelude.{◌≡◌, ◌++◌, [], IfErr, IfOk, OnOk};
 ghost use Rattle.auction_text.specs.Moved.{gone_by};
 ghost use Rattle.program_serving.specs.FaultLines.{answer_line, cause_text, fault_line, fault_text, record_text};
-ghost use Rattle.program_serving.specs.{ServeFaults.{AreToldAt}, Serving.{AreTold}};
+ghost use Rattle.program_serving.specs.{ServeFaults.{AreToldAt}, Serving.{told_by}};
 ghost use Rattle.program_serving.specs.inner.Sessions.{answer_to, turned_text};
 
 use crate::telling::LiveTeller;
@@ -162,10 +162,11 @@ pub(crate) fn tell_turned<L: Log, W: Write, E: Write>(
     before: &Before,
     line: TurnedLine,
 ) -> Result<(), Fault>
-    ensures told { OnOk result (AreTold L.accepted W.contents teller.old.teller teller.new.teller
+    ensures told { OnOk result (
+        (told_by L.accepted W.contents teller.old.teller teller.new.teller).whole
         [] (answer_to options.now (gone_by before.now) line)) }
-    ensures so_far { IfErr result (λ fault. AreToldAt L.accepted W.contents
-        teller.old.teller teller.new.teller fault
+    ensures so_far { IfErr result (λ fault.
+        AreToldAt (told_by L.accepted W.contents teller.old.teller teller.new.teller) fault
         [] (answer_to options.now (gone_by before.now) line)) }
 {
     let answer = answer_to(alloc, options, before, line)?;

@@ -4,7 +4,7 @@ ghost use Rattle.auction_rows.specs.Book.{Book};
 ghost use Rattle.auction_text.specs.{Moved.{gone_by}, Scripts.{Asked, asked_of}};
 ghost use Rattle.log_opening.specs.Parts.{HasAdded};
 ghost use Rattle.phase_floor.specs.Adding.{HasBook, IsSameAuction, IsStartOf};
-ghost use Rattle.program_serving.specs.{ServeFaults.{AreNotRunOn}, Serving.{AreTold}};
+ghost use Rattle.program_serving.specs.{ServeFaults.{AreNotRunOn}, Serving.{told_by}};
 ghost use Rattle.program_serving.specs.inner.Parts.{BeginsAt, BeginsPart, FailsPart, IsBegun, IsFirstNotAdded, IsNotBegun, RunsScripts, ServesDone, gone_with, told_fault};
 
 use crate::limits::take_past;
@@ -173,12 +173,13 @@ fn perform_part<R: Threads + Wait + Sync, L: Log, W: Write, E>(
     ensures serves { IfOk result (λ done. (book : Book) (asked : Asked) →
         IsBegun options.now book asked begun.auction begun.added.items begun.scripts.items
         begun.past → ServesDone options.now book (gone_by begun.before) asked done.past
-        done.served (AreTold L.accepted W.contents teller.old.teller teller.new.teller)) }
+        done.served (told_by L.accepted W.contents teller.old.teller teller.new.teller).whole) }
     ensures rows { IfOk result (λ done. done.served.rows ≡ begun.rows) }
     ensures has { IfOk result (λ done. HasBook begun.auction → HasBook done.served.auction) }
     ensures cause { IfErr result (λ fault. (book : Book) (asked : Asked) (before : ℕ) →
         IsBegun options.now book asked begun.auction begun.added.items begun.scripts.items
-        begun.past → FailsPart L.accepted W.contents teller.old.teller teller.new.teller
+        begun.past →
+        FailsPart (told_by L.accepted W.contents teller.old.teller teller.new.teller)
         options.now book (gone_by begun.before) before asked fault) }
 {
     let BegunPart {
@@ -221,13 +222,14 @@ pub(crate) fn serve_part<R: Threads + Wait + Sync, L: Log, W: Write, E>(
     requires { HasBook part.served.auction }
     ensures serves { IfOk result (λ done. (book : Book) → BeginsPart options.now part book →
         ServesDone options.now book (gone_by part.served.before) (asked_of part.input) done.past
-        done.served (AreTold L.accepted W.contents teller.old.teller teller.new.teller)) }
+        done.served (told_by L.accepted W.contents teller.old.teller teller.new.teller).whole) }
     ensures rows { IfOk result (λ done.
         done.served.rows ≡ part.served.rows + length part.input.rows.items) }
     ensures has { IfOk result (λ done. HasBook done.served.auction) }
     ensures cause { IfErr result (λ fault. (book : Book) → BeginsPart options.now part book →
-        FailsPart L.accepted W.contents teller.old.teller teller.new.teller options.now book
-        (gone_by part.served.before) part.served.rows (asked_of part.input) fault) }
+        FailsPart (told_by L.accepted W.contents teller.old.teller teller.new.teller)
+        options.now book (gone_by part.served.before) part.served.rows (asked_of part.input)
+        fault) }
 {
     let begun = begin_part(alloc, part, options)?;
     perform_part(rt, alloc, teller, begun, options)

@@ -11,7 +11,7 @@ ghost use Rattle.program_opening.specs.Options.{opening_asked};
 ghost use Rattle.program_opening.specs.declared.options.Options.{Options as Asked};
 ghost use Rattle.program_serving.specs.PartRuns.{IsStart};
 ghost use Rattle.program_serving.specs.ServeFaults.{AreToldAt, IsServeFault, IsStop};
-ghost use Rattle.program_serving.specs.Serving.{AreStepRuns, AreTold, HasServedBook, IsLoggedBefore, IsServed, LogHasBook, RowsComeFirst, ServesAll, Step, added_rows, ends_at_fault, served_history, served_text};
+ghost use Rattle.program_serving.specs.Serving.{AreStepRuns, HasServedBook, IsLoggedBefore, IsServed, LogHasBook, RowsComeFirst, ServesAll, Step, added_rows, ends_at_fault, served_history, served_text, told_by};
 ghost use Rattle.program_serving.specs.inner.Sessions.{GoesOnTo, IsServedSoFar, PassesFault, past_answer};
 
 use crate::fault_lines::{Turned, TurnedLine, tell_turned};
@@ -61,19 +61,19 @@ pub fn serve<R: Threads + Wait + Sync, I: Read + Drop, L: Log, W: Write, E: Writ
     ensures all { OnOk result ((book : Book) → IsStart options.now source.auction book →
         IfSome (I.remaining source.reader) (λ input.
         ServesAll options.now book (live_says options.now.workers input)
-        (AreTold L.accepted W.contents teller.old.teller teller.new.teller))) }
+        (told_by L.accepted W.contents teller.old.teller teller.new.teller).whole)) }
     ensures logged { (book : Book) → IsStart options.now source.auction book →
         IfSome (I.remaining source.reader) (λ input.
-        IsLoggedBefore L.accepted W.contents teller.old.teller teller.new.teller options.now book
-        (live_says options.now.workers input)) }
+        IsLoggedBefore (told_by L.accepted W.contents teller.old.teller teller.new.teller)
+        options.now book (live_says options.now.workers input)) }
     ensures book { (book : Book) → IsStart options.now source.auction book →
         LogHasBook (L.accepted teller.old.teller.log) book →
         IfSome (I.remaining source.reader) (λ input. HasServedBook
         (L.accepted teller.new.teller.log) options.now book (live_says options.now.workers input)) }
     ensures cause { IfErr result (λ fault. (book : Book) →
         IsStart options.now source.auction book → IfSome (I.remaining source.reader) (λ input.
-        IsServeFault L.accepted W.contents teller.old.teller teller.new.teller options.now book
-        (live_says options.now.workers input) fault)) }
+        IsServeFault (told_by L.accepted W.contents) teller.old.teller teller.new.teller
+        options.now book (live_says options.now.workers input) fault)) }
 {
     let LoggedInput { auction, reader } = source;
     let left = LiveInput::of(alloc, reader, options.workers)?;
@@ -98,14 +98,15 @@ fn serve_lines<R: Threads + Wait + Sync, I: Read + Drop, L: Log, W: Write, E: Wr
 ) -> Result<(), Fault>
     requires { HasBook session.served.auction }
     ensures all { OnOk result ((book : Book) (all : List Says) (start : Told L W) →
-        IsServedSoFar I.remaining L.accepted W.contents start teller.old.teller options.now book all
-        session →
+        IsServedSoFar I.remaining (told_by L.accepted W.contents start teller.old.teller)
+        options.now book all session →
         ServesAll options.now book all
-        (AreTold L.accepted W.contents start teller.new.teller)) }
+        (told_by L.accepted W.contents start teller.new.teller).whole) }
     ensures cause { IfErr result (λ fault. (book : Book) (all : List Says) (start : Told L W) →
-        IsServedSoFar I.remaining L.accepted W.contents start teller.old.teller options.now book all
-        session →
-        IsServeFault L.accepted W.contents start teller.new.teller options.now book all fault) }
+        IsServedSoFar I.remaining (told_by L.accepted W.contents start teller.old.teller)
+        options.now book all session →
+        IsServeFault (told_by L.accepted W.contents) start teller.new.teller options.now book all
+        fault) }
 {
     let mut session = session;
     for _ in 0..u64::MAX {
@@ -127,17 +128,19 @@ fn serve_next<R: Threads + Wait + Sync, I: Read + Drop, L: Log, W: Write, E: Wri
 ) -> Result<Option<Session<I>>, Fault>
     requires { HasBook session.served.auction }
     ensures goes_on { IfOk result (λ next. (book : Book) (all : List Says) (start : Told L W) →
-        IsServedSoFar I.remaining L.accepted W.contents start teller.old.teller options.now book all
-        session →
+        IsServedSoFar I.remaining (told_by L.accepted W.contents start teller.old.teller)
+        options.now book all session →
         MatchOption next
-        (ServesAll options.now book all (AreTold L.accepted W.contents start teller.new.teller))
-        (λ session. IsServedSoFar I.remaining L.accepted W.contents start teller.new.teller
-        options.now book all session)) }
+        (ServesAll options.now book all
+        (told_by L.accepted W.contents start teller.new.teller).whole)
+        (IsServedSoFar I.remaining (told_by L.accepted W.contents start teller.new.teller)
+        options.now book all)) }
     ensures has { IfOk result (λ next. IfSome next (λ session. HasBook session.served.auction)) }
     ensures cause { IfErr result (λ fault. (book : Book) (all : List Says) (start : Told L W) →
-        IsServedSoFar I.remaining L.accepted W.contents start teller.old.teller options.now book all
-        session →
-        IsServeFault L.accepted W.contents start teller.new.teller options.now book all fault) }
+        IsServedSoFar I.remaining (told_by L.accepted W.contents start teller.old.teller)
+        options.now book all session →
+        IsServeFault (told_by L.accepted W.contents) start teller.new.teller options.now book all
+        fault) }
 {
     let Session { served, end } = session;
     let Some(left) = pass_fault(alloc, teller, options, &served.before, end)? else {
@@ -167,11 +170,12 @@ fn pass_fault<I: Drop, L: Log, W: Write, E: Write>(
     ensures passes { IfOk result (λ left. (remaining : I → Option (List ℕ)) (workers : ℕ)
         (rest : List Says) → GoesOnTo remaining workers end rest →
         PassesFault remaining workers options.now (gone_by before.now) left rest
-        (AreTold L.accepted W.contents teller.old.teller teller.new.teller)) }
+        (told_by L.accepted W.contents teller.old.teller teller.new.teller).whole) }
     ensures stops { IfErr result (λ fault. (remaining : I → Option (List ℕ)) (workers : ℕ)
         (rest : List Says) → GoesOnTo remaining workers end rest →
-        (book : Book) (rows : ℕ) → IsStop L.accepted W.contents teller.old.teller
-        teller.new.teller options.now book (gone_by before.now) rows rest fault) }
+        (book : Book) (rows : ℕ) →
+        IsStop (told_by L.accepted W.contents teller.old.teller teller.new.teller)
+        options.now book (gone_by before.now) rows rest fault) }
 {
     match end {
         LiveEnd::More(left) => Ok(Some(left)),
@@ -197,11 +201,12 @@ fn tell_past<L: Log, W: Write, E: Write>(
     options: &Options,
     done: &ServedPart,
 ) -> Result<(), Fault>
-    ensures told { OnOk result (AreTold L.accepted W.contents teller.old.teller teller.new.teller
+    ensures told { OnOk result (
+        (told_by L.accepted W.contents teller.old.teller teller.new.teller).whole
         [] (past_answer options.now (gone_by done.now.served.before)
         done.now.served.auction.limit done.now.past)) }
     ensures so_far { IfErr result (λ fault. MatchOption done.now.past ⊥ (λ worker.
-        AreToldAt L.accepted W.contents teller.old.teller teller.new.teller fault
+        AreToldAt (told_by L.accepted W.contents teller.old.teller teller.new.teller) fault
         [] (past_answer options.now (gone_by done.now.served.before)
         done.now.served.auction.limit (Some worker)))) }
 {

@@ -3,7 +3,7 @@ ghost use Rattle.std.specs.Prelude.{◌≡◌, IfErr, IfOk, IfSome, OnOk};
 ghost use Rattle.auction_text.specs.{Moved.{gone_by}, RowLines.{rows_text}};
 ghost use Rattle.byte_texts.specs.Writing.{WritesText};
 ghost use Rattle.program_serving.specs.ServeFaults.{AreToldAt};
-ghost use Rattle.program_serving.specs.Serving.{AreTold, OfPart, part_text};
+ghost use Rattle.program_serving.specs.Serving.{OfPart, part_text, told_by};
 
 use auction_rows::Row;
 use auction_text::{Before, TextBlock, write_history_on, write_replies_by, write_rows};
@@ -135,10 +135,10 @@ pub(crate) fn tell_committed<L: Log, W: Write, E>(
 ) -> Result<(), Fault>
     ensures told { OnOk result (OfPart options.now (gone_by committed.now.before)
         committed.now.rows.items committed.now.history.entries
-        (AreTold L.accepted W.contents teller.old.teller teller.new.teller)) }
+        (told_by L.accepted W.contents teller.old.teller teller.new.teller).whole) }
     ensures so_far { IfErr result (λ fault. OfPart options.now (gone_by committed.now.before)
         committed.now.rows.items committed.now.history.entries
-        (AreToldAt L.accepted W.contents teller.old.teller teller.new.teller fault)) }
+        (AreToldAt (told_by L.accepted W.contents teller.old.teller teller.new.teller) fault)) }
 {
     let rows = logged_text(alloc, &teller.teller.log, committed)?;
     make_text(alloc, &mut teller.room, options, committed)?;

@@ -13,7 +13,7 @@ use Rattle.run_laws.specs.{Serving.{call_of, script_of}, Turns.{numbered}}
 use Rattle.shard_boxes.specs.{Keys.{BoxId}, States.{ShardState, state_of}}
 use Rattle.worker_slices.specs.{Slicing.{hot_objects, stocks_of, slices_of}, Stashes.{StashState}}
 use Rattle.phase_transactions.specs.{Performing.{HaveOpening}, Workers.{WorkerState}}
-use Rattle.phase_transactions.specs.declared.done.PermitFault.TheVariants as permit
+use Rattle.phase_transactions.specs.declared.fault.PermitFault.TheVariants as permit
 use Rattle.closing_laws.specs.Phases.{no_receipt, receipt_at, journal_of, counters_of}
 use Rattle.closing_laws.specs.Standing.{StandFor, counters_at}
 use Rattle.worker_journals.specs.Journals.{IsJournalOf, IsOfScript, entry_worker}

@@ -3,7 +3,7 @@ use Rattle.std.specs.{HashSet.{HashSet}, Prelude.{ℕ, ◌≡◌, ◌<◌, Bool,
 use Rattle.auction_rows.specs.declared.{requests.Object.Object, requests.Request.Request}
 use Rattle.shard_boxes.specs.States.{ShardState}
 use Rattle.phase_transactions.specs.Workers.{WorkerState}
-use Rattle.phase_transactions.specs.declared.done.PermitFault.TheVariants as worker_fault
+use Rattle.phase_transactions.specs.declared.fault.PermitFault.TheVariants as worker_fault
 use Rattle.phase_workers.specs.Tasks.{IsFirstFault, tasks}
 use Rattle.phase_workers.specs.declared.round.ServingFault.{ServingFault}
 use Rattle.phase_workers.specs.declared.round.ServingFault.TheVariants as serving

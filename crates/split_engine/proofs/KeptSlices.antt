@@ -1,21 +1,11 @@
 -- Slices that are kept, and a slice of each record.
-use Rattle.std.proofs.Common.{◌≡◌, ℕ, zero, suc, ◌+◌, ◌<◌, ◌==◌, nat_lt, Bool, true, false, List, [], ◌∷◌, ◌++◌, length, replicate, take, drop, set, get_or, refl, sym, ap, ◌∙◌, subst, arith, eqb-true, true≢false}
-use Rattle.std.proofs.Math.{Numerals.{add-one}, Seq.{drop-cons}}
+use Rattle.std.proofs.Common.{◌≡◌, ℕ, zero, suc, ◌+◌, ◌<◌, ◌==◌, nat_lt, Bool, true, false, List, [], ◌∷◌, ◌++◌, length, replicate, take, set, get_or, refl, sym, ap, ◌∙◌, subst, arith, eqb-true, true≢false}
 use Rattle.std.proofs.lemmas.Bool.{eqb-false, eq-eqb, ltb-true, ltb-false, lt-ltb, and_parts, cond-true, cond-false}
 use Rattle.std.proofs.lemmas.List.{length-set, length-append, ext_get_or, get_or-set_same, get_or-set_other, get_or_append_left, get_or_push, get_or-take, length-take-le}
 use Rattle.std.specs.{List.{AllByRecursion}, Prelude.{◌&&◌}}
 use Rattle.split_engine.{proofs.Works.{all_at}, specs.Rules.{Rules, SplitLaws}}
 use Rattle.split_engine.specs.Splitting.{after_slice_act, merged_all}
 use Rattle.split_engine.specs.inner.Kept.{is_at, AreKept, kept, spread_from, spread}
-
--- ---- lists, place by place
-
--- the element at a place, and those after it
-pub next_at : {X : Type 0} (xs rest : List X) (k : ℕ) (x d : X) → k < length xs → drop k xs ≡ x ∷ rest → (get_or xs k d ≡ x) × (rest ≡ drop (k + 1) xs)
-next_at xs rest k x d lt is =
-    let both : get_or xs k d ∷ drop (suc k) xs ≡ x ∷ rest = sym (drop-cons xs k d lt) ∙ is in
-    let first : get_or xs k d ≡ x = cc in let others : drop (suc k) xs ≡ rest = cc in
-    (first, sym others ∙ ap (λ n. drop n xs) (sym (add-one k)))
 
 -- ---- guesses
 

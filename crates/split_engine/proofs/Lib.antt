@@ -1,5 +1,6 @@
 pub mod Splits
 pub mod Works
+mod Zips
 mod Pieces
 mod KeptSlices
 mod States

@@ -370,3 +370,6 @@ served_next rules size k ss ds s d rest history lt is next h =
 
 pub tasks_none : {J V : Type 0} (view : J → V) (made : List J) (old all : List V) → made ≡ [] → old ≡ all → map view made ++ old ≡ all
 tasks_none view made old all none same = ap (λ xs. map view xs ++ old) none ∙ same
+
+pub tasks_all : {J V : Type 0} (view : J → V) (made : List J) (left all : List V) → left ≡ [] → map view made ++ left ≡ all → map view made ≡ all
+tasks_all view made left all none is = sym (append-nil (map view made)) ∙ ap (λ vs. map view made ++ vs) (sym none) ∙ is

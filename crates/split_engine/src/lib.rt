@@ -36,6 +36,7 @@ pub use few::{Few, FewIter, MOST_KEYS};
 pub use history::History;
 pub use joined::perform;
 pub use laws::{runs_replay_as_one, split_phases_replay};
+pub use looks::looks_at;
 pub use runs::{Policy, run};
-pub use scripts::{ScriptFault, are_within, check_scripts};
+pub use scripts::{ScriptFault, check_scripts, is_within};
 pub use state::{MOST_COMMITS, Outcome};

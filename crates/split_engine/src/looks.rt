@@ -7,7 +7,7 @@ use crate::few::Few;
 
 /// What a request sees at its keys.
 #[inline(always)]
-pub(crate) fn looks_at<A: Application>(table: &[A::Record], keys: &Few<u32>) -> Few<A::Look>
+pub fn looks_at<A: Application>(table: &[A::Record], keys: &Few<u32>) -> Few<A::Look>
     requires within { AllByRecursion (λ key. key < length table.now) keys.now }
     ensures { result ≡ looks_at A.rules table.now keys.now }
 {

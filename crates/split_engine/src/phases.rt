@@ -25,7 +25,7 @@ fn tasks<'a, A: Application>(
     phase: SplitPhase<'a, A>,
     scripts: &'a [Vec<A::Request>],
     cursors: Vec<Cursor<A::Request>>,
-    mut hints: Vec<Hints>,
+    hints: Vec<Hints>,
 ) -> Result<Vec<SplitTask<'a, A>>, AllocError>
     requires few { length scripts.now < index_end }
     requires quota { MOST_KEYS * phase.plan.quota < most_acts }
@@ -46,11 +46,8 @@ fn tasks<'a, A: Application>(
         (lists scripts.now) cursors.items) }
 {
     let mut made = Vec::with_capacity(alloc, scripts.len())?;
-    let mut cursors = cursors.into_iter();
-    for (worker, script) in scripts.iter().enumerate() {
-        let Some(cursor) = cursors.next() else {
-            unreachable!()
-        };
+    let mut hints = hints.into_iter();
+    for ((worker, script), cursor) in scripts.iter().enumerate().zip(cursors) {
         made.push(SplitTask {
             phase: SplitPhase {
                 table: phase.table,
@@ -62,7 +59,7 @@ fn tasks<'a, A: Application>(
                 alloc,
                 phase.table.len(),
                 cursor,
-                hints.pop().unwrap_or(Hints::none(alloc)),
+                hints.next().unwrap_or(Hints::none(alloc)),
             )?,
         })?;
     }

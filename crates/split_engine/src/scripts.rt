@@ -1,11 +1,10 @@
 //! Whether scripts can be run.
 ghost use Rattle.std.specs.List.{AllByRecursion};
-ghost use Rattle.std.specs.Prelude.{◌≡◌, ◌↔◌, ◌+◌, ◌<◌, ◌≤◌, Some, MatchOption, length, slice_get, IfOk, IfErr, IsTrue};
+ghost use Rattle.std.specs.Prelude.{◌≡◌, ◌↔◌, ◌+◌, ◌≤◌, Some, MatchOption, length, slice_get, IfOk, IfErr, IsTrue};
 ghost use Rattle.split_engine.specs.{Faults.{IsScriptFault}, Serial.{IsWithin}};
 ghost use Rattle.split_engine.specs.Serving.{lists, total, AreScripts};
 
 use crate::application::Application;
-use crate::few::Few;
 use crate::state::MOST_COMMITS;
 use thiserror::Error;
 
@@ -38,10 +37,11 @@ fn are_few<Q>(scripts: &[Vec<Q>]) -> bool
     true
 }
 
-/// Whether some keys are all of a table of so many records.
-pub fn are_within(keys: &Few<u32>, records: usize) -> bool
-    ensures { IsTrue result ↔ AllByRecursion (λ key. key < records) keys.now }
+/// Whether a request names keys of a table of so many records.
+pub fn is_within<A: Application>(request: &A::Request, records: usize) -> bool
+    ensures { IsTrue result ↔ IsWithin A.rules records request.now }
 {
+    let keys = A::keys(request);
     for key in keys.iter() {
         if key as usize >= records {
             return false;
@@ -57,8 +57,7 @@ fn without_key<A: Application>(script: &[A::Request], records: usize) -> Option<
         × (IsWithin A.rules records q → ⊥)) }
 {
     for (index, request) in script.iter().enumerate() {
-        let keys = A::keys(request);
-        if !are_within(&keys, records) {
+        if !is_within::<A>(request, records) {
             return Some(index);
         }
     }

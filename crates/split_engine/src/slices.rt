@@ -118,12 +118,8 @@ impl<A: Application> Slices<A> {
             keys,
             slices,
         } = self;
-        let mut slices = slices.into_iter();
-        for place in 0..keys.len() {
-            let Some(slice) = slices.next() else {
-                unreachable!()
-            };
-            A::merge(&mut table[keys[place] as usize], slice);
+        for (key, slice) in keys.into_iter().zip(slices) {
+            A::merge(&mut table[key as usize], slice);
         }
         guesses
     }

@@ -1,10 +1,11 @@
 //! How fast windows are, alone and beside a run, and what a run pays for them.
-ghost use Rattle.std.specs.Prelude.{◌≡◌, ◌<◌, ◌≤◌, []};
+ghost use Rattle.std.specs.Prelude.{◌≡◌, ◌≤◌, []};
+ghost use Rattle.auction_rows.specs.declared.limits.TheConstants.{MOST_WORKERS};
 ghost use Rattle.item_shards.specs.OpeningBooks.{opening_of, rows_of_book};
 
 use crate::timed::Timed;
 use anyhow::Result;
-use auction_rows::{ItemId, MOST_WORKERS, Opening, Request};
+use auction_rows::{ItemId, Opening, Request};
 use auction_run::{Board, FreeGate, NoBoard, Policy, WindowBoard, run_shown};
 use auction_text::read_scripts;
 use auction_window::{PhaseLog, Publisher, Window, WindowName};
@@ -44,15 +45,31 @@ const POLICY: Policy = Policy {
 
 const WORKERS: u32 = 4;
 
-// A publisher has as many windows at most as a run has workers.
-const MOST_WINDOWS: u32 = MOST_WORKERS as u32;
-
 const BIDS: usize = 250_000;
 
 const VIEWS_EACH: u64 = 1_000_000;
 
 // More views than a run leaves time for: windows stop once their publisher has ended.
 const MOST_VIEWS: u64 = 1_000_000_000_000;
+
+// Threads that view: so many, each with a window, and the most views of each.
+#[derive(Clone, Copy)]
+struct Viewers {
+    windows: u32,
+    most: u64,
+    ghost some: { 1 ≤ windows },
+    // A publisher has as many windows at most as a run has workers.
+    ghost few: { windows ≤ MOST_WORKERS },
+}
+
+impl Viewers {
+    fn new(windows: u32, most: u64) -> Viewers
+        requires some { 1 ≤ windows }
+        requires few { windows ≤ MOST_WORKERS }
+    {
+        Viewers { windows, most }
+    }
+}
 
 /// Prints the figures.
 pub fn measure<R>(rt: &R, alloc: Global) -> Result<()>
@@ -70,8 +87,9 @@ where
 {
     measure_alone(rt, alloc, book)?;
     measure_unshown(rt, alloc, book)?;
-    for (windows, most) in [(1, 0), (1, MOST_VIEWS), (4, MOST_VIEWS), (16, MOST_VIEWS)] {
-        show_run(rt, alloc, book, windows, most)?;
+    measure_shown(rt, alloc, book, Viewers::new(1, 0))?;
+    for windows in [1, 4, 16] {
+        measure_shown(rt, alloc, book, Viewers::new(windows, MOST_VIEWS))?;
     }
     Ok(())
 }
@@ -113,9 +131,9 @@ where
 {
     println!(rt; "windows alone, {VIEWS_EACH} views each")?;
     for windows in [1, 4, 16] {
-        let begun = Instant::now(rt)?;
-        let views = views_alone(rt, alloc, book, windows)?;
-        print_views(rt, windows, views, begun.elapsed(rt)?)?;
+        let viewers = Viewers::new(windows, VIEWS_EACH);
+        let (views, spent) = view_alone::<Brand, R>(rt, alloc, PhaseLog::new(), book, viewers)?;
+        print_views(rt, windows, views, spent)?;
     }
     Ok(())
 }
@@ -180,61 +198,48 @@ fn join_all<R: Threads>(rt: &R, watchers: Vec<JoinHandle<u64>>) -> u64 {
     views
 }
 
-fn views_alone<R: Threads + Wait + Sync>(
+// How many views windows have, and how long they take.
+fn time_views<J: WindowName + Send + Sync + 'static, R: Threads + Clock>(
     rt: &R,
     alloc: Global,
-    book: &OpeningBook,
-    windows: u32,
-) -> Result<u64> {
-    view_alone::<Brand, R>(
-        rt,
-        alloc,
-        PhaseLog::new(),
-        book,
-        windows.clamp(1, MOST_WINDOWS),
-    )
+    windows: Vec<Window<J>>,
+    most: u64,
+) -> Result<(u64, Duration)> {
+    let begun = Instant::now(rt)?;
+    let watchers = start_all(rt, alloc, windows, most)?;
+    let views = join_all(rt, watchers);
+    Ok((views, begun.elapsed(rt)?))
 }
 
-// So many windows on an auction in which nothing happens.
-fn view_alone<J: WindowName + Send + Sync + 'static, R: Threads + Wait + Sync>(
+// The views of an auction in which nothing happens, and how long they take.
+fn view_alone<J, R>(
     rt: &R,
     alloc: Global,
     log: PhaseLog,
     book: &OpeningBook,
-    windows: u32,
-) -> Result<u64>
+    viewers: Viewers,
+) -> Result<(u64, Duration)>
+where
+    J: WindowName + Send + Sync + 'static,
+    R: Threads + Wait + Sync + Clock,
     requires log { log ≡ J.log }
     requires opening { opening_of book.now ≡ J.opening }
     requires rows { rows_of_book book.now ≡ J.rows }
-    requires windows { (0 < windows) × (windows ≤ MOST_WORKERS) }
 {
-    let (publisher, windows) = Publisher::<J>::new(rt, alloc, log, book, windows)?;
-    let started = start_all(rt, alloc, windows, VIEWS_EACH);
-    let views = started.map(|watchers| join_all(rt, watchers));
+    let (publisher, windows) = Publisher::<J>::new(rt, alloc, log, book, viewers.windows)?;
+    let timed = time_views(rt, alloc, windows, viewers.most);
     publisher.end(rt);
-    Ok(views?)
+    timed
 }
 
-// Prints how long a run takes beside so many windows, and how fast they are.
-fn show_run<R: Threads + Wait + Sync + Clock + Print>(
-    rt: &R,
-    alloc: Global,
-    book: &OpeningBook,
-    windows: u32,
-    most: u64,
-) -> Result<()> {
-    let windows = windows.clamp(1, MOST_WINDOWS);
-    let viewers = Viewers { windows, most };
+// Prints how long a run takes beside windows, and how fast they are.
+fn measure_shown<R>(rt: &R, alloc: Global, book: &OpeningBook, viewers: Viewers) -> Result<()>
+where
+    R: Threads + Wait + Sync + Clock + Print,
+{
     let shown = view_beside::<Brand, R>(rt, alloc, PhaseLog::new(), book, viewers)?;
-    print_shown(rt, windows, shown)?;
+    print_shown(rt, viewers.windows, shown)?;
     Ok(())
-}
-
-// Threads that view beside a run: so many, each with a window, and the most views of each.
-#[derive(Clone, Copy)]
-struct Viewers {
-    windows: u32,
-    most: u64,
 }
 
 // A run that windows have viewed: how long it took, how much of that to publish so many phases, and
@@ -276,7 +281,6 @@ where
     requires log { log ≡ J.log }
     requires opening { opening_of book.now ≡ J.opening }
     requires rows { rows_of_book book.now ≡ J.rows }
-    requires windows { (0 < viewers.windows) × (viewers.windows ≤ MOST_WORKERS) }
 {
     let all = scripts(alloc)?;
     let (publisher, windows) = Publisher::<J>::new(rt, alloc, log, book, viewers.windows)?;

@@ -1,5 +1,5 @@
 -- Points that are drawn.
-use Rattle.std.proofs.Common.{◌≡◌, ℕ, Bool, if◌then◌else◌, ◌+◌, ◌^◌, ◌<◌, ℤ, pos, ◌+ℤ◌, ◌-ℤ◌, refl, sym, subst, ap, ◌∙◌, add-zero, zero-add, arith}
+use Rattle.std.proofs.Common.{◌≡◌, ℕ, Bool, if◌then◌else◌, ◌+◌, ◌^◌, ◌<◌, pos, ◌+ℤ◌, ◌-ℤ◌, refl, sym, subst, ap, ◌∙◌, add-zero, zero-add, arith}
 use Rattle.std.specs.Int.RustNames.{unsigned_abs}
 use Rattle.rand.specs.Uniform.{DrawsBetween, canon}
 use Rattle.rand_core.specs.Stream.{Stream, next_u32, next_u64}

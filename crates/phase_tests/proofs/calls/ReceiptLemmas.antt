@@ -3,9 +3,11 @@ use Rattle.std.proofs.Common.{◌≡◌, ℕ, zero, suc, ◌<◌, List, [], ◌�
 use Rattle.std.specs.Prelude.{IfOk, IfErr}
 use Rattle.auction_rows.specs.declared.{requests.Request.Request, replies.Reply.Reply}
 use Rattle.shard_boxes.specs.States.{ShardState}
-use Rattle.phase_transactions.specs.Performing.{HasCommitted, HasDealtWith, HasFailed}
+use Rattle.phase_transactions.specs.Performing.{HasCommitted, HasFailed}
+use Rattle.phase_permits.specs.Dealing.{HasDealtWith}
 use Rattle.phase_transactions.specs.Workers.{WorkerState, with_try}
-use Rattle.phase_transactions.specs.declared.done.{Done.Done, PermitFault.PermitFault}
+use Rattle.phase_permits.specs.declared.done.Done.{Done}
+use Rattle.phase_transactions.specs.declared.fault.PermitFault.{PermitFault}
 use Rattle.phase_floor.proofs.Receipts.{committed, dealt, failed}
 use Rattle.phase_floor.specs.{Closings.{AreReceiptsOf, IsReceipt}, Floors.{FloorState}}
 

@@ -2,9 +2,10 @@
 use Rattle.std.proofs.Common.{◌≡◌, ℕ, List, Option, Some, None, Result, Ok, Err, sym, ap, subst, ◌∙◌}
 use Rattle.std.specs.Prelude.{IfOk, IfErr, IfSome, IfNone}
 use Rattle.auction_rows.specs.declared.{requests.Request.Request, replies.Reply.Reply}
-use Rattle.phase_transactions.specs.Performing.{HasFailed, HasCommitted, HasPerformedFirst, HasFailedFirst, HaveOpening}
+use Rattle.phase_transactions.specs.Performing.{HasFailed, HasCommitted, HaveOpening}
+use Rattle.phase_permits.specs.Dealing.{HasPerformedFirst, HasFailedFirst}
 use Rattle.phase_transactions.specs.Workers.{WorkerState, with_try}
-use Rattle.phase_transactions.specs.declared.done.PermitFault.{PermitFault}
+use Rattle.phase_transactions.specs.declared.fault.PermitFault.{PermitFault}
 use Rattle.shard_boxes.specs.{Keys.{BoxId}, States.{ShardState}}
 use Rattle.phase_tests.specs.Permits.{IsPermitFor}
 

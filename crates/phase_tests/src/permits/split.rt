@@ -1,7 +1,7 @@
 //! A split permit of worker 0, who has stored the first item.
 ghost use Rattle.std.specs.Prelude.{◌≡◌, Ok};
 ghost use Rattle.phase_transactions.specs.Workers.{IsUnused};
-ghost use Rattle.phase_transactions.specs.declared.done.Done.TheVariants.{Stashed};
+ghost use Rattle.phase_permits.specs.declared.done.Done.TheVariants.{Stashed};
 ghost use Rattle.phase_tests.specs.Permits.{IsPermitFor};
 
 use auction_rows::{MOST_TRIES, Object, Reply, Request, Stars};

@@ -46,6 +46,12 @@ pub record MayBegin (shards : ℕ) (w : WorkerState) (request : Request)
   pub homes_are : AreHomesOf w shards request homes
   pub asked : (t : ℕ) → asks shards w request t ≡ is_one_of (footprint_of homes) t
 
+-- A request may begin over these homes, of which this shard is the only one.
+pub record MayBeginOn (shards : ℕ) (w : WorkerState) (request : Request) (homes : Homes)
+    (shard : ℕ) : Type 0 where
+  pub may : MayBegin shards w request homes
+  pub only : footprint_of homes ≡ shard ∷ []
+
 -- A worker has taken the shards of a request's footprint, and there is a number after its clock and
 -- theirs.
 pub record HasBegun {N : Type 0} (step : Step) (w : WorkerState) (request : Request)

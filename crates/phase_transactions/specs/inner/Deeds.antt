@@ -3,7 +3,6 @@ use Rattle.std.specs.Prelude.{◌≡◌, ◌==◌, ℕ, Bool, false, if◌then�
 use Rattle.auction_rows.specs.Replies.{row_of}
 use Rattle.auction_rows.specs.declared.replies.Reply.TheVariants.{ItemStored, Refused}
 use Rattle.auction_rows.specs.declared.requests.Object.TheVariants.{Item}
-use Rattle.auction_rows.specs.declared.requests.Request.TheVariants.{StoreBid}
 use Rattle.auction_rows.specs.declared.{requests.ItemId.ItemId, requests.Facts.Facts, requests.Object.Object, requests.Request.Request, replies.Refusal.Refusal, replies.Reply.Reply}
 use Rattle.shard_boxes.specs.Helds.{HeldState}
 use Rattle.phase_transactions.specs.Txns.{IsReplyTo, refusal_by, ReadSet}
@@ -144,8 +143,3 @@ pub record AreGoodOn (a b : Option ℕ) (x y : Event) (held : HeldState) : Type 
   -- where both are, the second one is good after the first one
   pub after : a ≡ Some held.number → b ≡ Some held.number →
       IsGood held.shard (after_act (contents held.shard) x) y
-
--- whether a request is a bid
-abbrev pub IsBid : Request → Type 0
-IsBid (StoreBid bidder item amount time) = ⊤
-IsBid request = ⊥

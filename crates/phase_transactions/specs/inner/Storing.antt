@@ -3,8 +3,8 @@ use Rattle.std.specs.Prelude.{◌≡◌, ℕ, ◌<◌, ◌≤◌, Result, Ok, Er
 use Rattle.auction_rows.specs.declared.requests.Request.{Request}
 use Rattle.item_shards.specs.CommitNumbers.{last_number}
 use Rattle.phase_transactions.specs.{Performing.{HasStoredSome}, Workers.{WorkerState}}
-use Rattle.phase_transactions.specs.declared.done.PermitFault.{PermitFault}
-use Rattle.phase_transactions.specs.declared.done.PermitFault.TheVariants.{Memory, NumberFull}
+use Rattle.phase_transactions.specs.declared.fault.PermitFault.{PermitFault}
+use Rattle.phase_transactions.specs.declared.fault.PermitFault.TheVariants.{Memory, NumberFull}
 
 -- What became of a request that takes no shard: it was committed, or the clock is at the end of
 -- numbers, and nothing has changed.

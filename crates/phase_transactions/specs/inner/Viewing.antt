@@ -1,19 +1,10 @@
 -- What a view shows.
 use Rattle.std.specs.Prelude.{◌≡◌, ℕ, None}
-use Rattle.auction_rows.specs.declared.requests.Request.TheVariants.{ViewItem, ViewBids, ViewCategory, ViewUser}
 use Rattle.auction_rows.specs.declared.{requests.Request.Request, replies.Reply.Reply}
 use Rattle.item_shards.specs.{Looking.{IsTrueOf}, ShardContents.{contents}}
 use Rattle.item_shards.specs.declared.shard.{Shard.{Shard}, acts.Look.{Look}}
 use Rattle.worker_slices.specs.declared.counters.Counters.{Counters}
 use Rattle.phase_transactions.specs.{Txns.{IsReplyTo}, inner.{Begun.{look_for}, Deeds.{shown_with}}}
-use Rattle.phase_transactions.specs.declared.deeds.Viewed.{TheVariants.{Item, Bids, Category, User}, Viewed}
-
--- a view as a request
-abbrev pub view_request : Viewed → Request
-view_request (Item item) = ViewItem item
-view_request (Bids item) = ViewBids item
-view_request (Category category) = ViewCategory category
-view_request (User user) = ViewUser user
 
 -- the shard that was taken shows a reply to a view
 pub record IsShownBy (shard : Shard) (request : Request) (look : Look)

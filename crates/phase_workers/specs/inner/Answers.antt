@@ -1,6 +1,6 @@
 -- What the workers of a phase give, and the first fault that one of them met.
 use Rattle.std.specs.Prelude.{List, [], ◌∷◌, Result, Ok, Err, Option, Some, None}
-use Rattle.phase_transactions.specs.declared.done.PermitFault.{PermitFault}
+use Rattle.phase_transactions.specs.declared.fault.PermitFault.{PermitFault}
 use Rattle.phase_workers.specs.declared.round.WorkerAnswer.{WorkerAnswer}
 
 -- what a worker gives that met no fault

@@ -11,7 +11,6 @@ use Rattle.auction_text.specs.Scripts.{Asked}
 use Rattle.closing_laws.specs.Standing.{counters_at, stores}
 use Rattle.item_shards.specs.OpeningRows.{rows_by}
 use Rattle.log_opening.specs.Parts.{rows_from}
-use Rattle.part_log.specs.declared.log.Teller.{Teller}
 use Rattle.phase_floor.specs.States.{JoinedState}
 use Rattle.run_laws.specs.{Answers.{IsAnswer}, Serving.{script_of}}
 use Rattle.shard_boxes.specs.declared.limits.TheConstants.{MOST_COMMITS}
@@ -20,7 +19,7 @@ use Rattle.program_opening.specs.declared.faults.Fault.TheVariants.{Row, Run, Li
 use Rattle.program_opening.specs.declared.options.Options.{Options}
 use Rattle.program_serving.specs.PartRuns.{IsStart, RunsPart}
 use Rattle.program_serving.specs.ServeFaults.{IsFirstBadRow, IsPartFault, IsPartRefused}
-use Rattle.program_serving.specs.Serving.{AddsRows, ends_at_fault}
+use Rattle.program_serving.specs.Serving.{AddsRows, Telling, ends_at_fault}
 use Rattle.program_serving.specs.declared.parts.{NextPart.{NextPart}, Served.{Served}}
 
 -- Scripts of the options' workers begin with the options' auction, at this book.
@@ -139,10 +138,8 @@ IsNotBegun options book gone before asked fault = (past : Option ℕ)
     × IsPartRefused options book gone before (done_of past asked) fault)
 
 -- Of what is asked for from a book, what is done is not served, for this fault.
-pub record FailsPart {L W : Type 0} (accepted : L → Option (List ℕ))
-    (contents : W → Option (List ℕ)) (old new : Teller L W) (options : Options) (book : Book)
-    (gone : Gone) (before : ℕ) (asked : Asked) (fault : Fault) : Type 0 where
+pub record FailsPart (told : Telling) (options : Options) (book : Book) (gone : Gone) (before : ℕ)
+    (asked : Asked) (fault : Fault) : Type 0 where
   pub past : Option ℕ
   pub are : AreDoneOf options book asked past
-  pub fails : IsPartFault accepted contents old new options book gone before (done_of past asked)
-      fault
+  pub fails : IsPartFault told options book gone before (done_of past asked) fault

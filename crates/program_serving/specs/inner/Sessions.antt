@@ -6,11 +6,10 @@ use Rattle.auction_text.specs.{LiveEnd.TheVariants.{More, Fault, All}, LiveInput
 use Rattle.auction_text.specs.{LiveParts.{HasToSay, live_workers}, Moved.{Gone, gone_by}}
 use Rattle.auction_text.specs.Said.{Said}
 use Rattle.auction_text.specs.Said.TheVariants as says
-use Rattle.part_log.specs.declared.log.Teller.{Teller}
 use Rattle.program_opening.specs.declared.options.Options.{Options}
 use Rattle.program_serving.specs.FaultLines.{fault_text, limit_text}
 use Rattle.program_serving.specs.PartRuns.{IsStart, rows_before}
-use Rattle.program_serving.specs.Serving.{AreTold, IsServed, Step, book_left, ends_at_fault, gone_after, line_answer, nothing_gone, served_rows, served_text, turned_answer}
+use Rattle.program_serving.specs.Serving.{IsServed, Step, Telling, book_left, ends_at_fault, gone_after, line_answer, nothing_gone, served_rows, served_text, turned_answer}
 use Rattle.program_serving.specs.declared.fault_lines.Turned.{TheVariants.{Line, Past}, Turned}
 use Rattle.program_serving.specs.declared.fault_lines.TurnedLine.{TurnedLine}
 use Rattle.program_serving.specs.declared.{parts.Served.{Served}, session.Session.{Session}}
@@ -84,9 +83,8 @@ pub record IsSession (options : Options) (book : Book) (all : List Said) (served
 
 -- An input is served so far from a book, all that was asked for of it is told, and a session goes
 -- on with the rest.
-abbrev pub IsServedSoFar : {R L W : Type 0} → (R → Option (List ℕ)) → (L → Option (List ℕ)) →
-    (W → Option (List ℕ)) → Teller L W → Teller L W → Options → Book → List Said → Session R →
-    Type 0
-IsServedSoFar remaining accepted contents old new options book all session =
+abbrev pub IsServedSoFar : {R : Type 0} → (R → Option (List ℕ)) → Telling → Options → Book →
+    List Said → Session R → Type 0
+IsServedSoFar remaining told options book all session =
     IsSession options book all session.served (GoesOnTo remaining options.workers session.end)
-    (AreTold accepted contents old new)
+    told.whole

@@ -3,7 +3,7 @@ use Rattle.std.proofs.{Math.{Numerals.{add-one}, Seq.{take-suc}}, lemmas.List.{t
 use Rattle.std.proofs.lemmas.{Bool.{false≢true}, Option.{slice_get-get_or}}
 use Rattle.std.specs.List.{AllByRecursion}
 use Rattle.application_check.proofs.Lines.{marks_at_first, all_had, lines_push, after_push}
-use Rattle.application_check.specs.Checking.{IsRightLine, after_line, lines_replay, after_lines}
+use Rattle.application_check.specs.Checking.{IsRightLine, after_line, LinesReplay, after_lines}
 use Rattle.split_engine.specs.{Serving.{lists, request_at}, declared.few.TheConstants.{MOST_KEYS}}
 use Rattle.application_check.specs.inner.Marking.{AreMarks}
 use Rattle.application_check.proofs.referee.check_history.Goals as goal
@@ -43,7 +43,7 @@ loop-place-preserved g c =
     let taken : take (place + 1) lines ≡ take place lines ++ line ∷ [] =
     ap (λ n. take n lines) (add-one place) ∙ take-suc lines place line c.loop-place-test.true
     ∙ ap (λ x. take place lines ++ x ∷ []) (sym c.index-lines-place.is) in record {
-      replays = subst (lines_replay s.rules scripts [] c.args.table.now.items) (sym taken)
+      replays = subst (LinesReplay s.rules scripts [] c.args.table.now.items) (sym taken)
           (lines_push s.rules scripts [] c.args.table.now.items (take place lines) line was.replays
           (subst (λ t. IsRightLine s.rules scripts (take place lines) t line) was.table ((e.right (take place lines) was.marks).0 refl)));
       marks = subst (λ ls. AreMarks scripts ls (lists c.check_line.new.marks.items)) (sym taken) (e.marks (take place lines) was.marks);
@@ -60,7 +60,7 @@ pub returns-clause-history : goal.returns-clause-history
 returns-clause-history g c =
     let s = g.A.Application in let was = c.loop-place.invariant in let scripts = lists c.args.scripts.now in let lines = c.args.lines.now in
     let whole : take c.loop-place.place lines ≡ lines = take_all c.loop-place.place lines (omega (arith, c.loop-place-test.false)) in record {
-      replays = subst (lines_replay s.rules scripts [] c.args.table.now.items) whole was.replays;
+      replays = subst (LinesReplay s.rules scripts [] c.args.table.now.items) whole was.replays;
       none_lacks = all_had scripts lines (lists c.loop-place.marks.items) (subst (λ ls. AreMarks scripts ls (lists c.loop-place.marks.items)) whole was.marks)
           (λ w i at. c.in-None.ensures w i (ap (λ rows. request_at (lists rows) w i) c.deref.ensures.value ∙ at));
     }

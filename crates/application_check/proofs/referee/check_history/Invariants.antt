@@ -1,11 +1,11 @@
 use Rattle.std.{proofs.Common.{◌≡◌, ◌+◌, ◌*◌, [], ℕ, length, take}, specs.List.{AllByRecursion}}
 use Rattle.split_engine.specs.{Serving.{lists}, declared.few.TheConstants.{MOST_KEYS}}
-use Rattle.application_check.specs.{Checking.{lines_replay, after_lines}, inner.Marking.{AreMarks}}
+use Rattle.application_check.specs.{Checking.{LinesReplay, after_lines}, inner.Marking.{AreMarks}}
 use Rattle.application_check.proofs.referee.check_history.Given as goal
 
 abbrev pub invariant-loop-place : goal.invariant-loop-place
 invariant-loop-place g l = record {
-  replays : lines_replay g.A.Application.rules (lists l.scripts) [] l.fn.table.items (take l.place l.lines);
+  replays : LinesReplay g.A.Application.rules (lists l.scripts) [] l.fn.table.items (take l.place l.lines);
   marks : AreMarks (lists l.scripts) (take l.place l.lines) (lists l.marks.items);
   table : l.table.items ≡ after_lines g.A.Application.rules (lists l.scripts) l.fn.table.items (take l.place l.lines);
   size : length l.table.items ≡ length l.fn.table.items;

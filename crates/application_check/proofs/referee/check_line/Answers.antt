@@ -1,8 +1,8 @@
-use Rattle.std.proofs.Common.{◌+◌, ◌<◌, true, false, length, Some, sym, ap, ◌∙◌, arith}
+use Rattle.std.proofs.Common.{◌+◌, true, false, length, Some, sym, ap, ◌∙◌, arith}
 use Rattle.std.proofs.lemmas.{Bool.{true≢false, false≢true, OnTrue_from}, Option.{none-some, same_Some}}
 use Rattle.application_check.{proofs.Lines.{in_scripts, mark_there, marks_more}, specs.Checking.{has_line, next_if}}
 use Rattle.split_engine.proofs.Splits.{length-acts, fit_most}
-use Rattle.split_engine.specs.{Rules.{index_end}, Serial.{IsWithin, acts_at, reply}, Serving.{lists}}
+use Rattle.split_engine.specs.{Serial.{IsWithin, acts_at, reply}, Serving.{lists}}
 use Rattle.split_engine.specs.declared.few.TheConstants.{MOST_KEYS}
 use Rattle.application_check.proofs.referee.check_line.Goals as goal
 
@@ -24,8 +24,7 @@ returns-then-mark-clause-fits g c n h =
 pub perform-reply-requires-clause-within : goal.perform-reply-requires-clause-within
 perform-reply-requires-clause-within g c =
     let size = length c.args.table.now.items in let line = c.args.line.now in
-    in_scripts (IsWithin g.A.Application.rules size) (λ script. length script < index_end) (lists c.args.scripts.now) line.worker line.index c.in-Some.request.now
-    c.requires.scripts c.in-Some.ensures
+    in_scripts (IsWithin g.A.Application.rules size) (lists c.args.scripts.now) line.worker line.index c.in-Some.request.now c.requires.scripts c.in-Some.ensures
 
 pub returns-clause-size : goal.returns-clause-size
 returns-clause-size g c =

@@ -14,9 +14,9 @@ returns-then-options-clause-unasked g c = IfOk-weaker c.perform_watched.result _
 
 pub returns-in_err-outcome-clause-cause : goal.returns-in_err-outcome-clause-cause
 returns-in_err-outcome-clause-cause g c =
-    let rows = opened.rows_of_book c.args.book.now in let scripts = c.args.scripts.items in
+    let asked = c.args.asked in let rows = opened.rows_of_book asked.book.now in let scripts = asked.scripts.items in
     let fault = c.in_err-outcome.field-0.0 in let refused = c.run.ensures.refused in
-    error_is c.from_residual.result (Run fault) (λ f. IsNotPerformed c.args.options.now f rows scripts) c.from_residual.ensures
+    error_is c.from_residual.result (Run fault) (IsNotPerformed asked) c.from_residual.ensures
     (subst (λ p. IsNotRun p fault rows scripts) c.policy.ensures
     (not_run c.policy.result rows scripts c.run.result fault c.in_err-outcome.was refused.workers refused.shards refused.quota refused.too_long
     c.run.ensures.spawn c.run.ensures.numbers))

@@ -17,34 +17,34 @@ use Rattle.auction_program.proofs.execution.watch.Goals as goal
 
 pub returns-clause-performs : goal.returns-clause-performs
 returns-clause-performs g c =
-    let W = g.J.WindowName in let options = c.args.options.now in
-    let rows = opened.rows_of_book c.args.book.now in let outcome = c.in_ok-outcome.outcome in
+    let W = g.J.WindowName in let asked = c.args.asked in let options = asked.options.now in
+    let rows = opened.rows_of_book asked.book.now in let outcome = c.in_ok-outcome.outcome in
     let answers = c.in_ok-outcome.ensures in let history = outcome.history.entries in
     let shown = answers.board in
     let all : List (List Row) = phase_rows (length outcome.hot.items) history in
     let book : Book = book_after (opening_asked options) rows history in
-    let replays = subst (λ o. ReplaysFrom o rows history) c.requires.options answers.answer.outcome.replays in
+    let replays = subst (λ o. ReplaysFrom o rows history) asked.opens answers.answer.outcome.replays in
     let end : IsEnd W.opening W.rows all all outcome.state book = record {
       known = prefix_refl all;
       counted = rows_length (length outcome.hot.items) history ∙ sym answers.answer.outcome.phases;
-      book_is = ap (λ (rs : Book). book_of rs all) (sym c.requires.rows) ∙ shown.book_is ∙ sym (book_after-replays (opening_asked options) rows history replays);
-      opening_is = answers.answer.outcome.opening_is ∙ c.requires.opening;
-      stands = subst (λ o. StandsFor outcome.state (book_after o rows history)) c.requires.options answers.answer.outcome.stands;
+      book_is = ap (λ (rs : Book). book_of rs all) (sym c.requires.book.rows_are) ∙ shown.book_is ∙ sym (book_after-replays (opening_asked options) rows history replays);
+      opening_is = answers.answer.outcome.opening_is ∙ c.requires.book.opening_is;
+      stands = subst (λ o. StandsFor outcome.state (book_after o rows history)) asked.opens answers.answer.outcome.stands;
     } in
     let told = subst (λ o. MatchOption o (all ≡ []) (λ last. last ≡ all)) (sym c.take-told.ensures.value) shown.has_them.told_last in
     record {
       allowed = search rules;
       answer = search rules;
-      lines = subst (λ (told : Performed). HasLastViews options rows told.history.entries told.lines) (sym c.told_of.ensures)
+      lines = subst (λ (told : Performed). HasLastViews options rows told) (sym c.told_of.ensures)
           (IfSome_then c.last_lines-lines.result c.last_lines-lines.ensures
-          (λ lines holds. subst (λ o. AreViews o book lines.categories.items lines.users.items) (sym c.requires.opening ∙ c.requires.options) (holds all book told end)));
+          (λ lines holds. subst (λ o. AreViews o book lines.categories.items lines.users.items) (sym c.requires.book.opening_is ∙ asked.opens) (holds all book told end)));
     }
 
 pub returns-in_err-outcome-clause-cause : goal.returns-in_err-outcome-clause-cause
 returns-in_err-outcome-clause-cause g c =
-    let rows = opened.rows_of_book c.args.book.now in let scripts = c.args.scripts.items in
+    let asked = c.args.asked in let rows = opened.rows_of_book asked.book.now in let scripts = asked.scripts.items in
     let fault = c.in_err-outcome.field-0.0 in let refused = c.run_shown.ensures.answer.refused in
-    error_is c.from_residual.result (Run fault) (λ f. IsNotPerformed c.args.options.now f rows scripts) c.from_residual.ensures
+    error_is c.from_residual.result (Run fault) (IsNotPerformed asked) c.from_residual.ensures
     (subst (λ p. IsNotRun p fault rows scripts) c.policy.ensures
     (not_run c.policy.result rows scripts c.run_shown.result fault c.in_err-outcome.was refused.workers refused.shards refused.quota refused.too_long
     c.run_shown.ensures.answer.spawn c.run_shown.ensures.answer.numbers))

@@ -3,10 +3,10 @@ use Rattle.std.proofs.{KnownBytes.{Appends-trans}, lemmas.Result.{IfErr-weaker, 
 use Rattle.std.specs.Io.KnownBytes.{Appends}
 use Rattle.auction_rows.specs.History.{book_after}
 use Rattle.byte_texts.specs.{Writing.{IsPartWritten}, declared.writing.WriteFault.{WriteFault}}
-use Rattle.program_opening.specs.Options.{commits_text, opening_asked}
+use Rattle.program_opening.specs.Options.{opening_asked}
 use Rattle.auction_program.proofs.WrittenLemmas.{nothing_added, report_added}
-use Rattle.auction_program.specs.Execution.{added_text, ArePartWritten, IsOneWritten}
-use Rattle.auction_program.specs.Report.{report_of}
+use Rattle.auction_program.specs.Execution.{ArePartWritten, IsOneWritten}
+use Rattle.auction_program.specs.{Report.{report_of}, inner.Performing.{added_of, commits_of}}
 use Rattle.auction_program.proofs.texts.write_texts.Goals as goal
 use Rattle.auction_run.specs.Phases.{hot_sets}
 use Rattle.program_serving.proofs.TextLemmas.{part_of_added}
@@ -15,11 +15,11 @@ pub returns-in-Some : goal.returns-in-Some
 returns-in-Some g c =
     let old = g.W.Write.contents c.args.writer.now in
     let mid = g.W.Write.contents c.write_commits.new.writer in
-    let new = g.W.Write.contents c.write_report.new.writer in let options = c.args.options.now in
-    let rows = c.args.rows.now in let history = c.args.performed.now.history.entries in
-    let hot = hot_sets c.args.performed.now.hot.items in
-    let text = commits_text options rows history in
-    let added = added_text options rows history hot in
+    let new = g.W.Write.contents c.write_report.new.writer in let texts = c.args.texts in
+    let options = texts.options.now in let rows = texts.rows.now in
+    let history = texts.performed.now.history.entries in
+    let hot = hot_sets texts.performed.now.hot.items in
+    let text = commits_of texts in let added = added_of texts in
     let first : Appends old mid text = c.in_ok-write_commits.ensures.whole in
     let report_is = report_added options.report (opening_asked options) (book_after (opening_asked options) rows history) history hot _ _ _ c.in-Some.is c.requires
     (ap (λ sets. hot_sets sets) c.deref.ensures.value) c.if-not-options.false in record {
@@ -36,10 +36,10 @@ returns-in-None-clause-memory g c = λ _. inr (c.if-not-options.false, c.in_ok-w
 
 pub returns-then-not-options-clause-whole : goal.returns-then-not-options-clause-whole
 returns-then-not-options-clause-whole g c =
-    let options = c.args.options.now in let rows = c.args.rows.now in
-    let history = c.args.performed.now.history.entries in
-    let hot = hot_sets c.args.performed.now.hot.items in
+    let texts = c.args.texts in let options = texts.options.now in
+    let rows = texts.rows.now in let history = texts.performed.now.history.entries in
+    let hot = hot_sets texts.performed.now.hot.items in
     let new = g.W.Write.contents c.write_commits.new.writer in
-    nothing_added (g.W.Write.contents c.args.writer.now) new (commits_text options rows history) (added_text options rows history hot)
+    nothing_added (g.W.Write.contents c.args.writer.now) new (commits_of texts) (added_of texts)
     (ap (λ b. if b then report_of (opening_asked options) (book_after (opening_asked options) rows history) history hot else []) c.if-not-options.true)
     c.in_ok-write_commits.ensures.whole

@@ -26,11 +26,11 @@ returns-in_err-write_rows-clause-part g c =
     let contents = g.W.Write.contents in let before = c.loop-first.writer in let after = c.write_rows.new.writer in
     let rows = c.in-Ok.rows.items in
     let text : rows_text c.as_slice.result.now c.new-history.result.entries ≡ rows_text rows [] =
-        ap (λ (l : List Row). rows_text l c.new-history.result.entries) c.as_slice.ensures.value ∙ ap (λ (h : HistoryView). rows_text rows h.entries) c.new-history.ensures in
+    ap (λ (l : List Row). rows_text l c.new-history.result.entries) c.as_slice.ensures.value ∙ ap (λ (h : HistoryView). rows_text rows h.entries) c.new-history.ensures in
     let part = part_left contents before after (rows_text rows []) c.in_err-write_rows.field-0.0
-        (λ is. subst (IsPartWritten (contents before) (contents after)) text (c.in_err-write_rows.ensures.part is)) c.in_err-write_rows.ensures.memory in
+    (λ is. subst (IsPartWritten (contents before) (contents after)) text (c.in_err-write_rows.ensures.part is)) c.in_err-write_rows.ensures.memory in
     on_err c.from_residual.result _ (some_rows c.args.market.now.plan.counts c.loop-first.first c.min-end.result (contents c.args.writer.now) (contents before) (contents after) rows
-        c.loop-first.invariant.1 c.in-Ok.ensures.count (omega arith) c.in-Ok.ensures.each part)
+    c.loop-first.invariant.1 c.in-Ok.ensures.count (omega arith) c.in-Ok.ensures.each part)
 
 pub returns-in_err-write_rows-clause-not_memory : goal.returns-in_err-write_rows-clause-not_memory
 returns-in_err-write_rows-clause-not_memory g c = block_fault c.from_residual.result c.in_err-write_rows.field-0.0 c.from_residual.ensures.1

@@ -10,7 +10,28 @@ pub returns : goal.returns
 returns c =
     let options : List Arg = c.described_number.result ∷ c.described_number-2.result ∷ c.described_number-3.result ∷ c.described_number-4.result ∷ c.described_number-5.result ∷ c.described_number-6.result
     ∷ c.described_number-7.result ∷ c.described_number-8.result ∷ c.described_number-9.result ∷ c.described_number-10.result ∷ c.seed_option.result ∷ [] in
-    let local : AllByRecursion (λ a. a.global ≡ false) options = (c.described_number.ensures.local, (c.described_number-2.ensures.local, (c.described_number-3.ensures.local, (c.described_number-4.ensures.local, (c.described_number-5.ensures.local, (c.described_number-6.ensures.local, (c.described_number-7.ensures.local, (c.described_number-8.ensures.local, (c.described_number-9.ensures.local, (c.described_number-10.ensures.local, (c.seed_option.ensures.local, tt))))))))))) in
+    let local : AllByRecursion (λ a. a.global ≡ false) options = (
+      c.described_number.ensures.local,
+      (
+        c.described_number-2.ensures.local,
+        (
+          c.described_number-3.ensures.local,
+          (
+            c.described_number-4.ensures.local,
+            (
+              c.described_number-5.ensures.local,
+              (
+                c.described_number-6.ensures.local,
+                (
+                  c.described_number-7.ensures.local,
+                  (c.described_number-8.ensures.local, (c.described_number-9.ensures.local, (c.described_number-10.ensures.local, (c.seed_option.ensures.local, tt)))),
+                ),
+              ),
+            ),
+          ),
+        ),
+      ),
+    ) in
     let rules : map rule_of options ≡ option_rules = λ i. c.described_number.ensures.rule i ∷ c.described_number-2.ensures.rule i ∷ c.described_number-3.ensures.rule i ∷ c.described_number-4.ensures.rule i ∷ c.described_number-5.ensures.rule i ∷ c.described_number-6.ensures.rule i
     ∷ c.described_number-7.ensures.rule i ∷ c.described_number-8.ensures.rule i ∷ c.described_number-9.ensures.rule i ∷ c.described_number-10.ensures.rule i ∷ c.seed_option.ensures.rule i ∷ [] in
     IfOk-weaker c.args-2.result _ (λ command. app_of command ≡ program) (λ command added.

@@ -5,7 +5,7 @@ use Rattle.auction_rows.specs.declared.{requests.Facts.Facts, replies.Reply.Repl
 use Rattle.item_shards.specs.{ShardContents.{contents}, Values.{Value}}
 use Rattle.item_shards.specs.Views.{item_view, bids_view, category_view}
 use Rattle.phase_transactions.specs.{Txns.{SuitsBids, SuitsItem}, inner.Begun.{viewed}}
-use Rattle.phase_transactions.specs.{declared.deeds.Viewed.{Viewed}, inner.Viewing.{view_request}}
+use Rattle.phase_transactions.specs.{declared.asked.Viewed.{Viewed}, inner.Asking.{view_request}}
 use Rattle.phase_transactions.proofs.answers.view.Goals as goal
 
 -- what is shown of an item suits the request

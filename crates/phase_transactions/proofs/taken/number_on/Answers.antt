@@ -14,22 +14,19 @@ returns-in-Nothing g c =
 
 pub returns-in-One : goal.returns-in-One
 returns-in-One g c =
-    let own = c.args.own in let found = c.clock.result in let next = c.next_number-in-One in
-    let most = max own (max (clock c.in-One.one.shard) 0) in
-    let one : found ≡ clock c.in-One.one.shard = c.clock.ensures ∙ ap clock c.shard.ensures in
-    let greatest : max own found ≡ most = omega (arith, one) in record {
-      number = rw c.in-One.is (some_number own found most greatest next.result next.ensures.number);
-      within = some_within own found next.result next.ensures.number next.ensures.none;
-      full = rw c.in-One.is (none_full own found most greatest next.result next.ensures.none);
+    let next = c.number_with.ensures in record {
+      number = rw c.in-One.is next.number;
+      within = next.within;
+      full = rw c.in-One.is next.full;
     }
 
 pub returns-in-Two : goal.returns-in-Two
 returns-in-Two g c =
-    let own = c.args.own in let found = c.clock-in-Two-2.result in
+    let own = c.args.own in let found = c.clock-in-Two.result in
     let next = c.next_number-in-Two in
     let most = max own (max (clock c.in-Two.item.shard) (max (clock c.in-Two.other.shard) 0)) in
-    let other : c.clock-in-Two.result ≡ clock c.in-Two.other.shard = c.clock-in-Two.ensures ∙ ap clock c.shard-in-Two.ensures in
-    let item : found ≡ clock c.in-Two.item.shard = c.clock-in-Two-2.ensures ∙ ap clock c.shard-in-Two-2.ensures in
+    let other : c.clock.result ≡ clock c.in-Two.other.shard = c.clock.ensures ∙ ap clock c.shard.ensures in
+    let item : found ≡ clock c.in-Two.item.shard = c.clock-in-Two.ensures ∙ ap clock c.shard-in-Two.ensures in
     let greatest : max c.max.result found ≡ most = omega (arith, c.max.ensures, other, item) in
     record {
       number = rw c.in-Two.is (some_number c.max.result found most greatest next.result next.ensures.number);

@@ -17,16 +17,10 @@ take-on_item-requires-in-Some-Some-2-clause-rising g c t from =
     ∙ ap (λ (seat : SeatState). seat.holds) (taking-other c.args.key.now c.in-Some-Some.other t _ (λ same. omega (arith, from, same))) ∙ c.requires.ready.idle t
 
 pub returns-in-None-Some : goal.returns-in-None-Some
-returns-in-None-Some g c =
-    let took = c.take.ensures in
-    rw (sym c.shard.ensures ∙ c.in-None-Some.is-0, sym c.shard-2.ensures ∙ c.in-None-Some.is-1)
-    (taken_more _ _ (taken_none _ _ _ c.requires.ready.idle) refl took.seats took.key took.later took.number took.history)
+returns-in-None-Some g c = rw (sym c.shard.ensures ∙ c.in-None-Some.is-0, sym c.shard-2.ensures ∙ c.in-None-Some.is-1) c.take_one.ensures
 
 pub returns-in-Some-None : goal.returns-in-Some-None
-returns-in-Some-None g c =
-    let took = c.take-in-Some-None.ensures in
-    rw (sym c.shard.ensures ∙ c.in-Some-None.is-0, sym c.shard-2.ensures ∙ c.in-Some-None.is-1)
-    (taken_more _ _ (taken_none _ _ _ c.requires.ready.idle) refl took.seats took.key took.later took.number took.history)
+returns-in-Some-None g c = rw (sym c.shard.ensures ∙ c.in-Some-None.is-0, sym c.shard-2.ensures ∙ c.in-Some-None.is-1) c.take_one-in-Some-None.ensures
 
 pub returns-in-Some-Some : goal.returns-in-Some-Some
 returns-in-Some-Some g c =
@@ -49,6 +43,5 @@ returns-in-Some-Some-2 g c =
 pub returns-in-Some-Some-3 : goal.returns-in-Some-Some-3
 returns-in-Some-Some-3 g c =
     let a = c.in-Some-Some.item in let b = c.in-Some-Some.other in
-    let took = c.take-in-Some-Some-3.ensures in let same : a ≡ b = omega arith in
-    rw (sym c.shard.ensures ∙ c.in-Some-Some.is-0, sym c.shard-2.ensures ∙ c.in-Some-Some.is-1, eq-eqb a b same)
-    (taken_more _ _ (taken_none _ _ _ c.requires.ready.idle) refl took.seats took.key took.later took.number took.history)
+    let same : a ≡ b = omega arith in
+    rw (sym c.shard.ensures ∙ c.in-Some-Some.is-0, sym c.shard-2.ensures ∙ c.in-Some-Some.is-1, eq-eqb a b same) c.take_one-in-Some-Some-3.ensures

@@ -2,7 +2,7 @@ use Rattle.std.proofs.Common.{◌≡◌, ◌≤◌, suc, max, ok_or, subst, arit
 use Rattle.std.specs.Prelude.{IfOk, IfErr}
 use Rattle.item_shards.specs.CommitNumbers.{last_number}
 use Rattle.phase_transactions.proofs.NumberLemmas.{number_is, number_within, fault_is, full_is}
-use Rattle.phase_transactions.specs.declared.done.PermitFault.TheVariants.{NumberFull}
+use Rattle.phase_transactions.specs.declared.fault.PermitFault.TheVariants.{NumberFull}
 use Rattle.phase_transactions.proofs.transaction.number_after.Goals as goal
 
 pub returns : goal.returns

@@ -1,5 +1,6 @@
 use Rattle.std.proofs.{Common.{◌≡◌, Bool, true, false, [], sym, subst}, lemmas.Result.{IfOk-at_ok}}
-use Rattle.phase_transactions.specs.{Performing.{HasPerformedFirstSome}, Workers.{with_try}}
+use Rattle.phase_permits.specs.Dealing.{HasPerformedFirstSome}
+use Rattle.phase_transactions.specs.Workers.{with_try}
 use Rattle.phase_workers.proofs.WorkLemmas.{first_performed}
 use Rattle.phase_workers.specs.inner.Steps.{HasPerformedWaiting}
 use Rattle.phase_workers.proofs.worker.perform_first.Goals as goal

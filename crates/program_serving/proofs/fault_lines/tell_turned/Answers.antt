@@ -2,7 +2,7 @@ use Rattle.std.proofs.Common.{◌∙◌, [], refl}
 use Rattle.auction_text.specs.Moved.{gone_by}
 use Rattle.program_opening.{proofs.ErrorLemmas.{error_is}, specs.Faults.{of_telling}}
 use Rattle.program_serving.proofs.ToldLemmas.{if_known, same_appended, told_so_far}
-use Rattle.program_serving.specs.{ServeFaults.{AreToldAt}, inner.Sessions.{answer_to}}
+use Rattle.program_serving.specs.{ServeFaults.{AreToldAt}, Serving.{told_by}, inner.Sessions.{answer_to}}
 use Rattle.program_serving.proofs.fault_lines.tell_turned.Goals as goal
 
 pub returns-clause-told : goal.returns-clause-told
@@ -16,5 +16,5 @@ returns-in_err-tell_part-clause-so_far g c =
     let new = record old { log = c.tell_part.new.log; writer = c.tell_part.new.writer } in
     let fault = c.in_err-tell_part.field-0.0 in
     let answer = answer_to c.args.options.now (gone_by c.args.before.now) c.args.line in
-    error_is c.from_residual-in_err-tell_part.result (of_telling fault) (λ f. AreToldAt log contents old new f [] answer) c.from_residual-in_err-tell_part.ensures
+    error_is c.from_residual-in_err-tell_part.result (of_telling fault) (λ f. AreToldAt (told_by log contents old new) f [] answer) c.from_residual-in_err-tell_part.ensures
     (told_so_far log contents old new fault [] [] _ answer c.in_err-tell_part.ensures.fault (if_known (log old.log) _ refl) (c.as_slice-2.ensures.value ∙ c.in_ok-answer.ensures.text))

@@ -6,7 +6,7 @@ use Rattle.auction_text.specs.{Moved.{Gone, gone_by}, Scripts.{Asked}}
 use Rattle.program_opening.{proofs.ErrorLemmas.{error_is}, specs.declared.faults.Fault.{Fault}}
 use Rattle.program_serving.proofs.ServedParts.{past_with_done, run_refused}
 use Rattle.program_serving.proofs.ToldLemmas.{nothing_told, same_gone}
-use Rattle.program_serving.specs.{ServeFaults.{HasPastPhases, IsPartFault}, Serving.{AreTold}}
+use Rattle.program_serving.specs.{ServeFaults.{HasPastPhases, IsPartFault}, Serving.{told_by}}
 use Rattle.program_serving.specs.declared.parts.Served.{Served}
 use Rattle.program_serving.specs.inner.Parts.{FailsPart, IsBegun, ServesPart, gone_with}
 use Rattle.program_serving.proofs.parts.perform_part.Goals as goal
@@ -18,7 +18,7 @@ returns-clause-serves g c = λ book asked begun.
     let hot = hot_sets outcome.hot.items in
     let count : c.len.result ≡ length hot = c.len.ensures ∙ outcome.hot.ok.0 ∙ sym (length-map outcome.hot.items (λ set. set.keys)) in
     let same : part.next.phases ≡ part.before.phases + 0 = ap (λ (g : Gone). g.phases) c.requires.next in
-    let Holds : List ℕ → List ℕ → Type 0 = AreTold g.L.Log.accepted g.W.Write.contents c.args.teller.now.teller c.tell_committed.new.teller.teller in
+    let Holds : List ℕ → List ℕ → Type 0 = (told_by g.L.Log.accepted g.W.Write.contents c.args.teller.now.teller c.tell_committed.new.teller.teller).whole in
     let ran = c.in_ok-outcome.ensures.runs (book ++ part.added.items) begun.begins in
     let served : Served = record { auction = outcome.state; rows = part.rows; before = c.in-Some.next } in
     let whole : ServesPart options book gone (record { rows = asked.rows; scripts = run }) served Holds = record {
@@ -38,7 +38,7 @@ returns-in_err-outcome-clause-cause g c =
     let options = c.args.options.now in let part = c.args.begun in
     let teller = c.args.teller.now.teller in let fault = c.in_err-outcome.field-0.0 in
     error_is c.from_residual.result fault (λ (f : Fault). (book : Book) (asked : Asked) (before : ℕ) → IsBegun options book asked part.auction part.added.items part.scripts.items part.past
-    → FailsPart accepted contents teller teller options book (gone_by part.before) before asked f) c.from_residual.ensures
+    → FailsPart (told_by accepted contents teller teller) options book (gone_by part.before) before asked f) c.from_residual.ensures
     (λ book asked before begun. record {
       past = part.past;
       are = begun.are;
@@ -73,11 +73,11 @@ returns-in_err-tell_committed-clause-cause g c =
     let outcome = c.in_ok-outcome.outcome in let old = c.args.teller.now.teller in
     let new = c.tell_committed.new.teller.teller in let fault = c.in_err-tell_committed.field-0.0 in
     error_is c.from_residual-in_err-tell_committed.result fault (λ (f : Fault). (book : Book) (asked : Asked) (before : ℕ) → IsBegun options book asked part.auction part.added.items part.scripts.items part.past
-    → FailsPart accepted contents old new options book (gone_by part.before) before asked f) c.from_residual-in_err-tell_committed.ensures
+    → FailsPart (told_by accepted contents old new) options book (gone_by part.before) before asked f) c.from_residual-in_err-tell_committed.ensures
     (λ book asked before begun. record {
       past = part.past;
       are = begun.are;
-      fails = subst (λ (a : Asked). IsPartFault accepted contents old new options book (gone_by part.before) before a fault) begun.done (inr (record {
+      fails = subst (λ (a : Asked). IsPartFault (told_by accepted contents old new) options book (gone_by part.before) before a fault) begun.done (inr (record {
         added = part.added.items;
         hot = hot_sets outcome.hot.items;
         history = outcome.history.entries;

@@ -3,7 +3,7 @@ use Rattle.auction_text.specs.Moved.{gone_by}
 use Rattle.auction_text.specs.Said.TheVariants as says
 use Rattle.program_opening.proofs.ErrorLemmas.{error_is}
 use Rattle.program_serving.proofs.{FaultLemmas.{answer_stops}, ToldLemmas.{nothing_told, told_none}}
-use Rattle.program_serving.specs.inner.Sessions.{GoesOnTo}
+use Rattle.program_serving.specs.{Serving.{told_by}, inner.Sessions.{GoesOnTo}}
 use Rattle.program_serving.proofs.session.pass_fault.Goals as goal
 
 pub returns-in-More-clause-passes : goal.returns-in-More-clause-passes
@@ -43,7 +43,7 @@ returns-in_err-tell_turned-in-Fault-clause-stops g c =
     let fault = c.in_err-tell_turned-in-Fault.field-0.0 in
     error_is c.from_residual.result fault _ c.from_residual.ensures (λ remaining workers rest on book rows.
     let next = subst (λ end. GoesOnTo remaining workers end rest) c.in-Fault.is on in
-    answer_stops g.L.Log.accepted g.W.Write.contents c.args.teller.now.teller c.tell_turned.new.teller.teller c.args.options.now book (gone_by c.args.before.now) rows rest fault (record {
+    answer_stops (told_by g.L.Log.accepted g.W.Write.contents c.args.teller.now.teller c.tell_turned.new.teller.teller) c.args.options.now book (gone_by c.args.before.now) rows rest fault (record {
       line = says.Fault c.in-Fault.met;
       behind = next.0;
       rest_is = next.1.0;

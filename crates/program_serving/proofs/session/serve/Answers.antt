@@ -7,7 +7,7 @@ use Rattle.program_opening.specs.declared.faults.Fault.TheVariants.{Read}
 use Rattle.program_serving.proofs.ServedBook.{either_logged, no_success, served_book}
 use Rattle.program_serving.proofs.{Sessions.{session_begins, unread}, ToldLemmas.{same_gone}}
 use Rattle.program_serving.specs.{PartRuns.{IsStart}, ServeFaults.{IsServeFault}}
-use Rattle.program_serving.specs.{Serving.{nothing_gone}, declared.parts.Served.{Served}}
+use Rattle.program_serving.specs.{Serving.{nothing_gone, told_by}, declared.parts.Served.{Served}}
 use Rattle.program_serving.specs.inner.Sessions.{YetToSay}
 use Rattle.program_serving.proofs.session.serve.Goals as goal
 
@@ -26,7 +26,7 @@ returns-clause-cause g c =
     let options = c.args.options.now in let old = c.args.teller.now.teller in
     let first : Served = record { auction = c.args.source.auction; rows = 0; before = c.none.result } in
     IfErr-weaker c.serve_lines.result _ (λ (f : Fault). (book : Book) → IsStart options c.args.source.auction book
-    → IfSome (g.I.Read.remaining c.args.source.reader) (λ input. IsServeFault accepted contents old c.serve_lines.new.teller.teller options book (live_says options.workers input) f))
+    → IfSome (g.I.Read.remaining c.args.source.reader) (λ input. IsServeFault (told_by accepted contents) old c.serve_lines.new.teller.teller options book (live_says options.workers input) f))
     (λ fault ensures book start. IfSome_then (g.I.Read.remaining c.args.source.reader) c.in_ok-left.ensures.says (λ input has.
     let all = live_says options.workers input in
     ensures book all old (session_begins accepted contents options book all old first (YetToSay g.I.Read.remaining options.workers c.in_ok-left.left) start refl
@@ -50,7 +50,7 @@ returns-in_err-left-clause-cause g c =
     let options = c.args.options.now in let known = g.I.Read.remaining c.args.source.reader in
     let old = c.args.teller.now.teller in let fault = c.in_err-left.field-0.0 in
     error_is c.from_residual.result (Read fault) (λ (f : Fault). (book : Book) → IsStart options c.args.source.auction book
-    → IfSome known (λ input. IsServeFault accepted contents old old options book (live_says options.workers input) f)) c.from_residual.ensures
+    → IfSome known (λ input. IsServeFault (told_by accepted contents) old old options book (live_says options.workers input) f)) c.from_residual.ensures
     (λ book start. unread accepted contents options book old known (live_says options.workers) fault c.in_err-left.ensures.fails)
 
 pub returns-in_err-left-clause-logged : goal.returns-in_err-left-clause-logged

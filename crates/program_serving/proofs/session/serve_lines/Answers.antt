@@ -8,7 +8,7 @@ use Rattle.part_log.specs.declared.log.Teller.{Teller}
 use Rattle.program_opening.{proofs.ErrorLemmas.{error_is}, specs.declared.faults.Fault.{Fault}}
 use Rattle.program_opening.specs.declared.faults.Fault.TheVariants.{Read}
 use Rattle.program_serving.proofs.{Sessions.{session_stops, is_none}, ToldLemmas.{nothing_told}}
-use Rattle.program_serving.specs.ServeFaults.{IsServeFault}
+use Rattle.program_serving.specs.{ServeFaults.{IsServeFault}, Serving.{told_by}}
 use Rattle.program_serving.specs.inner.Sessions.{GoesOnTo, IsServedSoFar}
 use Rattle.program_serving.proofs.session.serve_lines.Goals as goal
 
@@ -25,8 +25,8 @@ returns-in_default-clause-all g c = λ book all start session.
 pub returns-in_err-next-clause-cause : goal.returns-in_err-next-clause-cause
 returns-in_err-next-clause-cause g c =
     error_is c.from_residual.result c.in_err-next.field-0.0 (λ (f : Fault). (book : Book) (all : List Said) (start : Teller _ _)
-    → IsServedSoFar g.I.Read.remaining g.L.Log.accepted g.W.Write.contents start c.args.teller.now.teller c.args.options.now book all c.args.session
-    → IsServeFault g.L.Log.accepted g.W.Write.contents start c.serve_next.new.teller.teller c.args.options.now book all f) c.from_residual.ensures
+    → IsServedSoFar g.I.Read.remaining (told_by g.L.Log.accepted g.W.Write.contents start c.args.teller.now.teller) c.args.options.now book all c.args.session
+    → IsServeFault (told_by g.L.Log.accepted g.W.Write.contents) start c.serve_next.new.teller.teller c.args.options.now book all f) c.from_residual.ensures
     (λ book all start session. c.in_err-next.ensures.cause book all start (c.loop.invariant.session book all start session))
 
 pub returns-clause-cause : goal.returns-clause-cause

@@ -8,7 +8,7 @@ use Rattle.program_serving.proofs.PartSteps.{part_fails, part_goes_on, part_serv
 use Rattle.program_serving.proofs.RowsBefore.{no_late_row}
 use Rattle.program_serving.proofs.Sessions.{answer_stops_all, is_none, part_read, session_answered, session_ends, session_passed, session_stops}
 use Rattle.program_serving.{proofs.ToldLemmas.{nothing_told}, specs.ServeFaults.{IsServeFault}}
-use Rattle.program_serving.specs.Serving.{AreTold, book_left}
+use Rattle.program_serving.specs.Serving.{book_left, told_by}
 use Rattle.program_serving.specs.inner.Sessions.{GoesOnTo, IsServedSoFar, IsSession, MayHaveToSay}
 use Rattle.program_serving.proofs.session.serve_next.Goals as goal
 
@@ -27,7 +27,7 @@ returns-clause-goes_on g c = λ book all start session.
     let remaining = g.I.Read.remaining in let accepted = g.L.Log.accepted in
     let contents = g.W.Write.contents in let options = c.args.options.now in
     let mid = c.pass_fault.new.teller.teller in let next = c.serve_part.new.teller.teller in
-    let passed = subst (λ left. IsSession options book all c.args.session.served (MayHaveToSay remaining options.workers left) (AreTold accepted contents start mid)) c.in-Some.is
+    let passed = subst (λ left. IsSession options book all c.args.session.served (MayHaveToSay remaining options.workers left) (told_by accepted contents start mid).whole) c.in-Some.is
     (session_passed accepted contents options book all start c.args.teller.now.teller mid c.args.session.served (GoesOnTo remaining options.workers c.args.session.end) session remaining c.in_ok-left.field-0
     (c.in_ok-left.ensures.passes remaining options.workers session.rest session.left)) in
     let part = c.in_ok-input.field-0 in
@@ -51,8 +51,8 @@ returns-in_err-left-clause-cause g c =
     let contents = g.W.Write.contents in let options = c.args.options.now in
     let mid = c.pass_fault.new.teller.teller in let fault = c.in_err-left.field-0.0 in
     error_is c.from_residual.result fault (λ (f : Fault). (book : Book) (all : List Said) (start : Teller _ _)
-    → IsServedSoFar remaining accepted contents start c.args.teller.now.teller options book all c.args.session
-    → IsServeFault accepted contents start mid options book all f) c.from_residual.ensures
+    → IsServedSoFar remaining (told_by accepted contents start c.args.teller.now.teller) options book all c.args.session
+    → IsServeFault (told_by accepted contents) start mid options book all f) c.from_residual.ensures
     (λ book all start session.
     session_stops accepted contents options book all start c.args.teller.now.teller mid c.args.session.served (GoesOnTo remaining options.workers c.args.session.end) session fault
     (c.in_err-left.ensures.stops remaining options.workers session.rest session.left (book_left options book session.steps) c.args.session.served.rows))
@@ -63,10 +63,10 @@ returns-in_err-input-clause-cause g c =
     let contents = g.W.Write.contents in let options = c.args.options.now in
     let mid = c.pass_fault.new.teller.teller in let fault = c.in_err-input.field-0.0 in
     error_is c.from_residual-in_err-input.result (Read fault) (λ (f : Fault). (book : Book) (all : List Said) (start : Teller _ _)
-    → IsServedSoFar remaining accepted contents start c.args.teller.now.teller options book all c.args.session
-    → IsServeFault accepted contents start mid options book all f) c.from_residual-in_err-input.ensures
+    → IsServedSoFar remaining (told_by accepted contents start c.args.teller.now.teller) options book all c.args.session
+    → IsServeFault (told_by accepted contents) start mid options book all f) c.from_residual-in_err-input.ensures
     (λ book all start session.
-    let passed = subst (λ left. IsSession options book all c.args.session.served (MayHaveToSay remaining options.workers left) (AreTold accepted contents start mid)) c.in-Some.is
+    let passed = subst (λ left. IsSession options book all c.args.session.served (MayHaveToSay remaining options.workers left) (told_by accepted contents start mid).whole) c.in-Some.is
     (session_passed accepted contents options book all start c.args.teller.now.teller mid c.args.session.served (GoesOnTo remaining options.workers c.args.session.end) session remaining c.in_ok-left.field-0
     (c.in_ok-left.ensures.passes remaining options.workers session.rest session.left)) in
     session_stops accepted contents options book all start mid mid c.args.session.served (MayHaveToSay remaining options.workers (Some c.in-Some.left)) passed (Read fault)
@@ -79,10 +79,10 @@ returns-in_err-done-clause-cause g c =
     let mid = c.pass_fault.new.teller.teller in let new = c.serve_part.new.teller.teller in
     let fault = c.in_err-done.field-0.0 in
     error_is c.from_residual-in_err-done.result fault (λ (f : Fault). (book : Book) (all : List Said) (start : Teller _ _)
-    → IsServedSoFar remaining accepted contents start c.args.teller.now.teller options book all c.args.session
-    → IsServeFault accepted contents start new options book all f) c.from_residual-in_err-done.ensures
+    → IsServedSoFar remaining (told_by accepted contents start c.args.teller.now.teller) options book all c.args.session
+    → IsServeFault (told_by accepted contents) start new options book all f) c.from_residual-in_err-done.ensures
     (λ book all start session.
-    let passed = subst (λ left. IsSession options book all c.args.session.served (MayHaveToSay remaining options.workers left) (AreTold accepted contents start mid)) c.in-Some.is
+    let passed = subst (λ left. IsSession options book all c.args.session.served (MayHaveToSay remaining options.workers left) (told_by accepted contents start mid).whole) c.in-Some.is
     (session_passed accepted contents options book all start c.args.teller.now.teller mid c.args.session.served (GoesOnTo remaining options.workers c.args.session.end) session remaining c.in_ok-left.field-0
     (c.in_ok-left.ensures.passes remaining options.workers session.rest session.left)) in
     let part = c.in_ok-input.field-0 in
@@ -98,11 +98,11 @@ returns-in_err-tell_past-clause-cause g c =
     let mid = c.pass_fault.new.teller.teller in let next = c.serve_part.new.teller.teller in
     let new = c.tell_past.new.teller.teller in let fault = c.in_err-tell_past.field-0.0 in
     error_is c.from_residual-in_err-tell_past.result fault (λ (f : Fault). (book : Book) (all : List Said) (start : Teller _ _)
-    → IsServedSoFar remaining accepted contents start c.args.teller.now.teller options book all c.args.session
-    → IsServeFault accepted contents start new options book all f) c.from_residual-in_err-tell_past.ensures
+    → IsServedSoFar remaining (told_by accepted contents start c.args.teller.now.teller) options book all c.args.session
+    → IsServeFault (told_by accepted contents) start new options book all f) c.from_residual-in_err-tell_past.ensures
     (λ book all start session.
     let Left : List Said → Type 0 = MayHaveToSay remaining options.workers (Some c.in-Some.left) in
-    let passed = subst (λ left. IsSession options book all c.args.session.served (MayHaveToSay remaining options.workers left) (AreTold accepted contents start mid)) c.in-Some.is
+    let passed = subst (λ left. IsSession options book all c.args.session.served (MayHaveToSay remaining options.workers left) (told_by accepted contents start mid).whole) c.in-Some.is
     (session_passed accepted contents options book all start c.args.teller.now.teller mid c.args.session.served (GoesOnTo remaining options.workers c.args.session.end) session remaining c.in_ok-left.field-0
     (c.in_ok-left.ensures.passes remaining options.workers session.rest session.left)) in
     let part = c.in_ok-input.field-0 in

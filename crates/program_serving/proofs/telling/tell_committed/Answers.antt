@@ -2,7 +2,7 @@ use Rattle.std.proofs.{Common.{◌∙◌}, lemmas.Option.{IfSome_then}}
 use Rattle.auction_text.specs.{Moved.{gone_by}, RowLines.{rows_text}}
 use Rattle.program_opening.{proofs.ErrorLemmas.{error_is}, specs.Faults.{of_telling}}
 use Rattle.program_serving.proofs.ToldLemmas.{appends_known, not_told, same_appended, told_so_far}
-use Rattle.program_serving.specs.{ServeFaults.{AreToldAt}, Serving.{part_text}}
+use Rattle.program_serving.specs.{ServeFaults.{AreToldAt}, Serving.{part_text, told_by}}
 use Rattle.program_serving.proofs.telling.tell_committed.Goals as goal
 
 pub returns-clause-told : goal.returns-clause-told
@@ -32,6 +32,6 @@ returns-in_err-tell_part-clause-so_far g c =
     let fault = c.in_err-tell_part.field-0.0 in let added = c.args.committed.now.rows.items in
     let history = c.args.committed.now.history.entries in let rows = rows_text added history in
     let text = part_text c.args.options.now (gone_by c.args.committed.now.before) added history in
-    error_is c.from_residual-in_err-tell_part.result (of_telling fault) (λ f. AreToldAt log contents old new f rows text) c.from_residual-in_err-tell_part.ensures
+    error_is c.from_residual-in_err-tell_part.result (of_telling fault) (λ f. AreToldAt (told_by log contents old new) f rows text) c.from_residual-in_err-tell_part.ensures
     (told_so_far log contents old new fault c.as_slice.result.now rows c.as_slice-2.result.now text c.in_err-tell_part.ensures.fault
     (IfSome_then (log old.log) c.in_ok-rows.ensures.text (λ _ same. c.as_slice.ensures.value ∙ same)) (c.as_slice-2.ensures.value ∙ c.in_ok-make_text.ensures.text))

@@ -1,6 +1,6 @@
-use Rattle.std.proofs.Common.{arith, rules, ap, get_or, sym, ◌∙◌}
+use Rattle.std.proofs.Common.{arith, ap, get_or, sym, ◌∙◌}
 use Rattle.std.proofs.lemmas.List.Sums.{fold_more}
-use Rattle.zipf_draws.specs.Shares.{half_by, next_power}
+use Rattle.zipf_draws.specs.Shares.{next_power}
 use Rattle.zipf_draws.specs.declared.shares.{Power.{Power}, TheConstants.{WHOLE}}
 use Rattle.zipf_draws.proofs.shares.half_by.Goals as goal
 

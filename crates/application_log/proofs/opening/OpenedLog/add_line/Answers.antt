@@ -30,7 +30,7 @@ returns-then-not-is_within-clause-fault g c table before rest has =
 pub perform-requires-clause-within : goal.perform-requires-clause-within
 perform-requires-clause-within g c =
     let rules = g.A.Application.rules in
-    subst (λ size. IsWithin rules size c.in-Some.request) (search rules) (c.is_within.ensures.0 c.if-not-is_within.false)
+    subst (λ size. IsWithin rules size c.in-Some.request) (c.len.ensures ∙ c.args.self.now.table.ok.0) (c.is_within.ensures.0 c.if-not-is_within.false)
 
 pub returns-clause-len : goal.returns-clause-len
 returns-clause-len g c =

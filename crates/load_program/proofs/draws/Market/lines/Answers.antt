@@ -1,6 +1,6 @@
 use Rattle.std.proofs.Common.{rules, ◌≡◌, ◌%◌, [], ◌∷◌, ◌++◌, refl}
 use Rattle.load_program.{proofs.LoadLemmas.{EachFrom-push}, specs.Stored.{IsLineAt}}
-use Rattle.load_program.specs.declared.load.ScriptLine.{ScriptLine}
+use Rattle.load_program.specs.declared.texts.ScriptLine.{ScriptLine}
 use Rattle.load_program.proofs.draws.Market.lines.Goals as goal
 
 pub loop-index-preserved : goal.loop-index-preserved

@@ -13,7 +13,7 @@ use Rattle.phase_floor.proofs.floor.Floor.close_on.Goals.{After-reconciled-shard
 use Rattle.phase_floor.specs.{Closings.{HasReconciled}, Floors.{FloorState, IsOpen}}
 use Rattle.phase_floor.proofs.floor.Floor.close_on.Given as given
 use Rattle.phase_floor.proofs.floor.Floor.close_on.Goals as goal
-use Rattle.phase_transactions.specs.Workers.{IsEmptyIf}
+use Rattle.phase_permits.specs.Kinds.{IsEmptyIf}
 
 pub of-requires : goal.of-requires
 of-requires g c =

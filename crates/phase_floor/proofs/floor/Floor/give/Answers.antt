@@ -1,7 +1,8 @@
 use Rattle.std.proofs.Common.{◌≡◌, ℕ, ◌+◌, ◌<◌, get_or, length, refl, sym, ap, ◌∙◌, subst, arith}
 use Rattle.std.{proofs.lemmas.List.{get_or_read}, specs.Vec.Iter.{into_iter_items}}
 use Rattle.shard_boxes.proofs.Each.{at_head, each_push, drop_next}
-use Rattle.phase_transactions.specs.Workers.{IsEmptyIf, new_worker, no_counters}
+use Rattle.phase_permits.specs.Kinds.{IsEmptyIf}
+use Rattle.phase_transactions.specs.Workers.{new_worker, no_counters}
 use Rattle.closing_laws.specs.Standing.{counters_at}
 use Rattle.phase_floor.proofs.BeginLemmas.{begun_next, can_start, kit_cold}
 use Rattle.phase_floor.proofs.floor.Floor.give.Goals.{After-index-counters}

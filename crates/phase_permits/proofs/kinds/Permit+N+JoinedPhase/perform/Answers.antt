@@ -1,5 +1,6 @@
 use Rattle.std.proofs.Common.{◌≡◌, ◌<◌, Some, length, refl, sym, subst}
-use Rattle.phase_transactions.specs.Performing.{HasCommittedSome, HasDealt}
+use Rattle.phase_transactions.specs.Performing.{HasCommittedSome}
+use Rattle.phase_permits.specs.Dealing.{HasDealt}
 use Rattle.phase_transactions.specs.Workers.{WorkerState, last_reply, with_try}
 use Rattle.phase_permits.proofs.{LastLemmas.{some_entry, as_read}, RightLemmas.{model_reply}}
 use Rattle.phase_permits.proofs.kinds.Permit+N+JoinedPhase.perform.Goals as goal

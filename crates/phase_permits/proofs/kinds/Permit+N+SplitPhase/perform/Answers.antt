@@ -1,5 +1,6 @@
 use Rattle.std.proofs.Common.{◌≡◌, ◌<◌, Some, length, sym, subst}
-use Rattle.phase_transactions.specs.Performing.{HasCommittedSome, HasDealt}
+use Rattle.phase_transactions.specs.Performing.{HasCommittedSome}
+use Rattle.phase_permits.specs.Dealing.{HasDealt}
 use Rattle.phase_transactions.specs.Workers.{WorkerState, last_reply, with_try}
 use Rattle.phase_permits.proofs.{LastLemmas.{as_read, some_entry}, RightLemmas.{model_reply_read}}
 use Rattle.phase_permits.proofs.kinds.Permit+N+SplitPhase.perform.Goals.{then-branch, else-branch}

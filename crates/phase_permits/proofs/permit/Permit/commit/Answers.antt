@@ -1,6 +1,7 @@
 use Rattle.std.proofs.Common.{rules, length, sym, ap, subst, ◌∙◌}
-use Rattle.phase_transactions.specs.Performing.{IsUntouched}
-use Rattle.phase_transactions.specs.Workers.{WorkerState, IsEmptyIf, with_try}
+use Rattle.phase_permits.specs.Dealing.{IsUntouched}
+use Rattle.phase_transactions.specs.Workers.{WorkerState, with_try}
+use Rattle.phase_permits.specs.Kinds.{IsEmptyIf}
 use Rattle.phase_permits.proofs.PermitLemmas.{not_put_off, off_permit, performed_permit, tried_permit}
 use Rattle.phase_permits.{proofs.UntouchedLemmas.{leaves_untouched}, specs.inner.Permits.{IsPermit}}
 use Rattle.phase_permits.proofs.permit.Permit.commit.Goals as goal

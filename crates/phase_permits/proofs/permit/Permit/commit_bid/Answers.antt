@@ -1,6 +1,7 @@
 use Rattle.std.proofs.Common.{rules, length, sym, ap, subst, ◌∙◌}
 use Rattle.request_scripts.specs.Scripts.{request_of}
-use Rattle.phase_transactions.specs.{Performing.{IsUntouched}, Workers.{WorkerState, with_try}}
+use Rattle.phase_permits.specs.Dealing.{IsUntouched}
+use Rattle.phase_transactions.specs.Workers.{WorkerState, with_try}
 use Rattle.phase_permits.proofs.PermitLemmas.{performed_permit, tried_permit}
 use Rattle.phase_permits.{proofs.UntouchedLemmas.{leaves_untouched}, specs.inner.Permits.{IsPermit}}
 use Rattle.phase_permits.proofs.permit.Permit.commit_bid.Goals as goal

@@ -1,7 +1,9 @@
 use Rattle.std.proofs.Common.{◌≡◌, ◌<◌, Bool, [], length, sym, ap, subst, ◌∙◌, arith}
 use Rattle.auction_rows.specs.declared.limits.TheConstants.{MOST_TRIES}
-use Rattle.phase_transactions.specs.Performing.{HasCommittedSome, HasDealt, HasFailed, HasFailedFirst, HasPerformedFirstSome, HaveOpening}
-use Rattle.phase_transactions.specs.Workers.{WorkerState, IsEmptyIf, with_first_unstashed, with_try}
+use Rattle.phase_transactions.specs.Performing.{HasCommittedSome, HasFailed, HaveOpening}
+use Rattle.phase_permits.specs.Dealing.{HasDealt, HasFailedFirst, HasPerformedFirstSome}
+use Rattle.phase_transactions.specs.Workers.{WorkerState, with_first_unstashed, with_try}
+use Rattle.phase_permits.specs.Kinds.{IsEmptyIf}
 use Rattle.phase_permits.proofs.PermitLemmas.{back_permit, called_permit, tried_permit}
 use Rattle.phase_permits.proofs.StashedLemmas.{failed_first, no_first, performed_first}
 use Rattle.phase_permits.specs.inner.Permits.{IsPermit}

@@ -1,5 +1,6 @@
 use Rattle.std.{proofs.Common.{ap, subst}, specs.Prelude.{IfOk}}
-use Rattle.phase_transactions.specs.{Performing.{HasDealtWith}, Workers.{WorkerState, with_try}}
+use Rattle.phase_permits.specs.Dealing.{HasDealtWith}
+use Rattle.phase_transactions.specs.Workers.{WorkerState, with_try}
 use Rattle.phase_tests.proofs.permits.split.perform.Goals as goal
 
 pub returns : goal.returns

@@ -2,7 +2,7 @@ use Rattle.std.proofs.Common.{◌≤◌, length, max, sym, ap, subst, ◌∙◌}
 use Rattle.item_shards.specs.CommitNumbers.{last_number}
 use Rattle.phase_transactions.proofs.{BegunLemmas.{may_still}, ChainLemmas.{store_fails}}
 use Rattle.phase_transactions.{proofs.TakeLemmas.{taken_held}, specs.Workers.{WorkerState}}
-use Rattle.phase_transactions.specs.declared.done.PermitFault.TheVariants.{NumberFull}
+use Rattle.phase_transactions.specs.declared.fault.PermitFault.TheVariants.{NumberFull}
 use Rattle.phase_transactions.specs.inner.Begun.{MayBegin}
 use Rattle.phase_transactions.specs.inner.Takens.{footprint_of, greatest_held, held_in, HasTakenAll}
 use Rattle.phase_transactions.proofs.worker.Worker.begin.Goals as goal

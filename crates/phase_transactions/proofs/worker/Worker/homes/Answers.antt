@@ -1,72 +1,49 @@
-use Rattle.std.proofs.Common.{length, refl, subst, ◌∙◌}
+use Rattle.std.proofs.Common.{length, refl, ap, subst, ◌∙◌}
 use Rattle.auction_rows.specs.declared.requests.Object.TheVariants.{Item}
-use Rattle.worker_slices.specs.Homes.{IsHomeOf}
-use Rattle.phase_transactions.proofs.HomeLemmas.{asked, asks_one, asks_other, asks_two, no_other}
+use Rattle.worker_slices.specs.Homes.{IsHomeOf, shard_at}
+use Rattle.worker_slices.specs.declared.homes.Home.TheVariants as home
+use Rattle.phase_transactions.proofs.HomeLemmas.{asked, asks_one, asks_two, each_known, no_other, none_known, shard_known}
+use Rattle.phase_transactions.specs.inner.Asking.{store_request}
 use Rattle.phase_transactions.proofs.worker.Worker.homes.Goals as goal
 
-pub returns-in-StoreItem-clause-footprint : goal.returns-in-StoreItem-clause-footprint
-returns-in-StoreItem-clause-footprint g c t =
-    let w = c.args.self.now in
-    let at = subst (λ id. IsHomeOf w.slices (length g.N.PhaseName.initial) (Item id) c.cold.result) c.next_item.ensures.next (c.cold.ensures.home w.slices c.next_item.ensures.cold) in
-    asked w (length g.N.PhaseName.initial) c.args.request.now _ c.requires.allowed c.in-StoreItem.is t ∙ asks_two (length g.N.PhaseName.initial) w.slices _ _ c.cold.result c.home.result at c.home.ensures.at t
-
-pub returns-in-StoreBid-clause-footprint : goal.returns-in-StoreBid-clause-footprint
-returns-in-StoreBid-clause-footprint g c t =
-    let w = c.args.self.now in
-    asked w (length g.N.PhaseName.initial) c.args.request.now _ c.requires.allowed c.in-StoreBid.is t ∙ asks_one (length g.N.PhaseName.initial) w.slices _ c.home-in-StoreBid.result c.home-in-StoreBid.ensures.at t
-
-pub returns-in-StoreComment-clause-footprint : goal.returns-in-StoreComment-clause-footprint
-returns-in-StoreComment-clause-footprint g c t =
-    let w = c.args.self.now in
-    asked w (length g.N.PhaseName.initial) c.args.request.now _ c.requires.allowed c.in-StoreComment.is t
-    ∙ asks_two (length g.N.PhaseName.initial) w.slices _ _ c.home-in-StoreComment.result c.home-in-StoreComment-2.result c.home-in-StoreComment.ensures.at c.home-in-StoreComment-2.ensures.at t
-
-pub returns-in-BuyNow : goal.returns-in-BuyNow
-returns-in-BuyNow g c =
-    let w = c.args.self.now in
-    let at = c.cold-in-BuyNow.ensures.home w.slices (no_other _ (rw c.in-BuyNow.is at c.requires.goes)) in
+pub returns-in-Item : goal.returns-in-Item
+returns-in-Item g c =
+    let w = c.args.self.now in let n = length g.N.PhaseName.initial in
+    let at = subst (λ id. IsHomeOf w.slices n (Item id) (home.Shard c.shard.result)) c.next_item.ensures.next (c.shard.ensures.home w.slices c.next_item.ensures.cold) in
     record {
-      homes = rw c.in-BuyNow.is (at, refl);
-      footprint = λ t. asked w (length g.N.PhaseName.initial) c.args.request.now _ c.requires.allowed c.in-BuyNow.is t ∙ asks_one (length g.N.PhaseName.initial) w.slices _ _ at t;
-      known = c.cold-in-BuyNow.ensures.item;
+      may = record {
+        allowed = c.requires.allowed;
+        goes = c.requires.goes;
+        homes_are = rw c.in-Item.is (at, c.home.ensures.at);
+        asked = λ t. asked w n (store_request c.args.stored.now) _ c.requires.allowed (ap store_request c.in-Item.is) t ∙ asks_two n w.slices _ _ (home.Shard c.shard.result) c.home.result at c.home.ensures.at t;
+      };
+      known = each_known n _ (shard_at c.home.result) (shard_known n c.shard.result c.shard.ensures.known) c.home.ensures.known;
     }
 
-pub returns-in-ViewItem : goal.returns-in-ViewItem
-returns-in-ViewItem g c =
-    let w = c.args.self.now in
-    let at = c.cold-in-ViewItem.ensures.home w.slices (no_other _ (rw c.in-ViewItem.is at c.requires.goes)) in
+pub returns-in-Comment : goal.returns-in-Comment
+returns-in-Comment g c =
+    let w = c.args.self.now in let n = length g.N.PhaseName.initial in
+    let item = c.home-in-Comment in let about = c.home-in-Comment-2 in
     record {
-      homes = rw c.in-ViewItem.is (at, refl);
-      footprint = λ t. asked w (length g.N.PhaseName.initial) c.args.request.now _ c.requires.allowed c.in-ViewItem.is t ∙ asks_one (length g.N.PhaseName.initial) w.slices _ _ at t;
-      known = c.cold-in-ViewItem.ensures.item;
+      may = record {
+        allowed = c.requires.allowed;
+        goes = c.requires.goes;
+        homes_are = rw c.in-Comment.is (item.ensures.at, about.ensures.at);
+        asked = λ t. asked w n (store_request c.args.stored.now) _ c.requires.allowed (ap store_request c.in-Comment.is) t ∙ asks_two n w.slices _ _ item.result about.result item.ensures.at about.ensures.at t;
+      };
+      known = each_known n (shard_at item.result) (shard_at about.result) item.ensures.known about.ensures.known;
     }
 
-pub returns-in-ViewBids : goal.returns-in-ViewBids
-returns-in-ViewBids g c =
-    let w = c.args.self.now in
-    let at = c.cold-in-ViewBids.ensures.home w.slices (no_other _ (rw c.in-ViewBids.is at c.requires.goes)) in
+pub returns-in-Buy : goal.returns-in-Buy
+returns-in-Buy g c =
+    let w = c.args.self.now in let n = length g.N.PhaseName.initial in
+    let at = c.shard-in-Buy.ensures.home w.slices (no_other _ (rw c.in-Buy.is at c.requires.goes)) in
     record {
-      homes = rw c.in-ViewBids.is (at, refl);
-      footprint = λ t. asked w (length g.N.PhaseName.initial) c.args.request.now _ c.requires.allowed c.in-ViewBids.is t ∙ asks_one (length g.N.PhaseName.initial) w.slices _ _ at t;
-      known = c.cold-in-ViewBids.ensures.item;
-    }
-
-pub returns-in-ViewCategory : goal.returns-in-ViewCategory
-returns-in-ViewCategory g c =
-    let w = c.args.self.now in
-    let at = c.cold-in-ViewCategory.ensures.home w.slices (no_other _ (rw c.in-ViewCategory.is at c.requires.goes)) in
-    record {
-      homes = rw c.in-ViewCategory.is (refl, at);
-      footprint = λ t. asked w (length g.N.PhaseName.initial) c.args.request.now _ c.requires.allowed c.in-ViewCategory.is t ∙ asks_other (length g.N.PhaseName.initial) w.slices _ _ at t;
-      known = c.cold-in-ViewCategory.ensures.other;
-    }
-
-pub returns-in-ViewUser : goal.returns-in-ViewUser
-returns-in-ViewUser g c =
-    let w = c.args.self.now in
-    let at = c.cold-in-ViewUser.ensures.home w.slices (no_other _ (rw c.in-ViewUser.is at c.requires.goes)) in
-    record {
-      homes = rw c.in-ViewUser.is (refl, at);
-      footprint = λ t. asked w (length g.N.PhaseName.initial) c.args.request.now _ c.requires.allowed c.in-ViewUser.is t ∙ asks_other (length g.N.PhaseName.initial) w.slices _ _ at t;
-      known = c.cold-in-ViewUser.ensures.other;
+      may = record {
+        allowed = c.requires.allowed;
+        goes = c.requires.goes;
+        homes_are = rw c.in-Buy.is (at, refl);
+        asked = λ t. asked w n (store_request c.args.stored.now) _ c.requires.allowed (ap store_request c.in-Buy.is) t ∙ asks_one n w.slices _ (home.Shard c.shard-in-Buy.result) at t;
+      };
+      known = each_known n _ _ (shard_known n c.shard-in-Buy.result c.shard-in-Buy.ensures.known) (none_known n);
     }

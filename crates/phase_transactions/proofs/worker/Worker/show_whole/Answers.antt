@@ -2,7 +2,7 @@ use Rattle.std.proofs.Common.{sym, subst}
 use Rattle.auction_rows.specs.declared.{requests.Request.Request, replies.Reply.Reply}
 use Rattle.item_shards.specs.declared.shard.acts.Look.{Look}
 use Rattle.phase_transactions.proofs.ViewLemmas.{asks_view}
-use Rattle.phase_transactions.specs.inner.{Begun.{CanView, look_for}, Viewing.{IsShownBy, view_request}}
+use Rattle.phase_transactions.specs.inner.{Asking.{view_request}, Begun.{CanView, look_for}, Viewing.{IsShownBy}}
 use Rattle.phase_transactions.proofs.worker.Worker.show_whole.Goals as goal
 
 pub view_on-reply-requires : goal.view_on-reply-requires

@@ -1,4 +1,4 @@
-use Rattle.std.proofs.Common.{arith, rules, ◌≡◌, ◌<◌, ◌≤◌, ◌∙◌, ℕ, leb, length}
+use Rattle.std.proofs.Common.{arith, rules, ◌<◌, ◌∙◌, ℕ, leb}
 use Rattle.std.proofs.lemmas.List.Sorted.{IsPartitionPoint-from_clause, IsPartitionedBy-leb}
 use Rattle.zipf_draws.proofs.ShareLemmas.{alike, alike_rank, is_rank, kept_length, kept_rise}
 use Rattle.zipf_draws.proofs.popularity.Popularity.rank_at.Goals as goal
