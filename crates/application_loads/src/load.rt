@@ -11,6 +11,9 @@ use std::alloc::{AllocError, Global};
 const SEED: u64 = 1;
 
 /// What an example says of its load. A value is what the requests are drawn from.
+///
+/// A load may draw any requests: `measure` checks its scripts before it runs them, and refuses
+/// those that name a key which the table does not have.
 pub trait Load: Sized + Drop {
     /// What is kept at a key.
     type Record;

@@ -75,6 +75,7 @@ fn show<R: Threads + Wait + Sync + Print + Alloc<A = Global>>(rt: &R) -> Result<
         },
         LikeRequest::View { user: 1, page: 2 },
     ]?;
+    // The prover sees that each of these keys is in the table, so no `check_scripts` is needed.
     let scripts = [first, second];
     let outcome = run::<Likes, R>(rt, alloc, tallies, &scripts, POLICY)?;
     print_history(rt, &outcome.history)?;

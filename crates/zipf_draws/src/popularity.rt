@@ -1,5 +1,5 @@
 //! Ranks drawn by Zipf's law, by a table of the sums of the shares: the same on every machine.
-ghost use Rattle.std.specs.{List.Sorted.{IsNonDecreasing}, Prelude.{◌≡◌, ◌%◌, ◌<◌, ◌≤◌, IfOk}};
+ghost use Rattle.std.specs.Prelude.{◌≡◌, ◌%◌, ◌<◌, ◌≤◌, IfOk};
 ghost use Rattle.zipf_draws.specs.{Ranks.{IsRankAt, drawn_point, words}, Shares.{shares_below}};
 ghost use Rattle.zipf_draws.specs.declared.popularity.TheConstants.{MOST_RANKS};
 ghost use Rattle.zipf_draws.specs.inner.Sums.{kept_sums};
@@ -41,7 +41,6 @@ pub struct Popularity {
     ghost some: { 1 ≤ count },
     ghost few: { count ≤ MOST_RANKS },
     ghost kept: { sums.items ≡ kept_sums skew count },
-    ghost rising: { IsNonDecreasing sums.items },
 }
 
 impl Popularity {
