@@ -4,7 +4,6 @@ use Rattle.std.{proofs.lemmas.Option.{IfSome_then}, specs.{Prelude.{◌↔◌}, 
 use Rattle.auction_rows.specs.Book.{Book}
 use Rattle.auction_rows.specs.declared.{limits.Policy.Policy, values.Opening.Opening, requests.Request.Request, requests.Opened.Opened}
 use Rattle.auction_text.specs.Scripts.{input_of}
-use Rattle.item_shards.specs.OpeningBooks.{rows_of_book}
 use Rattle.item_shards.specs.OpeningRows.{AreRows, IsFirstBad, IsTooLong, opening_rows}
 use Rattle.item_shards.specs.declared.openings.ResumeFault.{ResumeFault}
 use Rattle.item_shards.specs.declared.openings.ResumeFault.TheVariants as resume
@@ -14,7 +13,7 @@ use Rattle.program_opening.specs.Options.{commits_text, opening_asked, policy_of
 use Rattle.program_opening.specs.declared.faults.Fault.{TheVariants.{Make, Run, Write}, Fault}
 use Rattle.program_opening.specs.declared.options.Options.{Options}
 use Rattle.auction_program.specs.Execution.{added_text, Answers, IsAllowed, IsCausedBy, IsNotRun, IsRefused, OfInput}
-use Rattle.auction_program.specs.declared.execution.{AskedRun.{AskedRun}, Performed.{Performed}}
+use Rattle.auction_program.specs.declared.asked.Performed.{Performed}
 use Rattle.auction_program.specs.inner.Performing.{IsNotPerformed, Performs}
 use Rattle.auction_run.specs.Beginning.{HaveWorkers, HasShards, HasQuotas, AreShort}
 use Rattle.auction_run.specs.{Phases.{HaveMetLastNumber, hot_sets}, RunFault.{RunFault}}
@@ -56,54 +55,47 @@ not_run policy book scripts result run.Spawn is workers shards quotas short spaw
 not_run policy book scripts result run.Memory is workers shards quotas short spawn numbers = tt
 not_run policy book scripts result run.NumberFull is workers shards quotas short spawn numbers = numbers is
 
--- what holds of the rows and scripts that an input asks for
+-- the book of the rows, and the policy, are those of the options
 module _ (options : Options) (rows : List Opened) (scripts : List (List Request)) (remaining : Option (List ℕ))
     (reads : IfSome remaining (λ input. input_of options.workers input ≡ Ok (record { rows = rows; scripts = scripts }))) where
   pub of_input : (Holds : List Opened → List (List Request) → Type 0) → Holds rows scripts → IfSome remaining (λ input. OfInput options input Holds)
   of_input Holds holds =
       IfSome_then remaining reads (λ input asks. record { rows = rows; scripts = scripts; reads = asks; holds = holds })
 
--- the run that an input asks for, from the book of its rows
-module _ (asked : AskedRun) (rows : List Opened) (remaining : Option (List ℕ))
-    (reads : IfSome remaining (λ input. input_of asked.options.now.workers input ≡ Ok (record { rows = rows; scripts = asked.scripts.items })))
-    (start : Opening) (starts : start ≡ opening_asked asked.options.now) (opens : rows_of_book asked.book.now ≡ opening_rows start rows) (are : AreRows start rows) where
-  opened : rows_of_book asked.book.now ≡ opening_rows (opening_asked asked.options.now) rows
-  opened = opens ∙ ap (λ o. opening_rows o rows) starts
+  -- why the scripts were not performed
+  pub not_performed : (fault : Fault) → AreRows (opening_asked options) rows → IsNotPerformed options fault (opening_rows (opening_asked options) rows) scripts
+      → IfSome remaining (λ input. IsCausedBy options input fault)
+  not_performed (Make fault) are why =
+      IfSome_then remaining (of_input (λ rs ss. AreRows (opening_asked options) rs) are) (λ input holds. (why, holds))
+  not_performed (Run fault) are why = of_input (λ rs ss. AreRows (opening_asked options) rs × IsNotRun (policy_of options) fault (opening_rows (opening_asked options) rs) ss) (are, why)
+  not_performed fault are why = absurd why
 
-  are_rows : AreRows (opening_asked asked.options.now) rows
-  are_rows = subst (λ o. AreRows o rows) starts are
+  module _ (start : Opening) (book shown : Book) (performed : Performed) (starts : start ≡ opening_asked options)
+      (opens : book ≡ opening_rows start rows) (shows : shown ≡ book) (are : AreRows start rows)
+      (few : ¬ IsTooLong rows) (performs : Performs options book scripts performed) where
+    opened : book ≡ opening_rows (opening_asked options) rows
+    opened = opens ∙ ap (λ o. opening_rows o rows) starts
 
-  -- why it was not performed
-  pub not_performed : (fault : Fault) → IsNotPerformed asked fault → IfSome remaining (λ input. IsCausedBy asked.options.now input fault)
-  not_performed (Make fault) why =
-      IfSome_then remaining (of_input asked.options.now rows asked.scripts.items remaining reads (λ rs ss. AreRows (opening_asked asked.options.now) rs) are_rows) (λ input holds. (why, holds))
-  not_performed (Run fault) why =
-      of_input asked.options.now rows asked.scripts.items remaining reads
-      (λ rs ss. AreRows (opening_asked asked.options.now) rs × IsNotRun (policy_of asked.options.now) fault (opening_rows (opening_asked asked.options.now) rs) ss)
-      (are_rows, subst (λ b. IsNotRun (policy_of asked.options.now) fault b asked.scripts.items) opened why)
-  not_performed fault why = absurd why
-
-  -- what holds of its texts, as what holds of the input
-  pub answered : (shown : Book) (performed : Performed) → shown ≡ rows_of_book asked.book.now → ¬ IsTooLong rows → Performs asked performed → (Holds : List ℕ → List ℕ → Type 0)
-      → Holds (commits_text asked.options.now shown performed.history.entries) (added_text asked.options.now shown performed.history.entries (hot_sets performed.hot.items))
-      → IfSome remaining (λ input. Answers asked.options.now input Holds)
-  answered shown performed shows few performs Holds holds =
-      let options = asked.options.now in let scripts = asked.scripts.items in
-      let history = performed.history.entries in let hot = hot_sets performed.hot.items in
-      IfSome_then remaining reads (λ input reads. record {
-        text = commits_text options shown history;
-        added = added_text options shown history hot;
-        answered = record {
-          rows = rows;
-          scripts = scripts;
-          history = history;
-          hot = hot;
-          asks = record { reads = reads; are_rows = are_rows };
-          few = few;
-          allowed = subst (λ (b : Book). IsAllowed (policy_of options) b scripts) opened performs.allowed;
-          runs = subst (λ (b : Book). IsAnswer (opening_asked options) b (policy_of options) scripts hot history) opened performs.answer;
-          text_is = ap (λ (b : Book). commits_text options b history) (shows ∙ opened);
-          added_is = ap (λ (b : Book). added_text options b history hot) (shows ∙ opened);
-        };
-        holds = holds;
-      })
+    -- what holds of the texts, as what holds of the input
+    pub answered : (Holds : List ℕ → List ℕ → Type 0)
+        → Holds (commits_text options shown performed.history.entries) (added_text options shown performed.history.entries (hot_sets performed.hot.items))
+        → IfSome remaining (λ input. Answers options input Holds)
+    answered Holds holds =
+        let history = performed.history.entries in let hot = hot_sets performed.hot.items in
+        IfSome_then remaining reads (λ input asks. record {
+          text = commits_text options shown history;
+          added = added_text options shown history hot;
+          answered = record {
+            rows = rows;
+            scripts = scripts;
+            history = history;
+            hot = hot;
+            asks = record { reads = asks; are_rows = subst (λ o. AreRows o rows) starts are };
+            few = few;
+            allowed = subst (λ (b : Book). IsAllowed (policy_of options) b scripts) opened performs.allowed;
+            runs = subst (λ (b : Book). IsAnswer (opening_asked options) b (policy_of options) scripts hot history) opened performs.answer;
+            text_is = ap (λ (b : Book). commits_text options b history) (shows ∙ opened);
+            added_is = ap (λ (b : Book). added_text options b history hot) (shows ∙ opened);
+          };
+          holds = holds;
+        })

@@ -4,20 +4,18 @@ ghost use mathlib.Core.List.{IsPrefix};
 ghost use Rattle.std.specs.Prelude.{◌≡◌, OnOk, IfErr, IfSome, List, [], false, None, IfOk, IsTrue, MatchOption, ℕ};
 ghost use Rattle.auction_rows.specs.Book.{Book};
 ghost use Rattle.auction_rows.specs.declared.rows.Row.{Row as Stored};
-ghost use Rattle.item_shards.specs.OpeningBooks as opened;
 ghost use Rattle.byte_texts.specs.declared.writing.WriteFault.{WriteFault};
-ghost use Rattle.program_opening.specs.Options.{opening_asked};
 ghost use Rattle.program_opening.specs.declared.options.Options.{Options as Asked};
 ghost use Rattle.auction_program.specs.Execution.{Answers, ArePartWritten, AreWritten, IsCausedBy, IsOneWritten, IsUnwritten, IsAnsweredBy};
-ghost use Rattle.auction_program.specs.inner.Performing.{IsFrom, IsNotPerformed, Performs};
+ghost use Rattle.auction_program.specs.inner.Performing.{IsFrom, PerformsAsked, RefusesAsked};
 ghost use Rattle.auction_program.specs.inner.Views.{AreViews, IsEnd};
 
-use crate::texts::{AskedTexts, report_lines, write_texts};
-use auction_rows::{Object, Opening};
+use crate::asked::{AskedRun, AskedTexts, Performed};
+use crate::texts::{report_lines, write_texts};
+use auction_rows::Opening;
 use auction_run::{FreeGate, Outcome, WindowBoard, run, run_shown};
 use auction_text::{ReportLines, read_scripts_by_threads};
 use auction_window::{PhaseLog, Publisher, Told, Window, WindowName};
-use indexmap::IndexSet;
 use item_shards::OpeningBook;
 use phase_floor::Joined;
 use program_opening::{Fault, Options};
@@ -26,7 +24,6 @@ use std::io::{Read, Write};
 use std::marker::Brand;
 use std::sync::Wait;
 use std::thread::Threads;
-use worker_journals::{History, Script};
 
 /// Opens an auction with the rows that the reader gives, performs its scripts, with one thread per
 /// worker in the phases that gain by it, and writes the replies, the history or the rows, and then
@@ -69,25 +66,6 @@ pub fn execute<R: Threads + Wait + Sync, I: Read + Drop, W: Write>(
     Ok(())
 }
 
-/// What an input asks for: a run of its scripts from the book of its rows, by these options.
-#[derive(Drop)]
-pub(crate) struct AskedRun<'a> {
-    pub(crate) book: &'a OpeningBook,
-    pub(crate) scripts: Vec<Script>,
-    pub(crate) options: &'a Options,
-    ghost opens: { opened.opening_of book.now ≡ opening_asked options.now },
-}
-
-/// What is told of a run, whose state is gone.
-#[derive(Drop)]
-pub(crate) struct Performed {
-    pub(crate) history: History,
-    /// What was hot in each phase.
-    pub(crate) hot: Vec<IndexSet<Object>>,
-    /// The lines of the report: none if it is not asked for, or memory was refused for them.
-    pub(crate) lines: Option<ReportLines>,
-}
-
 // What is told of an outcome.
 fn told_of(outcome: Outcome, lines: Option<ReportLines>) -> Performed
     ensures { result ≡ record { history = outcome.history; hot = outcome.hot; lines = lines } }
@@ -111,10 +89,10 @@ fn perform<R: Threads + Wait + Sync>(
     alloc: Global,
     asked: AskedRun<'_>,
 ) -> Result<Performed, Fault>
-    ensures performs { IfOk result (Performs asked.entry) }
+    ensures performs { IfOk result (PerformsAsked asked.entry) }
     ensures unasked { IfOk result (λ performed.
         ¬ IsTrue asked.entry.options.now.report → performed.lines ≡ None) }
-    ensures cause { IfErr result (IsNotPerformed asked.entry) }
+    ensures cause { IfErr result (RefusesAsked asked.entry) }
 {
     if asked.options.report {
         return perform_watched::<Brand, R>(rt, alloc, PhaseLog::new(), asked);
@@ -138,8 +116,8 @@ fn perform_watched<J: WindowName, R: Threads + Wait + Sync>(
     requires log { log ≡ J.log }
     requires book { IsFrom asked J.opening J.rows }
     requires report { IsTrue asked.options.now.report }
-    ensures performs { IfOk result (Performs asked.entry) }
-    ensures cause { IfErr result (IsNotPerformed asked.entry) }
+    ensures performs { IfOk result (PerformsAsked asked.entry) }
+    ensures cause { IfErr result (RefusesAsked asked.entry) }
 {
     let (publisher, mut windows) = Publisher::<J>::new(rt, alloc, log, asked.book, 1)?;
     let mut board = WindowBoard::new(publisher);
@@ -160,8 +138,8 @@ fn watch<J: WindowName, R: Threads + Wait + Sync>(
     requires publisher { board.old.publisher ≡ record { phases = []; failed = false } }
     requires told { board.old.told ≡ None }
     requires book { IsFrom asked J.opening J.rows }
-    ensures performs { IfOk result (Performs asked.entry) }
-    ensures cause { IfErr result (IsNotPerformed asked.entry) }
+    ensures performs { IfOk result (PerformsAsked asked.entry) }
+    ensures cause { IfErr result (RefusesAsked asked.entry) }
 {
     let AskedRun {
         book,

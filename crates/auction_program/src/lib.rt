@@ -2,6 +2,7 @@
 //! writes.
 #![tactic(auto)]
 
+mod asked;
 mod execution;
 mod texts;
 

@@ -9,26 +9,17 @@ ghost use Rattle.auction_program.specs.Report.{category_views, user_views, views
 ghost use Rattle.auction_program.specs.inner.Performing.{added_of, commits_of, HasLastViews};
 ghost use Rattle.auction_program.specs.inner.Views.{view_of, IsEnd};
 
-use crate::execution::Performed;
-use auction_rows::{Opening, Reply, Request, Row};
+use crate::asked::AskedTexts;
+use auction_rows::{Opening, Reply, Request};
 use auction_text::{
     ReportLines, write_history, write_replies_by_threads, write_report, write_rows,
 };
 use auction_window::{Window, WindowName};
 use byte_texts::WriteFault;
 use phase_floor::Joined;
-use program_opening::Options;
 use std::alloc::{AllocError, Global};
 use std::io::Write;
 use std::thread::Threads;
-
-/// What is written of a run: what the options ask for, from these rows.
-#[derive(Clone, Copy)]
-pub(crate) struct AskedTexts<'a> {
-    pub(crate) options: &'a Options,
-    pub(crate) rows: &'a [Row],
-    pub(crate) performed: &'a Performed,
-}
 
 /// Writes what the options ask for, and then the report, if they ask for it. Without lines a
 /// report is refused as memory was for them. After `Write` a prefix of both was written; after

@@ -10,8 +10,7 @@ use Rattle.phase_floor.specs.States.{StandsFor}
 use Rattle.program_opening.{proofs.ErrorLemmas.{error_is}, specs.Options.{opening_asked}}
 use Rattle.program_opening.specs.declared.faults.Fault.TheVariants.{Run}
 use Rattle.auction_program.{proofs.Answering.{not_run}, specs.Execution.{IsNotRun}}
-use Rattle.auction_program.specs.declared.execution.Performed.{Performed}
-use Rattle.auction_program.specs.inner.Performing.{HasLastViews, IsNotPerformed}
+use Rattle.auction_program.specs.inner.Performing.{HasLastViews, RefusesAsked}
 use Rattle.auction_program.specs.inner.Views.{AreViews, IsEnd}
 use Rattle.auction_program.proofs.execution.watch.Goals as goal
 
@@ -35,7 +34,7 @@ returns-clause-performs g c =
     record {
       allowed = search rules;
       answer = search rules;
-      lines = subst (λ (told : Performed). HasLastViews options rows told) (sym c.told_of.ensures)
+      lines = subst (HasLastViews options rows) (sym c.told_of.ensures)
           (IfSome_then c.last_lines-lines.result c.last_lines-lines.ensures
           (λ lines holds. subst (λ o. AreViews o book lines.categories.items lines.users.items) (sym c.requires.book.opening_is ∙ asked.opens) (holds all book told end)));
     }
@@ -44,7 +43,7 @@ pub returns-in_err-outcome-clause-cause : goal.returns-in_err-outcome-clause-cau
 returns-in_err-outcome-clause-cause g c =
     let asked = c.args.asked in let rows = opened.rows_of_book asked.book.now in let scripts = asked.scripts.items in
     let fault = c.in_err-outcome.field-0.0 in let refused = c.run_shown.ensures.answer.refused in
-    error_is c.from_residual.result (Run fault) (IsNotPerformed asked) c.from_residual.ensures
+    error_is c.from_residual.result (Run fault) (RefusesAsked asked) c.from_residual.ensures
     (subst (λ p. IsNotRun p fault rows scripts) c.policy.ensures
     (not_run c.policy.result rows scripts c.run_shown.result fault c.in_err-outcome.was refused.workers refused.shards refused.quota refused.too_long
     c.run_shown.ensures.answer.spawn c.run_shown.ensures.answer.numbers))
