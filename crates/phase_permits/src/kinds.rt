@@ -227,7 +227,8 @@ impl<N: PhaseName> Permit<N, SplitPhase> {
         ensures unchanged { IfNone result (self.new ≡ self.old) }
         ensures committed { IfSome result
             (HasCommitted N.initial self.old self.new (hot_request store) index) }
-        ensures reply { IfSome result (IsModelReply N.initial self.old self.new (hot_request store)) }
+        ensures reply { IfSome result (IsModelReply N.initial self.old self.new
+            (hot_request store)) }
         ensures key { self.new.key ≡ self.old.key }
     {
         self.worker.perform_hot(store, index)?;

@@ -27,7 +27,8 @@ impl<N: PhaseName> Worker<N> {
     #[inline(always)]
     pub(crate) fn homes(&self, stored: &Stored<'_>) -> Homes
         requires allowed { number_refusal self.now.opening (store_request stored.now) ≡ None }
-        requires goes { is_put_off (hot_objects self.now.slices) (store_request stored.now) ≡ false }
+        requires goes { is_put_off (hot_objects self.now.slices)
+            (store_request stored.now) ≡ false }
         ensures may { MayBegin (length N.initial) self.now (store_request stored.now) result }
         ensures known { AllByRecursion (λ s. s < length N.initial) (footprint_of result) }
     {

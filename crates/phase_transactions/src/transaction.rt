@@ -51,7 +51,7 @@ impl<N: PhaseName> Worker<N> {
     {
         let call = Call { request, index };
         match Asked::of(request) {
-            Asked::Bid(bid) => self.bid(rt, boxes, call, &bid),
+            Asked::Bid(bid) => self.transact_bid(rt, boxes, &bid, index),
             Asked::Store(stored) => self.store(rt, boxes, call, &stored),
             Asked::View(viewed) => self.show(rt, boxes, call, viewed),
         }
@@ -69,26 +69,9 @@ impl<N: PhaseName> Worker<N> {
         requires { CanTransact N.initial boxes.now self.old (request_of bid.now) }
         ensures { HasPerformed N.initial self.old self.new (request_of bid.now) index result }
     {
-        let request = &bid_request(bid);
-        self.bid(rt, boxes, Call { request, index }, bid)
-    }
-
-    // Performs a bid. Inlined: where the request is made the compiler knows its kind.
-    #[inline(always)]
-    fn bid<R: Wait>(
-        &mut self,
-        rt: &R,
-        boxes: &Boxes<N>,
-        call: Call<'_>,
-        bid: &BidRequest,
-    ) -> Result<(), PermitFault>
-        requires asks { call.request.now ≡ request_of bid.now }
-        requires can { CanTransact N.initial boxes.now self.old call.request.now }
-        ensures { HasPerformed N.initial self.old self.new
-            call.entry.request.now call.entry.index result }
-    {
         if let Some(reason) = bidder_refusal(self.opening, bid.bidder) {
-            return self.refuse(call, reason);
+            let request = &bid_request(bid);
+            return self.refuse(Call { request, index }, reason);
         }
         let id = self.next_bid();
         let home = self.bid_home(bid);
@@ -97,7 +80,8 @@ impl<N: PhaseName> Worker<N> {
                 item: home,
                 other: Home::Nowhere,
             };
-            return self.store_hot(call, homes, StoreReply::BidStored(id));
+            let request = &bid_request(bid);
+            return self.store_hot(Call { request, index }, homes, StoreReply::BidStored(id));
         };
 
         let one = self.begin_one(rt, boxes, shard)?;
@@ -112,13 +96,14 @@ impl<N: PhaseName> Worker<N> {
             id,
             bidder: bid.bidder,
         };
-        let (trace, refused) = held.bid(number, call.index, bid.item, entry);
+        let (trace, refused) = held.bid(number, index, bid.item, entry);
         boxes.put_acted(&mut self.key, held, trace);
         // The item is in a shard, so no slice is written.
         let answer = Answer {
             form: ReplyForm::Store(reply_unless(refused, StoreReply::BidStored(id))),
         };
-        self.add_entry(number, call, &answer);
+        let request = &bid_request(bid);
+        self.add_entry(number, Call { request, index }, &answer);
         Ok(())
     }
 

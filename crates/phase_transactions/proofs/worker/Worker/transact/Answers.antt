@@ -1,9 +1,6 @@
 use Rattle.std.proofs.Common.{sym}
 use Rattle.phase_transactions.proofs.worker.Worker.transact.Goals as goal
 
-pub bid-requires-clause-asks : goal.bid-requires-clause-asks
-bid-requires-clause-asks g c = sym c.in-Bid.ensures
-
 pub store-requires-clause-asks : goal.store-requires-clause-asks
 store-requires-clause-asks g c = sym c.in-Store.ensures
 
