@@ -1,6 +1,6 @@
-use Rattle.std.proofs.Common.{◌≡◌, ◌+◌, ◌*◌, length, take, get_or, ap, sym, ◌∙◌, refl, subst, arith}
+use Rattle.std.proofs.Common.{◌≡◌, ◌+◌, ◌*◌, length, take, ap, sym, ◌∙◌, refl, subst, arith}
 use Rattle.std.{proofs.lemmas.List.{take_all}, specs.List.{AllByRecursion}}
-use Rattle.split_engine.{proofs.Works.{all_at}, specs.Serial.{next, table_after, IsWithin}}
+use Rattle.split_engine.{proofs.Works.{all_at}, specs.Serial.{table_after, IsWithin}}
 use Rattle.split_engine.specs.declared.few.TheConstants.{MOST_KEYS}
 use Rattle.application_window.proofs.Growing.{after_more, length-after}
 use Rattle.application_window.proofs.table_copy.perform_part.Goals as goal

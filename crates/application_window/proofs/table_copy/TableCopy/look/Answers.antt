@@ -1,5 +1,5 @@
 use Rattle.std.proofs.Common.{◌<◌, length, ap, refl, sym, ◌∙◌, arith}
-use Rattle.std.{proofs.lemmas.List.{get_or_default}, specs.Vec.{vec_len}}
+use Rattle.std.{proofs.lemmas.List.{get_or_default}}
 use Rattle.split_engine.specs.{Serial.{record_at}, Serving.{total}}
 use Rattle.application_window.proofs.Growing.{as_long, seen_after}
 use Rattle.application_window.proofs.table_copy.TableCopy.look.Goals as goal
