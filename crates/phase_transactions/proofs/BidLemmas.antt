@@ -13,7 +13,8 @@ use Rattle.item_shards.specs.declared.shard.acts.Act.TheVariants.{Look}
 use Rattle.item_shards.specs.Events as event
 use Rattle.item_shards.specs.Shown as shown
 use Rattle.item_shards.specs.declared.shard.acts.Look.TheVariants as look
-use Rattle.shard_boxes.specs.{Helds.{HeldState}, Lines.{bid_act, bid_acts, line_of}}
+use Rattle.shard_boxes.specs.Helds.{CanBid, HeldState, IsHeldFor, IsPutWith}
+use Rattle.shard_boxes.specs.Lines.{bid_act, bid_acts, line_of}
 use Rattle.phase_transactions.proofs.{AnswerLemmas.{reply_by}, ArmLemmas.{bid_arm}}
 use Rattle.phase_transactions.proofs.BegunLemmas.{begun_commits, begun_good, needed_first, seen_answered}
 use Rattle.phase_transactions.proofs.{DeedLemmas.{done_is}, PutAllLemmas.{none_put, put_more}}
@@ -22,7 +23,7 @@ use Rattle.phase_transactions.specs.Workers.{WorkerState, next_bid, with_entry, 
 use Rattle.phase_transactions.specs.declared.{deeds.Deeds.{Deeds}, taken.Begun.{Begun}}
 use Rattle.phase_transactions.specs.inner.Begun.{Step, HasBegun, IsAnsweredOn, IsSeen}
 use Rattle.phase_transactions.specs.inner.Deeds.{IsReplyBy, IsReplyUnless, AreDeedsOf, AreGoodOn, acts_for, deeds_on, event_with, is_at}
-use Rattle.phase_transactions.specs.inner.HeldShards.{IsAsTaken, IsHeldFor, IsPutWith}
+use Rattle.phase_transactions.specs.inner.HeldShards.{IsAsTaken}
 use Rattle.phase_transactions.specs.inner.Takens.{each_once, footprint_of, held_in}
 use Rattle.phase_transactions.specs.declared.taken.Taken.TheVariants as taken
 use Rattle.worker_slices.{proofs.SlicedLemmas.{cold_kept}, specs.Homes.{IsHomeOf, shard_at}}
@@ -94,11 +95,11 @@ module _ {N : Type 0} (step : Step) (w : WorkerState) (item : ItemId) (entry : B
       within = begun.within;
     }
 
-    pub bid_here : LiesIn held.shard (Item item)
-    bid_here = rw is at (needed_first step w request b begun item held.number refl its_number)
-
-    pub bid_counts : (contents held.shard (Item item)).bids.bids + 1 < 2 ^ 64
-    bid_counts = let within = begun.within in let later = its_clock in omega (arith, its_taken.within.bids item, within, later)
+    pub bid_can : CanBid held.shard (record { item = item; entry = entry })
+    bid_can = let within = begun.within in let later = its_clock in record {
+      here = rw is at (needed_first step w request b begun item held.number refl its_number);
+      count = omega (arith, its_taken.within.bids item, within, later);
+    }
 
     -- no slice has its operation
     pub bid_entered : (index : ℕ) (reply : Reply) → with_entry w b.number index request reply ≡ after_commit w b.number index request reply

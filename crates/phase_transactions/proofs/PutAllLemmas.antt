@@ -1,31 +1,13 @@
 -- The shards of a footprint, put back one after the other, with their lines or as they were.
 use Rattle.std.proofs.Common.{◌≡◌, ◌≢◌, ℕ, ◌<◌, ◌==◌, ◌||◌, Bool, true, false, if◌then◌else◌, List, [], ◌∷◌, ◌++◌, Option, Some, None, refl, sym, ap, subst, ◌∙◌, ◌⊎◌, inl, inr, append-nil}
 use Rattle.std.{proofs.lemmas.Bool.{false≢true, true≢false}, specs.List.{AllByRecursion}}
-use Rattle.shard_boxes.specs.Helds.{HeldState, MayPut, taken_at}
+use Rattle.shard_boxes.specs.Helds.{HeldState, IsPutWith, taken_at}
 use Rattle.shard_boxes.specs.Keys.{BoxId, KeyState, SeatState, seat_at, put_seat, putting, lines_at, seen_at, entries, holds_at}
 use Rattle.shard_boxes.specs.Lines.{Line, MayFollow, StartsWith, after_line}
 use Rattle.shard_boxes.specs.States.{ShardState, state_of}
 use Rattle.phase_transactions.proofs.KeyLemmas.{at_each, many, still_taken, seen_still, starts_on, seen_on, lines_still, lines_on}
 use Rattle.phase_transactions.specs.{Putting.{HasPut, HasPutAll, KeepsSeen}, Workers.{IsIdle}}
-use Rattle.phase_transactions.specs.inner.HeldShards.{IsHeldFor, IsPutWith}
 use Rattle.phase_transactions.specs.inner.Takens.{is_one_of, no_line, numbers_of, HasTakenAll, AreHeldAll, AreBack}
-
--- a shard that is held was changed as a line says: it can go back with that line
-module _ {initial : List ShardState} {key : KeyState} {held : HeldState} {number : ℕ} (its : IsHeldFor initial key held number) (now : HeldState) (line : Line)
-    (same : now.number ≡ held.number) (follows : MayFollow (state_of held.shard) line) (after : state_of now.shard ≡ after_line (state_of held.shard) line) where
-  pub acted_holder : holds_at key now.number ≡ true
-  acted_holder = subst (λ (n : ℕ). holds_at key n ≡ true) (sym same) its.holder
-
-  pub acted_may : MayPut (taken_at initial key now.number) (state_of now.shard) (Some line)
-  acted_may =
-      subst (λ (n : ℕ). MayPut (taken_at initial key n) (state_of now.shard) (Some line)) (sym same)
-      (subst (λ (t : ShardState). MayPut t (state_of now.shard) (Some line)) its.taken (follows, after))
-
-  pub acted_put : (new : KeyState) (owed : Line) → line ≡ owed → new ≡ putting key now.number (Some line) → IsPutWith initial key new held owed
-  acted_put new owed is put = record {
-    put = put ∙ (λ i. putting key (same i) (Some (is i)));
-    follows = subst (λ (t : ShardState). MayFollow t owed) its.taken (subst (MayFollow (state_of held.shard)) is follows);
-  }
 
 -- none
 pub none_put : (initial : List ShardState) (key : KeyState) → IsIdle key → HasPutAll initial key key (is_one_of []) (λ t. no_line)

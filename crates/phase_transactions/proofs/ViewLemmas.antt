@@ -15,7 +15,7 @@ use Rattle.item_shards.specs.declared.shard.acts.Look.{Look as LookedAt}
 use Rattle.item_shards.specs.declared.shard.acts.Look.TheVariants as look
 use Rattle.item_shards.specs.Events as event
 use Rattle.item_shards.specs.Shown as shown
-use Rattle.shard_boxes.specs.{Helds.{HeldState}, Keys.{KeyState}, States.{ShardState}}
+use Rattle.shard_boxes.specs.{Helds.{HeldState, IsHeldFor}, Keys.{KeyState}, States.{ShardState}}
 use Rattle.worker_slices.specs.{Homes.{IsHomeOf, shard_at}, Slicing.{hot_objects}}
 use Rattle.worker_slices.specs.declared.{counters.Counters.{Counters}, homes.Home.{Home}}
 use Rattle.worker_slices.specs.declared.{homes.Homes.{Homes}, slices.Hot.{Hot}}
@@ -29,9 +29,9 @@ use Rattle.phase_transactions.specs.Txns.{IsReplyTo, IsAnswered, is_put_off, rea
 use Rattle.phase_transactions.specs.Workers.{WorkerState, setting_of, txn_of, with_entry, after_commit}
 use Rattle.phase_transactions.specs.declared.{asked.Viewed.{Viewed}, deeds.Deeds.{Deeds}, taken.Begun.{Begun}}
 use Rattle.phase_transactions.specs.declared.taken.{BegunOne.{BegunOne}, Taken.{Taken}}
-use Rattle.phase_transactions.specs.inner.Begun.{Step, begun_of, CanView, HasBegun, HasBegunSome, MayBeginOn, look_for, viewed}
+use Rattle.phase_transactions.specs.inner.Begun.{Step, begun_of, CanView, HasBegun, MayBeginOn, look_for, viewed}
 use Rattle.phase_transactions.specs.inner.Deeds.{AreDeedsOf, AreGoodOn, acts_for, found_on, event_with, first_dealt, second_dealt, shown_with}
-use Rattle.phase_transactions.specs.inner.{HeldShards.{IsHeldFor}, Homes.{AreHomesOf}}
+use Rattle.phase_transactions.specs.inner.Homes.{AreHomesOf}
 use Rattle.phase_transactions.specs.inner.Takens.{each_once, footprint_of, held_in, numbers_of, is_one_of, dealt, line_among}
 use Rattle.phase_transactions.specs.inner.Asking.{homes_viewed, view_request}
 use Rattle.phase_transactions.specs.declared.asked.Viewed.TheVariants as asks
@@ -156,11 +156,6 @@ can_view step w request one begun view openings =
       here = λ other is. subst (LiesIn held.shard) (same_Some object other (sym shown.1 ∙ is)) lies;
       allowed = subst (λ start. number_refusal start request ≡ None) (sym (taken.opening_is ∙ openings held.number taken.known)) begun.may.allowed;
     }
-
--- it has begun with the key that it remembers
-pub begun_some : {N : Type 0} {step : Step} {w : WorkerState} {request : Request} (one : BegunOne N) → HasBegun step w request (begun_of one) → one.key.value ≡ step.key
-    → HasBegunSome step.initial step.workers step.boxes w request (begun_of one)
-begun_some {N} {step} {w} {request} one begun key_is = (step.homes, subst (λ (k : KeyState). HasBegun (record step { key = k }) w request (begun_of one)) (sym key_is) begun)
 
 -- its shard can go back with a line
 pub one_held : {N : Type 0} {step : Step} {w : WorkerState} {request : Request} (one : BegunOne N) → HasBegun step w request (begun_of one) → IsHeldFor step.initial w.key one.held one.number

@@ -99,10 +99,3 @@ impl Deeds {
         (first, second)
     }
 }
-
-/// The number of a commit, and the index of its request in the script.
-#[derive(Clone, Copy)]
-pub(crate) struct Numbered {
-    pub(crate) number: u64,
-    pub(crate) index: u32,
-}

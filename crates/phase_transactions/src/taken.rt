@@ -4,18 +4,16 @@ ghost use Rattle.std.specs.Prelude.{◌≡◌, ◌<◌, ◌≤◌, suc, max, [],
 ghost use Rattle.auction_rows.specs.Requests.{item_of};
 ghost use Rattle.auction_rows.specs.declared.requests.ItemId.{ItemId as ItemIdValue};
 ghost use Rattle.item_shards.specs.{Answering.{refusal_with}, CommitNumbers.{last_number}};
-ghost use Rattle.phase_transactions.specs.Putting.{CanDo, line_of, HasPutAll};
+ghost use Rattle.phase_transactions.specs.Putting.{HasPutAll};
 ghost use Rattle.phase_transactions.specs.inner.Begun.{states_in, FirstHas, FirstHasRoom};
 ghost use Rattle.phase_transactions.specs.inner.Deeds.{stock_taken};
-ghost use Rattle.phase_transactions.specs.inner.HeldShards.{two_acts, IsHeldFor, IsPutWith};
+ghost use Rattle.phase_transactions.specs.inner.HeldShards.{two_acts};
 ghost use Rattle.phase_transactions.specs.inner.Takens.{footprint_of, is_one_of, greatest_held, held_in, numbers_of, dealt, line_among, HasTakenAll, AreHeldAll, AreBack, CanBeDoneOnAll, IsReady};
 
-use crate::deeds::Numbered;
 use auction_rows::{ItemId, Refusal, Request};
 use item_shards::{Act, Look, next_number, refusal_with};
-use shard_boxes::{Boxes, Held, Key, PhaseName};
+use shard_boxes::{Boxes, Held, Key, Numbered, PhaseName};
 use std::alloc::AllocError;
-use std::snapshot::Snapshot;
 use std::sync::Wait;
 use worker_slices::Homes;
 
@@ -33,16 +31,12 @@ pub(crate) enum Taken<N: PhaseName> {
 pub(crate) struct Begun<N: PhaseName> {
     pub(crate) taken: Taken<N>,
     pub(crate) number: u64,
-    // The key before it took a shard: only proofs read it.
-    pub(crate) key: Snapshot<Key<N>>,
 }
 
 /// A transaction that has taken one shard, with its number.
 pub(crate) struct BegunOne<N: PhaseName> {
     pub(crate) held: Held<N>,
     pub(crate) number: u64,
-    // The key before it took the shard: only proofs read it.
-    pub(crate) key: Snapshot<Key<N>>,
 }
 
 /// Takes one shard.
@@ -178,29 +172,10 @@ pub(crate) fn put_all<N: PhaseName>(
     let (first, second) = acts;
     match taken {
         Taken::Nothing => {}
-        Taken::One(one) => put_with_line(boxes, key, one, at, &[first, second]),
+        Taken::One(one) => boxes.put_acts(key, one, at, &[first, second]),
         Taken::Two(item, other) => {
-            put_with_line(boxes, key, item, at, &[first, Act::Look(Look::Nothing)]);
-            put_with_line(boxes, key, other, at, &[second, Act::Look(Look::Nothing)]);
+            boxes.put_acts(key, item, at, &[first, Act::Look(Look::Nothing)]);
+            boxes.put_acts(key, other, at, &[second, Act::Look(Look::Nothing)]);
         }
     }
-}
-
-/// Does two acts on a shard that is as it was taken, and puts it back with their line.
-#[inline(always)]
-pub(crate) fn put_with_line<N: PhaseName>(
-    boxes: &Boxes<N>,
-    key: &mut Key<N>,
-    mut held: Held<N>,
-    at: Numbered,
-    acts: &[Act; 2],
-)
-    requires of { key.old.boxes ≡ boxes.now }
-    requires held { IsHeldFor N.initial key.old held at.number }
-    requires can { CanDo held.shard acts.now }
-    ensures { IsPutWith N.initial key.old key.new held
-        (line_of at.number at.index acts.now held.shard) }
-{
-    let trace = held.act(at.number, at.index, acts);
-    boxes.put_acted(key, held, trace);
 }

@@ -9,24 +9,24 @@ ghost use Rattle.phase_transactions.specs.inner.Asking.{store_request, view_requ
 
 use crate::answers::{item_on, reply_unless, view_on};
 use crate::asked::{Asked, Call, HotStore, Stored, Viewed, bid_request};
-use crate::deeds::{Deeds, Numbered, Store, View};
+use crate::deeds::{Deeds, Store, View};
 use crate::fault::PermitFault;
 use crate::taken::{
-    Begun, BegunOne, Taken, make_room, number_on, number_with, put_all, put_back, put_with_line,
-    take_all, take_one,
+    Begun, BegunOne, Taken, make_room, number_on, number_with, put_all, put_back, take_all,
+    take_one,
 };
 use crate::worker::Worker;
 use auction_rows::{BidEntry, Refusal, Request, StoreReply, bidder_refusal, number_refusal};
 use item_shards::{Act, Look, next_number, refusal_with};
-use shard_boxes::{Boxes, PhaseName};
+use shard_boxes::{Boxes, ItemBid, Numbered, PhaseName};
 use std::alloc::AllocError;
-use std::snapshot::Snapshot;
 use std::sync::Wait;
 use worker_journals::{Answer, BidRequest, ReplyForm};
 use worker_slices::{Home, Homes};
 
 impl<N: PhaseName> Worker<N> {
     ghost use Rattle.auction_rows.specs.declared.requests.Request.{Request as RequestValue};
+    ghost use Rattle.shard_boxes.specs.Keys.{KeyState};
     ghost use Rattle.worker_slices.specs.{Homes.{IsHotStore, shard_at}, Slicing.{hot_objects}};
     ghost use Rattle.worker_slices.specs.declared.homes.Homes.{Homes as HomesValue};
     ghost use Rattle.phase_transactions.specs.Performing.{hot_request, CanTransact, HasCommitted, HasCommittedSome, HasFailed, HasPerformed, HasStoredSome, HaveOpening, StoresItem};
@@ -85,19 +85,16 @@ impl<N: PhaseName> Worker<N> {
         };
 
         let one = self.begin_one(rt, boxes, shard)?;
-        let BegunOne {
-            mut held,
-            number,
-            key: _,
-        } = one;
+        let BegunOne { held, number } = one;
         let entry = BidEntry {
             amount: bid.amount,
             time: bid.time,
             id,
             bidder: bid.bidder,
         };
-        let (trace, refused) = held.bid(number, index, bid.item, entry);
-        boxes.put_acted(&mut self.key, held, trace);
+        let at = Numbered { number, index };
+        let item = bid.item;
+        let refused = boxes.put_bid(&mut self.key, held, at, ItemBid { item, entry });
         // The item is in a shard, so no slice is written.
         let answer = Answer {
             form: ReplyForm::Store(reply_unless(refused, StoreReply::BidStored(id))),
@@ -134,11 +131,7 @@ impl<N: PhaseName> Worker<N> {
         // The shards are taken in ascending order, each once, before anything is read.
         let mut begun = self.begin(rt, boxes, &homes)?;
         if self.prepare(&mut begun, request).is_err() {
-            let Begun {
-                taken,
-                number: _,
-                key: _,
-            } = begun;
+            let Begun { taken, number: _ } = begun;
             put_back(boxes, &mut self.key, taken);
             return Err(PermitFault::Memory);
         }
@@ -165,7 +158,6 @@ impl<N: PhaseName> Worker<N> {
         requires ready { IsReady boxes.now self.old.key }
         requires known { AllByRecursion (λ s. s < length N.initial) (footprint_of homes.now) }
         ensures worker { self.new ≡ record self.old { key = self.new.key } }
-        ensures key { IfOk result (λ begun. begun.key.value ≡ self.old.key) }
         ensures begun { IfOk result (λ begun. (request : RequestValue) →
             MayBegin (length N.initial) self.old request homes.now → HasBegun
             (step_of N.initial N.workers boxes.now self.old.key homes.now)
@@ -174,10 +166,9 @@ impl<N: PhaseName> Worker<N> {
             MayBegin (length N.initial) self.old request homes.now →
             HasFailed N.initial self.old self.new request fault) }
     {
-        let key = Snapshot::of(&self.key);
         let taken = take_all(rt, boxes, &mut self.key, homes);
         match number_on(&taken, self.clock) {
-            Some(number) => Ok(Begun { taken, number, key }),
+            Some(number) => Ok(Begun { taken, number }),
             None => {
                 put_back(boxes, &mut self.key, taken);
                 Err(PermitFault::NumberFull)
@@ -196,7 +187,6 @@ impl<N: PhaseName> Worker<N> {
         requires ready { IsReady boxes.now self.old.key }
         requires known { shard < length N.initial }
         ensures worker { self.new ≡ record self.old { key = self.new.key } }
-        ensures key { IfOk result (λ one. one.key.value ≡ self.old.key) }
         ensures begun { IfOk result (λ one. (request : RequestValue) → (homes : HomesValue) →
             MayBeginOn (length N.initial) self.old request homes shard → HasBegun
             (step_of N.initial N.workers boxes.now self.old.key homes)
@@ -205,10 +195,9 @@ impl<N: PhaseName> Worker<N> {
             MayBeginOn (length N.initial) self.old request homes shard →
             HasFailed N.initial self.old self.new request fault) }
     {
-        let key = Snapshot::of(&self.key);
         let held = take_one(rt, boxes, &mut self.key, shard);
         match number_with(&held, self.clock) {
-            Some(number) => Ok(BegunOne { held, number, key }),
+            Some(number) => Ok(BegunOne { held, number }),
             None => {
                 put_back(boxes, &mut self.key, Taken::One(held));
                 Err(PermitFault::NumberFull)
@@ -221,7 +210,6 @@ impl<N: PhaseName> Worker<N> {
     fn prepare(&self, begun: &mut Begun<N>, request: &Request) -> Result<(), AllocError>
         requires begun { HasFirst self.now request.now begun.old.taken }
         ensures number { begun.new.number ≡ begun.old.number }
-        ensures key { begun.new.key.value ≡ begun.old.key.value }
         ensures same { states_in begun.new.taken ≡ states_in begun.old.taken }
         ensures room { IfOk result (λ _. HasRoomFor self.now request.now begun.new.taken) }
         ensures refused { IfErr result (λ _. StoresItem request.now) }
@@ -243,21 +231,20 @@ impl<N: PhaseName> Worker<N> {
     )
         requires asks { store.now.call.request.now ≡ store_request stored.now }
         requires opened { HaveOpening N.initial self.old.opening }
-        requires begun { HasBegun
-            (step_of N.initial N.workers boxes.now begun.key.value store.now.homes.now)
+        requires begun { (key : KeyState) × HasBegun
+            (step_of N.initial N.workers boxes.now key store.now.homes.now)
             self.old store.now.call.request.now begun }
         requires room { HasRoomFor self.old store.now.call.request.now begun.taken }
         requires answered { IsAnsweredBy self.old store.now.call.request.now
             store.now.homes.now begun.taken (reply_of store.now.reply) }
         requires left { 0 < self.old.left }
-        ensures { HasCommitted N.initial (record self.old { key = begun.key.value }) self.new
+        ensures { (key : KeyState) → HasBegun
+            (step_of N.initial N.workers boxes.now key store.now.homes.now)
+            self.old store.now.call.request.now begun →
+            HasCommitted N.initial (record self.old { key = key }) self.new
             store.now.call.request.now store.now.call.index (reply_of store.now.reply) }
     {
-        let Begun {
-            taken,
-            number,
-            key: _,
-        } = begun;
+        let Begun { taken, number } = begun;
         let deeds = Deeds::of(stored, store.reply, store.homes);
         let acts = deeds.dealt();
         let index = store.call.index;
@@ -419,10 +406,12 @@ impl<N: PhaseName> Worker<N> {
     fn show_whole(&mut self, boxes: &Boxes<N>, one: BegunOne<N>, call: Call<'_>, viewed: Viewed)
         requires view { call.request.now ≡ view_request viewed }
         requires can { CanView one.held.shard call.request.now }
-        requires begun { HasBegunSome N.initial N.workers boxes.now
+        requires begun { (key : KeyState) × HasBegunSome N.initial N.workers boxes.now key
             self.old call.request.now (begun_of one) }
         requires left { 0 < self.old.left }
-        ensures { HasCommittedSome N.initial (record self.old { key = one.key.value }) self.new
+        ensures { (key : KeyState) → HasBegunSome N.initial N.workers boxes.now key
+            self.old call.entry.request.now (begun_of one) →
+            HasCommittedSome N.initial (record self.old { key = key }) self.new
             call.entry.request.now call.entry.index }
     {
         let reply = view_on(&one.held, viewed);
@@ -438,23 +427,21 @@ impl<N: PhaseName> Worker<N> {
     #[inline(always)]
     fn put_view(&mut self, boxes: &Boxes<N>, one: BegunOne<N>, view: &View<'_>)
         requires view { is_view view.now.call.request.now ≡ true }
-        requires begun { HasBegunSome N.initial N.workers boxes.now
+        requires begun { (key : KeyState) × HasBegunSome N.initial N.workers boxes.now key
             self.old view.now.call.request.now (begun_of one) }
         requires shown { IsShownBy one.held.shard
             view.now.call.request.now view.now.look view.now.answer }
         requires left { 0 < self.old.left }
-        ensures { HasCommittedSome N.initial (record self.old { key = one.key.value }) self.new
+        ensures { (key : KeyState) → HasBegunSome N.initial N.workers boxes.now key
+            self.old view.now.call.request.now (begun_of one) →
+            HasCommittedSome N.initial (record self.old { key = key }) self.new
             view.now.call.request.now view.now.call.index }
     {
-        let BegunOne {
-            held,
-            number,
-            key: _,
-        } = one;
+        let BegunOne { held, number } = one;
         let acts = [Act::Look(view.look), Act::Look(Look::Nothing)];
         let index = view.call.index;
         let at = Numbered { number, index };
-        put_with_line(boxes, &mut self.key, held, at, &acts);
+        boxes.put_acts(&mut self.key, held, at, &acts);
         self.add_entry(number, view.call, &view.answer);
     }
 }

@@ -5,6 +5,7 @@ pub mod StateLemmas
 pub mod SeatLemmas
 pub mod BoxSteps
 pub mod PassSteps
+pub mod PutLemmas
 pub mod Carried
 pub mod KeySteps
 pub mod Each

@@ -3,14 +3,16 @@ use Rattle.std.specs.List.{AllByRecursion}
 use Rattle.std.specs.Prelude.{◌≡◌, ℕ, ◌<◌, List, [], ◌∷◌, ◌++◌, length, map, Option, Some, None}
 use Rattle.phase_laws.specs.{Numbers.{IsLinkedFrom}, Order.{IsAscendingByNumber, part}}
 use Rattle.phase_laws.specs.Replay.{SawInTurn}
+use Rattle.auction_rows.specs.declared.requests.Object.TheVariants.{Item}
 use Rattle.auction_rows.specs.declared.{requests.ItemId.ItemId, requests.BidEntry.BidEntry, replies.Refusal.Refusal}
+use Rattle.item_shards.specs.{Answering.{bid_request, refusal_with}, Values.{stock}}
 use Rattle.item_shards.specs.{Contents.{Contents, after_act, after_acts}, Events.{Event}}
 use Rattle.item_shards.specs.{Looking.{IsTrueAct, events_of}, Writing.{first_act, second_act}}
 use Rattle.item_shards.specs.declared.shard.{Shard.{Shard}, acts.Act.{TheVariants.{Bid, Look}, Act}}
 use Rattle.item_shards.specs.declared.shard.acts.Look.TheVariants as look
 use Rattle.item_shards.specs.ShardContents.{clock as clock_of, contents as contents_of}
 use Rattle.shard_boxes.specs.States.{ShardState, state_at, IsWithin}
-use Rattle.shard_boxes.specs.declared.line.Line.{Line as MadeLine}
+use Rattle.shard_boxes.specs.declared.line.{ItemBid.{ItemBid}, Line.{Line as MadeLine}}
 
 -- the two acts of a line, as they were done: a place that is left has a look at nothing
 pub record Acts : Type 0 where
@@ -56,13 +58,6 @@ seen_line taken line = record {
   acts = first_two (events_of taken.contents line.acts);
 }
 
--- two acts, of which the second one is refused for this reason, if there is one: then it is a look
--- at nothing
-abbrev pub acts_unless : Option Refusal → List Act → List Act
-acts_unless None acts = acts
-acts_unless (Some reason) [] = []
-acts_unless (Some reason) (act ∷ acts) = act ∷ Look look.Nothing ∷ []
-
 -- the second act of a bid: the bid, unless it is refused
 abbrev pub bid_act : ItemId → BidEntry → Option Refusal → Act
 bid_act item bid None = Bid item bid
@@ -71,6 +66,16 @@ bid_act item bid (Some reason) = Look look.Nothing
 -- the acts of a bid: a look at what is left of its item, and the bid, unless it is refused
 abbrev pub bid_acts : ItemId → BidEntry → Option Refusal → List Act
 bid_acts item bid refused = Look (look.Left item) ∷ bid_act item bid refused ∷ []
+
+-- the first reason for which its item refuses a bid, by what the shard has of the item
+abbrev pub refusal_of : ItemBid → Shard → Option Refusal
+refusal_of bid shard =
+    refusal_with (stock (contents_of shard (Item bid.item))) (bid_request bid.item bid.entry)
+
+-- the line of a bid on a shard as it was taken
+abbrev pub line_of_bid : ℕ → ℕ → ItemBid → Shard → Line
+line_of_bid number index bid taken =
+    line_of number index (bid_acts bid.item bid.entry (refusal_of bid taken)) taken
 
 -- the shard after a line: its acts are done, and its number is the clock
 abbrev pub after_line : ShardState → Line → ShardState

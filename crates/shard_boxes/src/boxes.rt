@@ -1,17 +1,18 @@
 //! The name of a phase and its boxes, and how a worker takes a shard and puts it back.
-ghost use Rattle.std.specs.Prelude.{◌≡◌, ◌<◌, length, true, Some, option_map};
-ghost use Rattle.shard_boxes.specs.Helds.{taken_at, MayGoBack, MayPut};
+ghost use Rattle.std.specs.Prelude.{◌≡◌, ◌<◌, length, true, option_map};
+ghost use Rattle.item_shards.specs.Acting.{CanDo};
+ghost use Rattle.shard_boxes.specs.Helds.{taken_at, CanBid, IsHeldFor, IsPutWith, MayGoBack};
 ghost use Rattle.shard_boxes.specs.Keys.{taking, putting, lines_at, seen_at, holds_at, HoldsNoneFrom};
-ghost use Rattle.shard_boxes.specs.Lines.{lines_of, seen_line, StartsWith, IsShardHistory};
+ghost use Rattle.shard_boxes.specs.Lines.{line_of, line_of_bid, lines_of, refusal_of, seen_line, StartsWith, IsShardHistory};
 ghost use Rattle.shard_boxes.specs.States.{state_of};
 
 use crate::held::Held;
 use crate::key::Key;
-use crate::line::{Line, Trace};
+use crate::line::{ItemBid, Line, Numbered};
 use crate::shard_box::ShardBox;
-use item_shards::Shard;
+use auction_rows::Refusal;
+use item_shards::{Act, Shard};
 use std::marker::{Brand, Model, PhantomData};
-use std::snapshot::Snapshot;
 use std::sync::Wait;
 
 /// Names what the shards of a phase show as it opens, and the number of its workers. Who runs a
@@ -101,22 +102,43 @@ impl<N: PhaseName> Boxes<N> {
         ensures { key.new ≡ putting key.old held.number
             (option_map (seen_line (taken_at N.initial key.old held.number)) line) }
     {
-        let (number, shard) = held.open();
-        let s = number as usize;
-        key.put::<Option<Line>, Brand>(&self.boxes[s], s, shard, Snapshot::of(&line));
+        let shard_box = &self.boxes[held.number() as usize];
+        key.put_made::<Brand>(shard_box, held, line);
     }
 
-    /// Puts a shard back after the line of what `Held::act` did on it. It takes no memory.
+    /// Does two acts on a shard that is as it was taken, one after the other, and puts it back
+    /// after their line. It takes no memory.
     #[inline(always)]
-    pub fn put_acted(&self, key: &mut Key<N>, held: Held<N>, trace: Trace)
+    pub fn put_acts(&self, key: &mut Key<N>, held: Held<N>, at: Numbered, acts: &[Act; 2])
         requires of { key.old.boxes ≡ self.now }
-        requires holder { holds_at key.old held.number ≡ true }
-        requires may { MayPut (taken_at N.initial key.old held.number) (state_of held.shard)
-            (Some trace) }
-        ensures { key.new ≡ putting key.old held.number (Some trace) }
+        requires held { IsHeldFor N.initial key.old held at.number }
+        requires can { CanDo held.shard acts.now }
+        ensures { IsPutWith N.initial key.old key.new held
+            (line_of at.number at.index acts.now held.shard) }
     {
-        let (number, shard) = held.open();
-        let s = number as usize;
-        key.put::<Trace, Brand>(&self.boxes[s], s, shard, Snapshot::of(&trace));
+        let shard_box = &self.boxes[held.number() as usize];
+        key.put_acts::<Brand>(shard_box, held, at, acts);
+    }
+
+    /// Bids on an item by one look-up on its shard, which is as it was taken, unless the item
+    /// refuses the bid, and puts the shard back after the line of that. Gives the reason for a
+    /// refusal. It takes no memory.
+    #[inline(always)]
+    pub fn put_bid(
+        &self,
+        key: &mut Key<N>,
+        held: Held<N>,
+        at: Numbered,
+        bid: ItemBid,
+    ) -> Option<Refusal>
+        requires of { key.old.boxes ≡ self.now }
+        requires held { IsHeldFor N.initial key.old held at.number }
+        requires can { CanBid held.shard bid }
+        ensures by { result ≡ refusal_of bid held.shard }
+        ensures put { IsPutWith N.initial key.old key.new held
+            (line_of_bid at.number at.index bid held.shard) }
+    {
+        let shard_box = &self.boxes[held.number() as usize];
+        key.put_bid::<Brand>(shard_box, held, at, bid)
     }
 }

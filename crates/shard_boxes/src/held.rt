@@ -1,22 +1,19 @@
 //! A shard out of its box, and what it allows.
-ghost use Rattle.std.specs.{Borrow.{Lends, sem}, Prelude.{◌≡◌, ◌+◌, ◌<◌, ◌≤◌, ◌^◌, length}};
-ghost use Rattle.auction_rows.specs.declared.requests.Object.TheVariants.{Item};
-ghost use Rattle.item_shards.specs.{Acting.{CanDo}, Answering.{bid_request, refusal_with}};
-ghost use Rattle.item_shards.specs.CommitNumbers.{last_number};
-ghost use Rattle.item_shards.specs.{ShardContents.{clock, contents, LiesIn}, Values.{stock}};
+ghost use Rattle.std.specs.{Borrow.{Lends, sem}, Prelude.{◌≡◌, ◌<◌, ◌≤◌, ℕ, length}};
+ghost use Rattle.item_shards.specs.{Acting.{CanDo}, CommitNumbers.{last_number}};
+ghost use Rattle.item_shards.specs.ShardContents.{clock};
 ghost use Rattle.item_shards.specs.contracts.shard.Shard.{the_row as shard_row};
-ghost use Rattle.shard_boxes.specs.Lines.{after_line, bid_acts, line_of, MayFollow};
+ghost use Rattle.shard_boxes.specs.{Helds.{CanBid}, Lines.{after_line, line_of, line_of_bid, refusal_of}};
 ghost use Rattle.shard_boxes.specs.{States.{state_of}, contracts.held.Held.{the_row}};
 
 use crate::boxes::PhaseName;
-use crate::line::Trace;
-use auction_rows::{BidEntry, ItemId, Refusal};
-use item_shards::{Act, Look, Shard};
+use crate::line::ItemBid;
+use auction_rows::Refusal;
+use item_shards::{Act, Shard};
 use std::marker::{Model, PhantomData};
-use std::snapshot::Snapshot;
 
-/// A shard that was taken out of its box. It must be put back by `Boxes::put` or
-/// `Boxes::put_acted`: it can't be dropped.
+/// A shard that was taken out of its box. It must be put back by `Boxes::put`, `put_acts` or
+/// `put_bid`: it can't be dropped.
 pub struct Held<N: PhaseName> {
     number: u32,
     shard: Shard,
@@ -81,64 +78,34 @@ impl<N: PhaseName> Held<N> {
         &self.shard
     }
 
-    /// Does two acts on the shard, one after the other, at a number after its clock, and gives the
-    /// trace of the line that they leave, of the request of this index. It takes no memory.
+    // Does two acts on the shard, one after the other, at a number after its clock.
     #[inline(always)]
-    pub fn act(&mut self, number: u64, index: u32, acts: &[Act; 2]) -> Trace
+    pub(crate) fn act(&mut self, number: u64, acts: &[Act; 2])
         requires later { clock self.old.shard < number }
         requires within { number ≤ last_number }
         requires can { CanDo self.old.shard acts.now }
-        ensures line { result ≡ line_of number index acts.now self.old.shard }
-        ensures follows { MayFollow (state_of self.old.shard) result }
-        ensures after { state_of self.new.shard ≡ after_line (state_of self.old.shard) result }
+        ensures after { (index : ℕ) → state_of self.new.shard ≡ after_line
+            (state_of self.old.shard) (line_of number index acts.now self.old.shard) }
         ensures number { self.new.number ≡ self.old.number }
     {
-        let trace = Trace {
-            number: Snapshot::of(&number),
-            index: Snapshot::of(&index),
-            found: Snapshot::of(&self.shard),
-            acts: Snapshot::of(acts),
-            refused: Snapshot::of(&None),
-        };
         self.shard.apply_acts(number, acts);
-        trace
     }
 
-    /// Bids on an item by one look-up, unless the item refuses the bid, at a number after the
-    /// shard's clock. Gives the trace of the line that is left, and the reason for a refusal. It
-    /// takes no memory.
+    // Bids on an item by one look-up, unless the item refuses the bid, at a number after the
+    // shard's clock. Gives the reason for a refusal.
     #[inline(always)]
-    pub fn bid(
-        &mut self,
-        number: u64,
-        index: u32,
-        item: ItemId,
-        bid: BidEntry,
-    ) -> (Trace, Option<Refusal>)
+    pub(crate) fn bid(&mut self, number: u64, bid: ItemBid) -> Option<Refusal>
         requires later { clock self.old.shard < number }
         requires within { number ≤ last_number }
-        requires here { LiesIn self.old.shard (Item item) }
-        requires count { (contents self.old.shard (Item item)).bids.bids + 1 < 2 ^ 64 }
-        ensures by { result.1
-            ≡ refusal_with (stock (contents self.old.shard (Item item))) (bid_request item bid) }
-        ensures line { result.0
-            ≡ line_of number index (bid_acts item bid result.1) self.old.shard }
-        ensures follows { MayFollow (state_of self.old.shard) result.0 }
-        ensures after { state_of self.new.shard ≡ after_line (state_of self.old.shard) result.0 }
+        requires can { CanBid self.old.shard bid }
+        ensures by { result ≡ refusal_of bid self.old.shard }
+        ensures after { (index : ℕ) → state_of self.new.shard ≡ after_line
+            (state_of self.old.shard) (line_of_bid number index bid self.old.shard) }
         ensures number { self.new.number ≡ self.old.number }
     {
-        let found = Snapshot::of(&self.shard);
-        let refused = self.shard.try_bid(item, bid);
+        let refused = self.shard.try_bid(bid.item, bid.entry);
         self.shard.set_clock(number);
-        let acts = [Act::Look(Look::Left(item)), Act::Bid(item, bid)];
-        let trace = Trace {
-            number: Snapshot::of(&number),
-            index: Snapshot::of(&index),
-            found,
-            acts: Snapshot::of(&acts),
-            refused: Snapshot::of(&refused),
-        };
-        (trace, refused)
+        refused
     }
 
     /// The shard, to change it as its own methods do.

@@ -1,17 +1,19 @@
 //! A worker's right to take the shards of a phase.
-ghost use Rattle.std.specs.Prelude.{◌≡◌, ◌<◌, ◌∷◌, [], ℕ, true, false, length};
-ghost use Rattle.shard_boxes.specs.Helds.{taken_at, MayPut};
+ghost use Rattle.std.specs.Prelude.{◌≡◌, ◌<◌, ◌∷◌, [], ℕ, Some, option_map, true, false, length};
+ghost use Rattle.item_shards.specs.Acting.{CanDo};
+ghost use Rattle.shard_boxes.specs.Helds.{taken_at, CanBid, IsHeldFor, IsPutWith, MayGoBack, MayPut};
 ghost use Rattle.shard_boxes.specs.Keys.{taking, putting, lines_at, seen_at, holds_at};
-ghost use Rattle.shard_boxes.specs.Lines.{lines_of, StartsWith, IsShardHistory};
+ghost use Rattle.shard_boxes.specs.Lines.{line_of, line_of_bid, lines_of, refusal_of, seen_line, StartsWith, IsShardHistory};
 ghost use Rattle.shard_boxes.specs.{Passes.{GrantState}, States.{state_of, AreInitial}};
 ghost use Rattle.shard_boxes.specs.inner.Grants.{IsBoxAt, AreFree, own_at};
 
 use crate::boxes::PhaseName;
-use crate::line::LineName;
+use crate::held::Held;
+use crate::line::{ItemBid, Line, LineName, Numbered};
 use crate::shard_box::{Grant, ShardBox};
-use item_shards::Shard;
+use auction_rows::Refusal;
+use item_shards::{Act, Shard};
 use std::marker::{Model, PhantomData};
-use std::snapshot::Snapshot;
 use std::sync::Wait;
 
 /// A worker's right to take the shards of a phase. Contracts see of each shard whether the key
@@ -86,23 +88,79 @@ impl<N: PhaseName> Key<N> {
         shard_box.take(rt, grant)
     }
 
-    // Puts the shard back, after the line that `L` names, if there is one. Proofs alone read
-    // `_named_by`, from which they name it.
+    // Does two acts on a shard, and puts it back after their line.
     #[inline(always)]
-    pub(crate) fn put<T, L: LineName>(
+    pub(crate) fn put_acts<L: LineName>(
         &mut self,
         shard_box: &ShardBox,
-        s: usize,
-        shard: Shard,
-        _named_by: Snapshot<T>,
+        mut held: Held<N>,
+        at: Numbered,
+        acts: &[Act; 2],
     )
-        requires known { s < length N.initial }
-        requires place { IsBoxAt self.old.boxes s shard_box.now }
-        requires holds { holds_at self.old s ≡ true }
-        requires may { MayPut (taken_at N.initial self.old s) (state_of shard) L.line }
-        ensures { self.new ≡ putting self.old s L.line }
+        requires place { IsBoxAt self.old.boxes held.number shard_box.now }
+        requires held { IsHeldFor N.initial self.old held at.number }
+        requires can { CanDo held.shard acts.now }
+        requires named { L.line ≡ Some (line_of at.number at.index acts.now held.shard) }
+        ensures { IsPutWith N.initial self.old self.new held
+            (line_of at.number at.index acts.now held.shard) }
     {
-        let grant = &mut self.grants[s];
+        held.act(at.number, acts);
+        self.put::<L>(shard_box, held);
+    }
+
+    // Bids on a shard, unless the item refuses the bid, and puts it back after the line of that.
+    #[inline(always)]
+    pub(crate) fn put_bid<L: LineName>(
+        &mut self,
+        shard_box: &ShardBox,
+        mut held: Held<N>,
+        at: Numbered,
+        bid: ItemBid,
+    ) -> Option<Refusal>
+        requires place { IsBoxAt self.old.boxes held.number shard_box.now }
+        requires held { IsHeldFor N.initial self.old held at.number }
+        requires can { CanBid held.shard bid }
+        requires named { L.line ≡ Some (line_of_bid at.number at.index bid held.shard) }
+        ensures by { result ≡ refusal_of bid held.shard }
+        ensures put { IsPutWith N.initial self.old self.new held
+            (line_of_bid at.number at.index bid held.shard) }
+    {
+        let refused = held.bid(at.number, bid);
+        self.put::<L>(shard_box, held);
+        refused
+    }
+
+    // Puts a shard back, as it was taken or after the line that the caller made.
+    #[inline(always)]
+    pub(crate) fn put_made<L: LineName>(
+        &mut self,
+        shard_box: &ShardBox,
+        held: Held<N>,
+        _made: Option<Line>,
+    )
+        requires place { IsBoxAt self.old.boxes held.number shard_box.now }
+        requires holder { holds_at self.old held.number ≡ true }
+        requires may { MayGoBack (taken_at N.initial self.old held.number) (state_of held.shard)
+            _made }
+        requires named { L.line ≡ option_map
+            (seen_line (taken_at N.initial self.old held.number)) _made }
+        ensures { self.new ≡ putting self.old held.number
+            (option_map (seen_line (taken_at N.initial self.old held.number)) _made) }
+    {
+        self.put::<L>(shard_box, held);
+    }
+
+    // Puts the shard back, after the line that `L` names, if there is one.
+    #[inline(always)]
+    fn put<L: LineName>(&mut self, shard_box: &ShardBox, held: Held<N>)
+        requires place { IsBoxAt self.old.boxes held.number shard_box.now }
+        requires holds { holds_at self.old held.number ≡ true }
+        requires may { MayPut (taken_at N.initial self.old held.number) (state_of held.shard)
+            L.line }
+        ensures { self.new ≡ putting self.old held.number L.line }
+    {
+        let (number, shard) = held.open();
+        let grant = &mut self.grants[number as usize];
         shard_box.put::<L>(grant, shard);
     }
 

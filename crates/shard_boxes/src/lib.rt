@@ -19,5 +19,5 @@ pub use boxes::{Boxes, PhaseName};
 pub use held::Held;
 pub use key::Key;
 pub use limits::{MOST_COMMITS, MOST_KEPT, sums_fit};
-pub use line::{Line, Trace};
+pub use line::{ItemBid, Line, Numbered};
 pub use spare::Spare;

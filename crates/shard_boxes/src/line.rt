@@ -1,8 +1,21 @@
-//! What one transaction did on one shard: a line that a caller makes, and the trace of acts.
-use auction_rows::Refusal;
+//! What one transaction did on one shard, and where it stands among the commits.
+use auction_rows::{BidEntry, ItemId};
 use item_shards::{Act, Shard};
 use std::marker::{Brand, Model};
-use std::snapshot::Snapshot;
+
+/// The number of a commit, and the index of its request in its worker's script.
+#[derive(Clone, Copy)]
+pub struct Numbered {
+    pub number: u64,
+    pub index: u32,
+}
+
+/// A bid and the item that it is on.
+#[derive(Clone, Copy)]
+pub struct ItemBid {
+    pub item: ItemId,
+    pub entry: BidEntry,
+}
 
 /// What one transaction did on one shard. Contracts see it as `seen_line`: with what its looks
 /// showed of the shard as it was taken.
@@ -18,24 +31,20 @@ pub struct Line {
     pub acts: [Act; 2],
 }
 
-/// The line that acts left on a shard, only for proofs: it has no bytes.
-#[derive(Drop)]
+/// A line as passes know it; no value of it is made.
 pub struct Trace {
-    pub(crate) number: Snapshot<u64>,
-    pub(crate) index: Snapshot<u32>,
-    pub(crate) found: Snapshot<Shard>,
-    pub(crate) acts: Snapshot<[Act; 2]>,
-    // Why the second act was not done, if it was not.
-    pub(crate) refused: Snapshot<Option<Refusal>>,
+    pub number: u64,
+    pub index: u32,
+    pub found: Shard,
+    pub acts: [Act; 2],
 }
 
 impl Model for Trace {
-    ghost use Rattle.shard_boxes.specs.Lines.{Line, acts_unless, line_of};
+    ghost use Rattle.shard_boxes.specs.Lines.{Line, line_of};
 
     ghost Value = { Line };
 
-    ghost view = { λ t. line_of t.number.value t.index.value
-        (acts_unless t.refused.value t.acts.value) t.found.value };
+    ghost view = { λ t. line_of t.number t.index t.acts t.found };
 }
 
 /// Names the line with which a shard is put back.

@@ -68,13 +68,13 @@ pub record HasBegun {N : Type 0} (step : Step) (w : WorkerState) (request : Requ
 
 -- a transaction on one shard
 abbrev pub begun_of : {N : Type 0} → BegunOne N → Begun N
-begun_of one = record { taken = taken.One one.held; number = one.number; key = one.key }
+begun_of one = record { taken = taken.One one.held; number = one.number }
 
--- a worker has begun a request with the key that it remembers, wherever the request's objects are
-abbrev pub HasBegunSome : {N : Type 0} → List ShardState → ℕ → List BoxId → WorkerState → Request →
-    Begun N → Type 0
-HasBegunSome initial workers boxes w request begun =
-    (homes : Homes) × HasBegun (step_of initial workers boxes begun.key.value homes) w request begun
+-- a worker with this key has begun a request, wherever the request's objects are
+abbrev pub HasBegunSome : {N : Type 0} → List ShardState → ℕ → List BoxId → KeyState →
+    WorkerState → Request → Begun N → Type 0
+HasBegunSome initial workers boxes key w request begun =
+    (homes : Homes) × HasBegun (step_of initial workers boxes key homes) w request begun
 
 -- what a store saw of the item that it needs: of a hot one what is fixed, of another one what the
 -- first shard has

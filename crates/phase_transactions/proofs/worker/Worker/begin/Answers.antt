@@ -15,9 +15,6 @@ returns-in-None-clause-full g c = λ request may.
     store_fails g.N.PhaseName.initial c.args.self.now _ c.take_all-taken.new.key request c.args.homes.now took its may.asked c.put_back.ensures NumberFull
     (λ i. record (c.self.view_is i) { key = c.put_back.new.key }) may.goes (subst (λ (s : WorkerState). last_number ≤ max s.clock (greatest_held (held_in took))) c.self.view_is c.in-None.ensures.full)
 
-pub returns-in-Some-clause-key : goal.returns-in-Some-clause-key
-returns-in-Some-clause-key g c = c.of-key.ensures ∙ ap (λ (s : WorkerState). s.key) c.self.view_is
-
 pub returns-in-Some-clause-begun : goal.returns-in-Some-clause-begun
 returns-in-Some-clause-begun g c = λ request may.
     let initial = g.N.PhaseName.initial in let homes = c.args.homes.now in

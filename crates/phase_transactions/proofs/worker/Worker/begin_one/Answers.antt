@@ -18,9 +18,6 @@ returns-in-None-clause-full g c = λ request homes on.
     store_fails {N = Unit {0}} initial c.args.self.now _ key request homes (taken.One held) its on.may.asked c.put_back.ensures NumberFull
     (λ i. record (c.self.view_is i) { key = c.put_back.new.key }) on.may.goes (subst (λ (s : WorkerState). last_number ≤ max s.clock (greatest_held (held ∷ []))) c.self.view_is c.in-None.ensures.full)
 
-pub returns-in-Some-clause-key : goal.returns-in-Some-clause-key
-returns-in-Some-clause-key g c = c.of-key.ensures ∙ ap (λ (s : WorkerState). s.key) c.self.view_is
-
 pub returns-in-Some-clause-begun : goal.returns-in-Some-clause-begun
 returns-in-Some-clause-begun g c = λ request homes on.
     let initial = g.N.PhaseName.initial in let workers = g.N.PhaseName.workers in

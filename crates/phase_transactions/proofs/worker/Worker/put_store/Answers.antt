@@ -16,8 +16,8 @@ pub put_all-requires-clause-can : goal.put_all-requires-clause-can
 put_all-requires-clause-can g c =
     let initial = g.N.PhaseName.initial in let w = c.args.self.now in
     let store = c.args.store.now in let took = c.args.begun.taken in
-    let begun = c.requires.begun in let reply = reply_of store.reply in
-    let key = c.args.begun.key.value in let request = store.call.request.now in
+    let begun = c.requires.begun.1 in let reply = reply_of store.reply in
+    let key = c.requires.begun.0 in let request = store.call.request.now in
     let homes = store.homes.now in let seen = c.requires.answered.seen in
     let deeds = c.of-deeds.result in let asks = sym c.requires.asks in
     let step = step_of initial g.N.PhaseName.workers c.args.boxes.now key homes in
@@ -31,7 +31,7 @@ put_all-requires-clause-can g c =
 pub add_store-requires-clause-home : goal.add_store-requires-clause-home
 add_store-requires-clause-home g c =
     let store = c.args.store.now in
-    subst (λ (w : WorkerState). IsWrittenAt w.slices store.call.request.now store.homes.now) (sym c.self.view_is) (written_at c.args.self.now store.call.request.now store.homes.now (length g.N.PhaseName.initial, c.requires.begun.may.homes_are))
+    subst (λ (w : WorkerState). IsWrittenAt w.slices store.call.request.now store.homes.now) (sym c.self.view_is) (written_at c.args.self.now store.call.request.now store.homes.now (length g.N.PhaseName.initial, c.requires.begun.1.may.homes_are))
 
 pub add_store-requires-clause-own : goal.add_store-requires-clause-own
 add_store-requires-clause-own g c =
@@ -40,9 +40,8 @@ add_store-requires-clause-own g c =
     subst (λ (w : WorkerState). IsOwn w.journal.worker reply) (sym c.self.view_is) (own_reply c.args.self.now c.requires.answered.seen store.call.request.now reply c.requires.answered.answered is_store)
 
 pub returns : goal.returns
-returns g c =
+returns g c = λ key begun.
     let initial = g.N.PhaseName.initial in let w = c.args.self.now in
-    let begun = c.requires.begun in let key = c.args.begun.key.value in
     let store = c.args.store.now in let request = store.call.request.now in
     let homes = store.homes.now in let seen = c.requires.answered.seen in
     let step = step_of initial g.N.PhaseName.workers c.args.boxes.now key homes in

@@ -5,7 +5,7 @@ use Rattle.item_shards.specs.declared.shard.acts.Look.TheVariants as look
 use Rattle.worker_slices.specs.Slicing.{hot_objects}
 use Rattle.phase_transactions.proofs.BegunLemmas.{fault_performed}
 use Rattle.phase_transactions.proofs.EmptyLemmas.{stored_performed, refused_untaken}
-use Rattle.phase_transactions.proofs.ViewLemmas.{asks_view, begun_some, can_view}
+use Rattle.phase_transactions.proofs.ViewLemmas.{asks_view, can_view}
 use Rattle.phase_transactions.specs.Performing.{HasCommittedSome, HaveOpening}
 use Rattle.phase_transactions.specs.{Txns.{is_put_off}, Workers.{WorkerState}}
 use Rattle.phase_transactions.specs.inner.Asking.{homes_viewed, view_request}
@@ -63,13 +63,15 @@ put_view-requires-clause-begun g c =
     let request = c.args.call.request.now in let shard = c.shard_viewed-shard.result in
     let homes = homes_viewed c.args.viewed shard in
     let its = c.in_ok-one.ensures.begun request homes (subst (λ (r : Request). MayBeginOn (length initial) old r homes shard) (sym c.requires.view) c.shard_viewed-shard.ensures.may) in
-    begun_some c.in_ok-one.one its c.in_ok-one.ensures.key
+    (old.key, homes, its)
 
 pub returns-in-Item : goal.returns-in-Item
 returns-in-Item g c =
-    let initial = g.N.PhaseName.initial in let request = c.args.call.request.now in
-    let key = c.in_ok-one.ensures.key in
-    subst (λ (s : WorkerState). HasCommittedSome initial s c.put_view.new.self request c.args.call.index) (λ i. record (c.begin_one.ensures.worker i) { key = key i }) c.put_view.ensures
+    let initial = g.N.PhaseName.initial in let old = c.args.self.now in
+    let request = c.args.call.request.now in let shard = c.shard_viewed-shard.result in
+    let homes = homes_viewed c.args.viewed shard in
+    let its = c.in_ok-one.ensures.begun request homes (subst (λ (r : Request). MayBeginOn (length initial) old r homes shard) (sym c.requires.view) c.shard_viewed-shard.ensures.may) in
+    subst (λ (s : WorkerState). HasCommittedSome initial s c.put_view.new.self request c.args.call.index) (λ i. record (c.begin_one.ensures.worker i) { key = old.key }) (c.put_view.ensures old.key (homes, its))
 
 pub show_whole-requires-clause-can : goal.show_whole-requires-clause-can
 show_whole-requires-clause-can g c =
@@ -87,10 +89,12 @@ show_whole-requires-clause-begun g c =
     let request = c.args.call.request.now in let shard = c.shard_viewed-shard.result in
     let homes = homes_viewed c.args.viewed shard in
     let its = c.in_ok-one.ensures.begun request homes (subst (λ (r : Request). MayBeginOn (length initial) old r homes shard) (sym c.requires.view) c.shard_viewed-shard.ensures.may) in
-    begun_some c.in_ok-one.one its c.in_ok-one.ensures.key
+    (old.key, homes, its)
 
 pub returns : goal.returns
 returns g c =
-    let initial = g.N.PhaseName.initial in let request = c.args.call.request.now in
-    let key = c.in_ok-one.ensures.key in
-    subst (λ (s : WorkerState). HasCommittedSome initial s c.show_whole.new.self request c.args.call.index) (λ i. record (c.begin_one.ensures.worker i) { key = key i }) c.show_whole.ensures
+    let initial = g.N.PhaseName.initial in let old = c.args.self.now in
+    let request = c.args.call.request.now in let shard = c.shard_viewed-shard.result in
+    let homes = homes_viewed c.args.viewed shard in
+    let its = c.in_ok-one.ensures.begun request homes (subst (λ (r : Request). MayBeginOn (length initial) old r homes shard) (sym c.requires.view) c.shard_viewed-shard.ensures.may) in
+    subst (λ (s : WorkerState). HasCommittedSome initial s c.show_whole.new.self request c.args.call.index) (λ i. record (c.begin_one.ensures.worker i) { key = old.key }) (c.show_whole.ensures old.key (homes, its))

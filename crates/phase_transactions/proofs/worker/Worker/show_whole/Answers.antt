@@ -22,4 +22,4 @@ put_view-requires-clause-shown g c =
     (subst (λ (reply : Reply). IsShownBy shard request (look_for request) reply) (sym c.of.ensures) c.view_on-reply.ensures))
 
 pub returns : goal.returns
-returns g c = c.put_view.ensures
+returns g c = λ key begun. c.put_view.ensures key begun

@@ -98,9 +98,7 @@ put_store-requires-clause-begun g c =
     let initial = g.N.PhaseName.initial in let old = c.args.self.now in
     let request = c.args.call.request.now in let homes = c.homes-homes.result in
     let its = c.in_ok-begun.ensures.begun request (subst (λ (r : Request). MayBegin (length initial) old r homes) (sym c.requires.asks) c.homes-homes.ensures.may) in
-    let key = c.prepare.ensures.key ∙ c.in_ok-begun.ensures.key in
-    subst (λ (k : KeyState). HasBegun (step_of initial g.N.PhaseName.workers c.args.boxes.now k homes) c.begin.new.self request c.prepare.new.begun) (sym key)
-    (begun_before c.in_ok-begun.begun c.prepare.new.begun c.prepare.ensures.same c.prepare.ensures.number its)
+    (old.key, begun_before c.in_ok-begun.begun c.prepare.new.begun c.prepare.ensures.same c.prepare.ensures.number its)
 
 pub refusal-refused-requires : goal.refusal-refused-requires
 refusal-refused-requires g c =
@@ -129,7 +127,12 @@ put_store-requires-clause-answered g c =
 
 pub returns : goal.returns
 returns g c =
-    let initial = g.N.PhaseName.initial in let request = c.args.call.request.now in
+    let initial = g.N.PhaseName.initial in let old = c.args.self.now in
+    let request = c.args.call.request.now in let homes = c.homes-homes.result in
     let reply = reply_of c.reply_unless-reply.result in
-    let key = c.prepare.ensures.key ∙ c.in_ok-begun.ensures.key in
-    (reply, subst (λ (s : WorkerState). HasCommitted initial s c.put_store.new.self request c.args.call.index reply) (λ i. record (c.begin.ensures.worker i) { key = key i }) c.put_store.ensures)
+    let its = c.in_ok-begun.ensures.begun request (subst (λ (r : Request). MayBegin (length initial) old r homes) (sym c.requires.asks) c.homes-homes.ensures.may) in
+    let begun = begun_before c.in_ok-begun.begun c.prepare.new.begun c.prepare.ensures.same c.prepare.ensures.number its in (
+      reply,
+      subst (λ (s : WorkerState). HasCommitted initial s c.put_store.new.self request c.args.call.index reply) (λ i. record (c.begin.ensures.worker i) { key = old.key })
+          (c.put_store.ensures old.key begun),
+    )

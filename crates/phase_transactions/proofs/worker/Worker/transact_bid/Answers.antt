@@ -5,12 +5,11 @@ use Rattle.auction_rows.specs.declared.replies.StoreReply.TheVariants.{BidStored
 use Rattle.auction_rows.specs.declared.replies.Reply.TheVariants.{BidStored as Stored}
 use Rattle.auction_rows.specs.declared.requests.{BidId.{BidId}, BidEntry.{BidEntry}, Request.{Request}}
 use Rattle.request_scripts.specs.{Scripts.{request_of}, declared.script.BidRequest.{BidRequest}}
-use Rattle.shard_boxes.specs.{Helds.{MayPut, taken_at}, Keys.{holds_at, putting}}
-use Rattle.shard_boxes.specs.{Lines.{bid_acts, line_of}, States.{state_of}}
+use Rattle.shard_boxes.specs.{Helds.{IsHeldFor, IsPutWith}, Keys.{KeyState}}
+use Rattle.shard_boxes.specs.Lines.{bid_acts, line_of}
 use Rattle.phase_transactions.proofs.{AnswerLemmas.{unless_due}, BegunLemmas.{fault_performed}}
-use Rattle.phase_transactions.proofs.BidLemmas.{bid_commits, bid_counts, bid_entered, bid_held, bid_here}
+use Rattle.phase_transactions.proofs.BidLemmas.{bid_can, bid_commits, bid_entered, bid_held}
 use Rattle.phase_transactions.proofs.EmptyLemmas.{stored_performed, refused_untaken, hot_untaken}
-use Rattle.phase_transactions.proofs.PutAllLemmas.{acted_holder, acted_may, acted_put}
 use Rattle.phase_transactions.specs.Performing.{HasCommitted, HaveOpening}
 use Rattle.phase_transactions.specs.{Workers.{WorkerState, next_bid, with_entry}}
 use Rattle.phase_transactions.specs.inner.Asking.{item_alone}
@@ -68,8 +67,8 @@ returns-in_err-one g c =
     fault_performed initial old c.begin_one.new.self request c.args.index c.from_residual.result c.in_err-one.field-0.0 c.from_residual.ensures.1
     (c.in_err-one.ensures.full request homes (record { may = c.bid_home-home.ensures.may; only = ap (λ a. each_once a None) at }))
 
-pub bid-trace-requires : goal.bid-trace-requires
-bid-trace-requires g c =
+pub put_bid-refused-requires : goal.put_bid-refused-requires
+put_bid-refused-requires g c =
     let initial = g.N.PhaseName.initial in let old = c.args.self.now in let bid = c.args.bid.now in
     let request = request_of bid in let home = c.bid_home-home.result in
     let homes = item_alone home in let shard = c.in-Some-shard.shard in
@@ -78,54 +77,11 @@ bid-trace-requires g c =
     let step = step_of initial g.N.PhaseName.workers c.args.boxes.now old.key homes in
     let its = c.in_ok-one.ensures.begun request homes (record { may = c.bid_home-home.ensures.may; only = ap (λ a. each_once a None) at }) in
     let w = c.begin_one.new.self in
-    let held = bid_held step w bid.item entry (begun_of one) its one.held refl in
     record {
-      later = held.later;
-      within = held.within;
-      here = bid_here step w bid.item entry (begun_of one) its one.held refl;
-      count = bid_counts step w bid.item entry (begun_of one) its one.held refl;
+      of = subst (λ (s : WorkerState). s.key.boxes ≡ c.args.boxes.now) (sym c.self-2.view_is) its.held.boxes_are;
+      held = subst (λ (s : WorkerState). IsHeldFor initial s.key one.held one.number) (sym c.self-2.view_is) (bid_held step w bid.item entry (begun_of one) its one.held refl);
+      can = bid_can step w bid.item entry (begun_of one) its one.held refl;
     }
-
-pub put_acted-requires-clause-of : goal.put_acted-requires-clause-of
-put_acted-requires-clause-of g c =
-    let initial = g.N.PhaseName.initial in let old = c.args.self.now in let bid = c.args.bid.now in
-    let request = request_of bid in let home = c.bid_home-home.result in
-    let homes = item_alone home in let shard = c.in-Some-shard.shard in
-    let at : shard_at home ≡ Some shard = sym c.shard.ensures ∙ c.in-Some-shard.is in
-    let entry = entry_of bid c.next_bid-id.result in let one = c.in_ok-one.one in
-    let step = step_of initial g.N.PhaseName.workers c.args.boxes.now old.key homes in
-    let its = c.in_ok-one.ensures.begun request homes (record { may = c.bid_home-home.ensures.may; only = ap (λ a. each_once a None) at }) in
-    let w = c.begin_one.new.self in
-    subst (λ (s : WorkerState). s.key.boxes ≡ c.args.boxes.now) (sym c.self-2.view_is) its.held.boxes_are
-
-pub put_acted-requires-clause-holder : goal.put_acted-requires-clause-holder
-put_acted-requires-clause-holder g c =
-    let initial = g.N.PhaseName.initial in let old = c.args.self.now in let bid = c.args.bid.now in
-    let request = request_of bid in let home = c.bid_home-home.result in
-    let homes = item_alone home in let shard = c.in-Some-shard.shard in
-    let at : shard_at home ≡ Some shard = sym c.shard.ensures ∙ c.in-Some-shard.is in
-    let entry = entry_of bid c.next_bid-id.result in let one = c.in_ok-one.one in
-    let step = step_of initial g.N.PhaseName.workers c.args.boxes.now old.key homes in
-    let its = c.in_ok-one.ensures.begun request homes (record { may = c.bid_home-home.ensures.may; only = ap (λ a. each_once a None) at }) in
-    let w = c.begin_one.new.self in
-    let held = bid_held step w bid.item entry (begun_of one) its one.held refl in
-    let made = c.bid-trace.ensures in let new = c.bid-trace.new.self in
-    subst (λ (s : WorkerState). holds_at s.key new.number ≡ true) (sym c.self-2.view_is) (acted_holder held new c.bid-trace.result.0 made.number made.follows made.after)
-
-pub put_acted-requires-clause-may : goal.put_acted-requires-clause-may
-put_acted-requires-clause-may g c =
-    let initial = g.N.PhaseName.initial in let old = c.args.self.now in let bid = c.args.bid.now in
-    let request = request_of bid in let home = c.bid_home-home.result in
-    let homes = item_alone home in let shard = c.in-Some-shard.shard in
-    let at : shard_at home ≡ Some shard = sym c.shard.ensures ∙ c.in-Some-shard.is in
-    let entry = entry_of bid c.next_bid-id.result in let one = c.in_ok-one.one in
-    let step = step_of initial g.N.PhaseName.workers c.args.boxes.now old.key homes in
-    let its = c.in_ok-one.ensures.begun request homes (record { may = c.bid_home-home.ensures.may; only = ap (λ a. each_once a None) at }) in
-    let w = c.begin_one.new.self in
-    let held = bid_held step w bid.item entry (begun_of one) its one.held refl in
-    let made = c.bid-trace.ensures in let new = c.bid-trace.new.self in
-    let trace = c.bid-trace.result.0 in
-    subst (λ (s : WorkerState). MayPut (taken_at initial s.key new.number) (state_of new.shard) (Some trace)) (sym c.self-2.view_is) (acted_may held new trace made.number made.follows made.after)
 
 pub add_entry-requires-clause-after : goal.add_entry-requires-clause-after
 add_entry-requires-clause-after g c =
@@ -153,13 +109,12 @@ returns g c =
     let its = c.in_ok-one.ensures.begun request homes (record { may = c.bid_home-home.ensures.may; only = ap (λ a. each_once a None) at }) in
     let w = c.begin_one.new.self in
     let begun = begun_of one in let held = one.held in let index = c.args.index in
-    let made = c.bid-trace.ensures in let refused = c.bid-trace.result.1 in
+    let made = c.put_bid-refused.ensures in let refused = c.put_bid-refused.result in
     let reply = reply_of c.reply_unless.result in let new = c.add_entry.new.self in
-    let key_is : new.key ≡ c.put_acted.new.key = ap (λ (s : WorkerState). s.key) c.add_entry.ensures.entry in
+    let key_is : new.key ≡ c.put_bid-refused.new.key = ap (λ (s : WorkerState). s.key) c.add_entry.ensures.entry in
     let line = line_of begun.number index (bid_acts bid.item entry refused) held.shard in
-    let put =
-    acted_put (bid_held step w bid.item entry begun its held refl) c.bid-trace.new.self c.bid-trace.result.0 made.number made.follows made.after new.key line made.line
-    (key_is ∙ c.put_acted.ensures ∙ ap (λ (s : WorkerState). putting s.key c.bid-trace.new.self.number (Some c.bid-trace.result.0)) c.self-2.view_is) in
+    let done = subst (λ why. IsPutWith initial c.self-2.inside.key c.put_bid-refused.new.key held (line_of begun.number index (bid_acts bid.item entry why) held.shard)) (sym made.by) made.put in
+    let put = subst (λ (keys : KeyState × KeyState). IsPutWith initial keys.0 keys.1 held line) (λ i. ((c.self-2.view_is i).key, sym key_is i)) done in
     let opened = subst (HaveOpening initial) (sym (ap (λ (s : WorkerState). s.opening) c.begin_one.ensures.worker)) c.requires.opened in
     let next = c.next_bid-id.ensures ∙ sym (ap next_bid c.begin_one.ensures.worker) in
     let told = unless_due w request refused c.reply_unless.result (BidStored c.next_bid-id.result) c.reply_unless.ensures (ap Stored next) in
