@@ -1,5 +1,5 @@
 -- A bid on an item in a shard, which refuses it or takes it by one look-up: that is a commit.
-use Rattle.std.proofs.Common.{◌≡◌, ◌==◌, ◌||◌, ℕ, ◌+◌, ◌<◌, ◌^◌, Bool, true, false, cond, List, [], ◌∷◌, length, map, Option, Some, None, refl, sym, ap, ◌∙◌, arith, eq-eqb}
+use Rattle.std.proofs.Common.{◌≡◌, ◌==◌, ◌||◌, ℕ, ◌<◌, Bool, true, false, cond, List, [], ◌∷◌, length, map, Option, Some, None, refl, sym, ap, ◌∙◌, arith, eq-eqb}
 use Rattle.std.proofs.lemmas.Option.{none-some, same_Some}
 use Rattle.auction_rows.specs.{Footprint.{is_hot}, Replies.{row_if}}
 use Rattle.auction_rows.specs.declared.replies.Reply.TheVariants.{BidStored}
@@ -7,7 +7,7 @@ use Rattle.auction_rows.specs.declared.requests.Object.TheVariants.{Item}
 use Rattle.auction_rows.specs.declared.{requests.ItemId.ItemId, requests.BidId.BidId, requests.Facts.Facts, requests.BidEntry.BidEntry, requests.Object.Object, requests.Request.Request, replies.Refusal.Refusal, replies.Reply.Reply}
 use Rattle.auction_rows.specs.declared.rows.Row.TheVariants as row
 use Rattle.item_shards.specs.{Answering.{bid_request, refusal_with}, Events.{Event}}
-use Rattle.item_shards.specs.{ShardContents.{LiesIn, clock, contents}, Values.{stock}}
+use Rattle.item_shards.specs.{ShardContents.{clock, contents}, Values.{stock}}
 use Rattle.item_shards.specs.Writing.{done_on, is_done_on, padded, writes_if}
 use Rattle.item_shards.specs.declared.shard.acts.Act.TheVariants.{Look}
 use Rattle.item_shards.specs.Events as event

@@ -2,9 +2,9 @@
 use Rattle.std.proofs.Common.{◌≡◌, ◌≢◌, ℕ, ◌<◌, ◌==◌, ◌||◌, Bool, true, false, if◌then◌else◌, List, [], ◌∷◌, ◌++◌, Option, Some, None, refl, sym, ap, subst, ◌∙◌, ◌⊎◌, inl, inr, append-nil}
 use Rattle.std.{proofs.lemmas.Bool.{false≢true, true≢false}, specs.List.{AllByRecursion}}
 use Rattle.shard_boxes.specs.Helds.{HeldState, IsPutWith, taken_at}
-use Rattle.shard_boxes.specs.Keys.{BoxId, KeyState, SeatState, seat_at, put_seat, putting, lines_at, seen_at, entries, holds_at}
-use Rattle.shard_boxes.specs.Lines.{Line, MayFollow, StartsWith, after_line}
-use Rattle.shard_boxes.specs.States.{ShardState, state_of}
+use Rattle.shard_boxes.specs.Keys.{BoxId, KeyState, SeatState, seat_at, put_seat, putting, lines_at, seen_at, entries}
+use Rattle.shard_boxes.specs.Lines.{Line, MayFollow, StartsWith}
+use Rattle.shard_boxes.specs.States.{ShardState}
 use Rattle.phase_transactions.proofs.KeyLemmas.{at_each, many, still_taken, seen_still, starts_on, seen_on, lines_still, lines_on}
 use Rattle.phase_transactions.specs.{Putting.{HasPut, HasPutAll, KeepsSeen}, Workers.{IsIdle}}
 use Rattle.phase_transactions.specs.inner.Takens.{is_one_of, no_line, numbers_of, HasTakenAll, AreHeldAll, AreBack}

@@ -1,4 +1,4 @@
-use Rattle.std.proofs.Common.{◌≤◌, List, ℕ, [], ◌∷◌, length, max, sym, ap, subst, ◌∙◌}
+use Rattle.std.proofs.Common.{◌≤◌, List, ℕ, [], ◌∷◌, length, max, sym, subst}
 use Rattle.item_shards.specs.CommitNumbers.{last_number}
 use Rattle.phase_transactions.proofs.{BegunLemmas.{may_still}, ChainLemmas.{store_fails}}
 use Rattle.phase_transactions.{proofs.TakeLemmas.{taken_held}, specs.Workers.{WorkerState}}

@@ -63,7 +63,7 @@ put_view-requires-clause-begun g c =
     let request = c.args.call.request.now in let shard = c.shard_viewed-shard.result in
     let homes = homes_viewed c.args.viewed shard in
     let its = c.in_ok-one.ensures.begun request homes (subst (λ (r : Request). MayBeginOn (length initial) old r homes shard) (sym c.requires.view) c.shard_viewed-shard.ensures.may) in
-    (old.key, homes, its)
+    (old.key, (homes, its))
 
 pub returns-in-Item : goal.returns-in-Item
 returns-in-Item g c =
@@ -89,7 +89,7 @@ show_whole-requires-clause-begun g c =
     let request = c.args.call.request.now in let shard = c.shard_viewed-shard.result in
     let homes = homes_viewed c.args.viewed shard in
     let its = c.in_ok-one.ensures.begun request homes (subst (λ (r : Request). MayBeginOn (length initial) old r homes shard) (sym c.requires.view) c.shard_viewed-shard.ensures.may) in
-    (old.key, homes, its)
+    (old.key, (homes, its))
 
 pub returns : goal.returns
 returns g c =

@@ -2,7 +2,6 @@ use Rattle.std.proofs.Common.{◌≡◌, true, false, Some, None, length, Result
 use Rattle.std.specs.Prelude.{is_err, IfErr}
 use Rattle.auction_rows.specs.{Refusals.{number_refusal}, Requests.{is_view}, StoreReplies.{reply_of}}
 use Rattle.auction_rows.specs.declared.requests.Request.{Request}
-use Rattle.shard_boxes.specs.Keys.{KeyState}
 use Rattle.phase_transactions.proofs.AnswerLemmas.{reply_by, stores, unless_due}
 use Rattle.phase_transactions.proofs.BegunLemmas.{begun_fails, fault_performed, item_first, needed_first}
 use Rattle.phase_transactions.proofs.EmptyLemmas.{stored_performed, refused_untaken, hot_untaken}
@@ -10,7 +9,7 @@ use Rattle.phase_transactions.proofs.FirstLemmas.{begun_before}
 use Rattle.phase_transactions.specs.{Performing.{HasCommitted, HasFailed}, Txns.{is_put_off, IsReplyTo}, WorkerFields.{state_in}}
 use Rattle.phase_transactions.specs.Workers.{WorkerState, IsLawfulWorker}
 use Rattle.phase_transactions.specs.declared.fault.PermitFault.TheVariants.{Memory}
-use Rattle.phase_transactions.specs.inner.{Begun.{HasBegun, MayBegin, step_of}, Takens.{AreBack, AreHeldAll, held_in}}
+use Rattle.phase_transactions.specs.inner.{Begun.{MayBegin, step_of}, Takens.{AreBack, AreHeldAll, held_in}}
 use Rattle.phase_transactions.proofs.worker.Worker.store.Goals as goal
 use Rattle.worker_slices.specs.Slicing.{hot_objects}
 

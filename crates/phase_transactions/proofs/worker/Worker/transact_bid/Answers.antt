@@ -1,4 +1,4 @@
-use Rattle.std.proofs.Common.{◌≡◌, ◌<◌, ℕ, suc, max, true, Some, None, length, Option, refl, sym, ap, subst, ◌∙◌, arith}
+use Rattle.std.proofs.Common.{◌≡◌, ◌<◌, ℕ, suc, max, Some, None, length, Option, refl, sym, ap, subst, ◌∙◌, arith}
 use Rattle.auction_rows.specs.{Refusals.{number_refusal}}
 use Rattle.auction_rows.specs.StoreReplies.{reply_of}
 use Rattle.auction_rows.specs.declared.replies.StoreReply.TheVariants.{BidStored}
