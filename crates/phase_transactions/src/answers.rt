@@ -92,16 +92,6 @@ pub(crate) fn reply_unless(refused: Option<Refusal>, due: StoreReply) -> StoreRe
     }
 }
 
-/// What the one shard that a view takes replies.
-#[inline(always)]
-pub(crate) fn view_on<N: PhaseName>(held: &Held<N>, viewed: Viewed) -> Reply
-    requires { CanView held.now.shard (view_request viewed) }
-    ensures { IsShownBy held.now.shard
-        (view_request viewed) (look_for (view_request viewed)) result }
-{
-    view(held.shard(), viewed)
-}
-
 /// What the one shard that the view of an item takes shows of it: None if it is not stored.
 #[inline(always)]
 pub(crate) fn item_on<N: PhaseName>(held: &Held<N>, item: ItemId) -> Option<ItemView>
@@ -111,9 +101,9 @@ pub(crate) fn item_on<N: PhaseName>(held: &Held<N>, item: ItemId) -> Option<Item
     held.shard().item_seen(item)
 }
 
-// What a shard in which its object lies replies to a view.
+/// What a shard in which its object lies replies to a view.
 #[inline(always)]
-fn view(shard: &Shard, viewed: Viewed) -> Reply
+pub(crate) fn view(shard: &Shard, viewed: Viewed) -> Reply
     requires { CanView shard.now (view_request viewed) }
     ensures answers { (counters : CountersValue) → (worker : ℕ) →
         IsReplyTo counters worker (view_request viewed) result }

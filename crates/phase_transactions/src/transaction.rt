@@ -7,7 +7,7 @@ ghost use Rattle.item_shards.specs.CommitNumbers.{last_number};
 ghost use Rattle.phase_transactions.specs.declared.fault.PermitFault.TheVariants.{NumberFull};
 ghost use Rattle.phase_transactions.specs.inner.Asking.{store_request, view_request};
 
-use crate::answers::{item_on, reply_unless, view_on};
+use crate::answers::{item_on, reply_unless, view};
 use crate::asked::{Asked, Call, HotStore, Stored, Viewed, bid_request};
 use crate::deeds::{Deeds, Store, View};
 use crate::fault::PermitFault;
@@ -414,7 +414,7 @@ impl<N: PhaseName> Worker<N> {
             HasCommittedSome N.initial (record self.old { key = key }) self.new
             call.entry.request.now call.entry.index }
     {
-        let reply = view_on(&one.held, viewed);
+        let reply = view(one.held.shard(), viewed);
         let view = View {
             call,
             look: viewed.look(),
