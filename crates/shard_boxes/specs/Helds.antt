@@ -54,13 +54,17 @@ pub record IsHeldFor (initial : List ShardState) (key : KeyState) (held : HeldSt
   -- and is not past the last one
   pub within : number ≤ last_number
 
--- an item lies in the shard, and can count one bid more
+-- a bid can be done on a shard
 pub record CanBid (shard : Shard) (bid : ItemBid) : Type 0 where
+  -- its item lies there
   pub here : LiesIn shard (Item bid.item)
+  -- and can count one bid more
   pub count : (contents shard (Item bid.item)).bids.bids + 1 < 2 ^ 64
 
--- A shard that the key holds was put back with the line, which may follow it as it was taken.
+-- a shard that the key holds was put back with a line
 pub record IsPutWith (initial : List ShardState) (old new : KeyState) (held : HeldState)
     (line : Line) : Type 0 where
+  -- the key's worker put the line
   pub put : new ≡ putting old held.number (Some line)
+  -- it may follow the shard as it was taken
   pub follows : MayFollow (taken_at initial old held.number) line

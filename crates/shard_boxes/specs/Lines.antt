@@ -68,14 +68,14 @@ abbrev pub bid_acts : ItemId → BidEntry → Option Refusal → List Act
 bid_acts item bid refused = Look (look.Left item) ∷ bid_act item bid refused ∷ []
 
 -- the first reason for which its item refuses a bid, by what the shard has of the item
-abbrev pub refusal_of : ItemBid → Shard → Option Refusal
-refusal_of bid shard =
+abbrev pub bid_refusal_on : Shard → ItemBid → Option Refusal
+bid_refusal_on shard bid =
     refusal_with (stock (contents_of shard (Item bid.item))) (bid_request bid.item bid.entry)
 
 -- the line of a bid on a shard as it was taken
 abbrev pub line_of_bid : ℕ → ℕ → ItemBid → Shard → Line
 line_of_bid number index bid taken =
-    line_of number index (bid_acts bid.item bid.entry (refusal_of bid taken)) taken
+    line_of number index (bid_acts bid.item bid.entry (bid_refusal_on taken bid)) taken
 
 -- the shard after a line: its acts are done, and its number is the clock
 abbrev pub after_line : ShardState → Line → ShardState

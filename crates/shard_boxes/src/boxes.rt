@@ -3,7 +3,7 @@ ghost use Rattle.std.specs.Prelude.{◌≡◌, ◌<◌, length, true, option_map
 ghost use Rattle.item_shards.specs.Acting.{CanDo};
 ghost use Rattle.shard_boxes.specs.Helds.{taken_at, CanBid, IsHeldFor, IsPutWith, MayGoBack};
 ghost use Rattle.shard_boxes.specs.Keys.{taking, putting, lines_at, seen_at, holds_at, HoldsNoneFrom};
-ghost use Rattle.shard_boxes.specs.Lines.{line_of, line_of_bid, lines_of, refusal_of, seen_line, StartsWith, IsShardHistory};
+ghost use Rattle.shard_boxes.specs.Lines.{bid_refusal_on, line_of, line_of_bid, lines_of, seen_line, StartsWith, IsShardHistory};
 ghost use Rattle.shard_boxes.specs.States.{state_of};
 
 use crate::held::Held;
@@ -107,7 +107,8 @@ impl<N: PhaseName> Boxes<N> {
     }
 
     /// Does two acts on a shard that is as it was taken, one after the other, and puts it back
-    /// after their line. It takes no memory.
+    /// after their line. The number is after the shard's clock, and at most `LAST_NUMBER`. It takes
+    /// no memory.
     #[inline(always)]
     pub fn put_acts(&self, key: &mut Key<N>, held: Held<N>, at: Numbered, acts: &[Act; 2])
         requires of { key.old.boxes ≡ self.now }
@@ -120,9 +121,10 @@ impl<N: PhaseName> Boxes<N> {
         key.put_acts::<Brand>(shard_box, held, at, acts);
     }
 
-    /// Bids on an item by one look-up on its shard, which is as it was taken, unless the item
-    /// refuses the bid, and puts the shard back after the line of that. Gives the reason for a
-    /// refusal. It takes no memory.
+    /// Bids on an item of a shard that is as it was taken, by one look-up, and puts the shard back
+    /// after a look at the item and, unless the item refuses it, the bid. Gives the first reason
+    /// for a refusal. The number is after the shard's clock, and at most `LAST_NUMBER`. It takes
+    /// no memory.
     #[inline(always)]
     pub fn put_bid(
         &self,
@@ -134,7 +136,7 @@ impl<N: PhaseName> Boxes<N> {
         requires of { key.old.boxes ≡ self.now }
         requires held { IsHeldFor N.initial key.old held at.number }
         requires can { CanBid held.shard bid }
-        ensures by { result ≡ refusal_of bid held.shard }
+        ensures by { result ≡ bid_refusal_on held.shard bid }
         ensures put { IsPutWith N.initial key.old key.new held
             (line_of_bid at.number at.index bid held.shard) }
     {

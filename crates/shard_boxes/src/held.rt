@@ -1,15 +1,10 @@
 //! A shard out of its box, and what it allows.
 ghost use Rattle.std.specs.{Borrow.{Lends, sem}, Prelude.{◌≡◌, ◌<◌, ◌≤◌, ℕ, length}};
-ghost use Rattle.item_shards.specs.{Acting.{CanDo}, CommitNumbers.{last_number}};
-ghost use Rattle.item_shards.specs.ShardContents.{clock};
 ghost use Rattle.item_shards.specs.contracts.shard.Shard.{the_row as shard_row};
-ghost use Rattle.shard_boxes.specs.{Helds.{CanBid}, Lines.{after_line, line_of, line_of_bid, refusal_of}};
-ghost use Rattle.shard_boxes.specs.{States.{state_of}, contracts.held.Held.{the_row}};
+ghost use Rattle.shard_boxes.specs.contracts.held.Held.{the_row};
 
 use crate::boxes::PhaseName;
-use crate::line::ItemBid;
-use auction_rows::Refusal;
-use item_shards::{Act, Shard};
+use item_shards::Shard;
 use std::marker::{Model, PhantomData};
 
 /// A shard that was taken out of its box. It must be put back by `Boxes::put`, `put_acts` or
@@ -76,36 +71,6 @@ impl<N: PhaseName> Held<N> {
         ensures { result.now ≡ self.now.shard }
     {
         &self.shard
-    }
-
-    // Does two acts on the shard, one after the other, at a number after its clock.
-    #[inline(always)]
-    pub(crate) fn act(&mut self, number: u64, acts: &[Act; 2])
-        requires later { clock self.old.shard < number }
-        requires within { number ≤ last_number }
-        requires can { CanDo self.old.shard acts.now }
-        ensures after { (index : ℕ) → state_of self.new.shard ≡ after_line
-            (state_of self.old.shard) (line_of number index acts.now self.old.shard) }
-        ensures number { self.new.number ≡ self.old.number }
-    {
-        self.shard.apply_acts(number, acts);
-    }
-
-    // Bids on an item by one look-up, unless the item refuses the bid, at a number after the
-    // shard's clock. Gives the reason for a refusal.
-    #[inline(always)]
-    pub(crate) fn bid(&mut self, number: u64, bid: ItemBid) -> Option<Refusal>
-        requires later { clock self.old.shard < number }
-        requires within { number ≤ last_number }
-        requires can { CanBid self.old.shard bid }
-        ensures by { result ≡ refusal_of bid self.old.shard }
-        ensures after { (index : ℕ) → state_of self.new.shard ≡ after_line
-            (state_of self.old.shard) (line_of_bid number index bid self.old.shard) }
-        ensures number { self.new.number ≡ self.old.number }
-    {
-        let refused = self.shard.try_bid(bid.item, bid.entry);
-        self.shard.set_clock(number);
-        refused
     }
 
     /// The shard, to change it as its own methods do.

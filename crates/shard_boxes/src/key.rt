@@ -3,7 +3,7 @@ ghost use Rattle.std.specs.Prelude.{◌≡◌, ◌<◌, ◌∷◌, [], ℕ, Some
 ghost use Rattle.item_shards.specs.Acting.{CanDo};
 ghost use Rattle.shard_boxes.specs.Helds.{taken_at, CanBid, IsHeldFor, IsPutWith, MayGoBack, MayPut};
 ghost use Rattle.shard_boxes.specs.Keys.{taking, putting, lines_at, seen_at, holds_at};
-ghost use Rattle.shard_boxes.specs.Lines.{line_of, line_of_bid, lines_of, refusal_of, seen_line, StartsWith, IsShardHistory};
+ghost use Rattle.shard_boxes.specs.Lines.{bid_refusal_on, line_of, line_of_bid, lines_of, seen_line, StartsWith, IsShardHistory};
 ghost use Rattle.shard_boxes.specs.{Passes.{GrantState}, States.{state_of, AreInitial}};
 ghost use Rattle.shard_boxes.specs.inner.Grants.{IsBoxAt, AreFree, own_at};
 
@@ -93,7 +93,7 @@ impl<N: PhaseName> Key<N> {
     pub(crate) fn put_acts<L: LineName>(
         &mut self,
         shard_box: &ShardBox,
-        mut held: Held<N>,
+        held: Held<N>,
         at: Numbered,
         acts: &[Act; 2],
     )
@@ -104,8 +104,9 @@ impl<N: PhaseName> Key<N> {
         ensures { IsPutWith N.initial self.old self.new held
             (line_of at.number at.index acts.now held.shard) }
     {
-        held.act(at.number, acts);
-        self.put::<L>(shard_box, held);
+        let (number, mut shard) = held.open();
+        shard.apply_acts(at.number, acts);
+        self.put::<L>(shard_box, number, shard);
     }
 
     // Bids on a shard, unless the item refuses the bid, and puts it back after the line of that.
@@ -113,7 +114,7 @@ impl<N: PhaseName> Key<N> {
     pub(crate) fn put_bid<L: LineName>(
         &mut self,
         shard_box: &ShardBox,
-        mut held: Held<N>,
+        held: Held<N>,
         at: Numbered,
         bid: ItemBid,
     ) -> Option<Refusal>
@@ -121,12 +122,14 @@ impl<N: PhaseName> Key<N> {
         requires held { IsHeldFor N.initial self.old held at.number }
         requires can { CanBid held.shard bid }
         requires named { L.line ≡ Some (line_of_bid at.number at.index bid held.shard) }
-        ensures by { result ≡ refusal_of bid held.shard }
+        ensures by { result ≡ bid_refusal_on held.shard bid }
         ensures put { IsPutWith N.initial self.old self.new held
             (line_of_bid at.number at.index bid held.shard) }
     {
-        let refused = held.bid(at.number, bid);
-        self.put::<L>(shard_box, held);
+        let (number, mut shard) = held.open();
+        let refused = shard.try_bid(bid.item, bid.entry);
+        shard.set_clock(at.number);
+        self.put::<L>(shard_box, number, shard);
         refused
     }
 
@@ -136,30 +139,32 @@ impl<N: PhaseName> Key<N> {
         &mut self,
         shard_box: &ShardBox,
         held: Held<N>,
-        _made: Option<Line>,
+        made: Option<Line>,
     )
         requires place { IsBoxAt self.old.boxes held.number shard_box.now }
         requires holder { holds_at self.old held.number ≡ true }
         requires may { MayGoBack (taken_at N.initial self.old held.number) (state_of held.shard)
-            _made }
+            made }
         requires named { L.line ≡ option_map
-            (seen_line (taken_at N.initial self.old held.number)) _made }
+            (seen_line (taken_at N.initial self.old held.number)) made }
         ensures { self.new ≡ putting self.old held.number
-            (option_map (seen_line (taken_at N.initial self.old held.number)) _made) }
+            (option_map (seen_line (taken_at N.initial self.old held.number)) made) }
     {
-        self.put::<L>(shard_box, held);
+        // At run time a line has no use.
+        drop(made);
+        let (number, shard) = held.open();
+        self.put::<L>(shard_box, number, shard);
     }
 
-    // Puts the shard back, after the line that `L` names, if there is one.
+    // Puts a shard back, after the line that `L` names, if there is one.
     #[inline(always)]
-    fn put<L: LineName>(&mut self, shard_box: &ShardBox, held: Held<N>)
-        requires place { IsBoxAt self.old.boxes held.number shard_box.now }
-        requires holds { holds_at self.old held.number ≡ true }
-        requires may { MayPut (taken_at N.initial self.old held.number) (state_of held.shard)
-            L.line }
-        ensures { self.new ≡ putting self.old held.number L.line }
+    fn put<L: LineName>(&mut self, shard_box: &ShardBox, number: u32, shard: Shard)
+        requires known { number < length N.initial }
+        requires place { IsBoxAt self.old.boxes number shard_box.now }
+        requires holds { holds_at self.old number ≡ true }
+        requires may { MayPut (taken_at N.initial self.old number) (state_of shard) L.line }
+        ensures { self.new ≡ putting self.old number L.line }
     {
-        let (number, shard) = held.open();
         let grant = &mut self.grants[number as usize];
         shard_box.put::<L>(grant, shard);
     }

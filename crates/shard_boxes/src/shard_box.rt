@@ -7,7 +7,7 @@ ghost use Rattle.shard_boxes.specs.{States.{state_of, IsWithin}, inner.Grants.{C
 ghost use Rattle.shard_boxes.specs.inner.Steps.{TakenBy, maker, opened, put, first_of, rest_of, joined};
 
 use crate::boxes::PhaseName;
-use crate::line::{LineName, Trace};
+use crate::line::{KnownLine, LineName};
 use crossbeam_queue::protocol::{Join, Lesson, Outcome, Protocol, Split};
 use crossbeam_utils::Backoff;
 use item_shards::Shard;
@@ -23,8 +23,8 @@ pub struct Knowledge {
     pub start: Option<Shard>,
     pub workers: u64,
     pub first: u64,
-    pub own: LinkedList<LinkedList<Trace>>,
-    pub seen: LinkedList<(u32, Trace)>,
+    pub own: LinkedList<LinkedList<KnownLine>>,
+    pub seen: LinkedList<(u32, KnownLine)>,
     pub holds: bool,
 }
 
