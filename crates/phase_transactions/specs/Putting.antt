@@ -1,9 +1,7 @@
 -- A shard that is put back with a line, and what a key has seen of it.
 use Rattle.std.specs.Prelude.{◌≡◌, ℕ, if◌then◌else◌, Bool, true, false, List, [], ◌∷◌, ◌++◌, length}
-pub use Rattle.item_shards.specs.Acting.{CanDo}
 use Rattle.shard_boxes.specs.{Helds.{taken_at}, Keys.{KeyState, seat_at, seen_at, lines_at}}
 use Rattle.shard_boxes.specs.Lines.{Line, after_lines, MayFollow, StartsWith}
-pub use Rattle.shard_boxes.specs.Lines.{line_of}
 use Rattle.shard_boxes.specs.States.{ShardState, state_at}
 use Rattle.phase_transactions.specs.Workers.{IsIdle}
 

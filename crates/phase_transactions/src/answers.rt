@@ -103,7 +103,7 @@ pub(crate) fn item_on<N: PhaseName>(held: &Held<N>, item: ItemId) -> Option<Item
 
 /// What a shard in which its object lies replies to a view.
 #[inline(always)]
-pub(crate) fn view(shard: &Shard, viewed: Viewed) -> Reply
+pub(crate) fn view_on(shard: &Shard, viewed: Viewed) -> Reply
     requires { CanView shard.now (view_request viewed) }
     ensures answers { (counters : CountersValue) → (worker : ℕ) →
         IsReplyTo counters worker (view_request viewed) result }

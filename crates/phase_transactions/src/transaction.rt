@@ -7,7 +7,7 @@ ghost use Rattle.item_shards.specs.CommitNumbers.{last_number};
 ghost use Rattle.phase_transactions.specs.declared.fault.PermitFault.TheVariants.{NumberFull};
 ghost use Rattle.phase_transactions.specs.inner.Asking.{store_request, view_request};
 
-use crate::answers::{item_on, reply_unless, view};
+use crate::answers::{item_on, reply_unless, view_on};
 use crate::asked::{Asked, Call, HotStore, Stored, Viewed, bid_request};
 use crate::deeds::{Deeds, Store, View};
 use crate::fault::PermitFault;
@@ -29,9 +29,9 @@ impl<N: PhaseName> Worker<N> {
     ghost use Rattle.shard_boxes.specs.Keys.{KeyState};
     ghost use Rattle.worker_slices.specs.{Homes.{IsHotStore, shard_at}, Slicing.{hot_objects}};
     ghost use Rattle.worker_slices.specs.declared.homes.Homes.{Homes as HomesValue};
-    ghost use Rattle.phase_transactions.specs.Performing.{hot_request, CanTransact, HasCommitted, HasCommittedSome, HasFailed, HasPerformed, HasStoredSome, HaveOpening, StoresItem};
+    ghost use Rattle.phase_transactions.specs.Performing.{hot_request, CanTransact, HasFailed, HasPerformed, HasStoredSome, HaveOpening, StoresItem};
     ghost use Rattle.phase_transactions.specs.Txns.{is_put_off, IsReplyTo};
-    ghost use Rattle.phase_transactions.specs.inner.Begun.{step_of, begun_of, CanView, HasBegun, HasBegunSome, HasFirst, HasRoomFor, IsAnsweredBy, MayBegin, MayBeginOn, states_in};
+    ghost use Rattle.phase_transactions.specs.inner.Begun.{step_of, begun_of, states_in, CanView, HasBegun, HasBegunSome, HasCommittedBegun, HasCommittedBegunSome, HasFirst, HasRoomFor, IsAnsweredBy, MayBegin, MayBeginOn};
     ghost use Rattle.phase_transactions.specs.inner.Storing.{HasStoredOrIsFull};
     ghost use Rattle.phase_transactions.specs.inner.Takens.{footprint_of, IsReady};
     ghost use Rattle.phase_transactions.specs.inner.Viewing.{IsShownBy};
@@ -238,11 +238,9 @@ impl<N: PhaseName> Worker<N> {
         requires answered { IsAnsweredBy self.old store.now.call.request.now
             store.now.homes.now begun.taken (reply_of store.now.reply) }
         requires left { 0 < self.old.left }
-        ensures { (key : KeyState) → HasBegun
-            (step_of N.initial N.workers boxes.now key store.now.homes.now)
-            self.old store.now.call.request.now begun →
-            HasCommitted N.initial (record self.old { key = key }) self.new
-            store.now.call.request.now store.now.call.index (reply_of store.now.reply) }
+        ensures { HasCommittedBegun N.initial N.workers boxes.now store.now.homes.now
+            self.old self.new store.now.call.request.now store.now.call.index
+            (reply_of store.now.reply) begun }
     {
         let Begun { taken, number } = begun;
         let deeds = Deeds::of(stored, store.reply, store.homes);
@@ -409,12 +407,10 @@ impl<N: PhaseName> Worker<N> {
         requires begun { (key : KeyState) × HasBegunSome N.initial N.workers boxes.now key
             self.old call.request.now (begun_of one) }
         requires left { 0 < self.old.left }
-        ensures { (key : KeyState) → HasBegunSome N.initial N.workers boxes.now key
-            self.old call.entry.request.now (begun_of one) →
-            HasCommittedSome N.initial (record self.old { key = key }) self.new
-            call.entry.request.now call.entry.index }
+        ensures { HasCommittedBegunSome N.initial N.workers boxes.now
+            self.old self.new call.entry.request.now call.entry.index (begun_of one) }
     {
-        let reply = view(one.held.shard(), viewed);
+        let reply = view_on(one.held.shard(), viewed);
         let view = View {
             call,
             look: viewed.look(),
@@ -432,10 +428,8 @@ impl<N: PhaseName> Worker<N> {
         requires shown { IsShownBy one.held.shard
             view.now.call.request.now view.now.look view.now.answer }
         requires left { 0 < self.old.left }
-        ensures { (key : KeyState) → HasBegunSome N.initial N.workers boxes.now key
-            self.old view.now.call.request.now (begun_of one) →
-            HasCommittedSome N.initial (record self.old { key = key }) self.new
-            view.now.call.request.now view.now.call.index }
+        ensures { HasCommittedBegunSome N.initial N.workers boxes.now
+            self.old self.new view.now.call.request.now view.now.call.index (begun_of one) }
     {
         let BegunOne { held, number } = one;
         let acts = [Act::Look(view.look), Act::Look(Look::Nothing)];

@@ -10,7 +10,8 @@ use Rattle.item_shards.specs.declared.shard.acts.Look.TheVariants as look
 use Rattle.item_shards.specs.ShardContents.{HasItemRoom, LiesIn, clock, contents, opening as opening_of}
 use Rattle.shard_boxes.specs.{Helds.{HeldState}, Keys.{BoxId, KeyState}}
 use Rattle.shard_boxes.specs.States.{ShardState, state_of}
-use Rattle.phase_transactions.specs.{Performing.{HaveOpening, StoresItem, asks}, Txns.{is_put_off}}
+use Rattle.phase_transactions.specs.Performing.{HasCommitted, HasCommittedSome, HaveOpening, StoresItem, asks}
+use Rattle.phase_transactions.specs.Txns.{is_put_off}
 use Rattle.phase_transactions.specs.{Workers.{WorkerState, next_item}, declared.deeds.Deeds.{Deeds}}
 use Rattle.phase_transactions.specs.declared.taken.{Begun.{Begun}, BegunOne.{BegunOne}, Taken.{Taken}}
 use Rattle.phase_transactions.specs.inner.Deeds.{IsReplyBy, IsNextIf, AreDeedsOf, AreGoodOn, acts_for, event_with, footprint_on, stock_on}
@@ -75,6 +76,21 @@ abbrev pub HasBegunSome : {N : Type 0} → List ShardState → ℕ → List BoxI
     WorkerState → Request → Begun N → Type 0
 HasBegunSome initial workers boxes key w request begun =
     (homes : Homes) × HasBegun (step_of initial workers boxes key homes) w request begun
+
+-- a request that a worker has begun over these homes is committed with this reply, whatever key it
+-- was begun with
+abbrev pub HasCommittedBegun : {N : Type 0} → List ShardState → ℕ → List BoxId → Homes →
+    WorkerState → WorkerState → Request → ℕ → Reply → Begun N → Type 0
+HasCommittedBegun initial workers boxes homes old new request index reply begun =
+    (key : KeyState) → HasBegun (step_of initial workers boxes key homes) old request begun →
+    HasCommitted initial (record old { key = key }) new request index reply
+
+-- so is one with some reply, wherever its objects are
+abbrev pub HasCommittedBegunSome : {N : Type 0} → List ShardState → ℕ → List BoxId →
+    WorkerState → WorkerState → Request → ℕ → Begun N → Type 0
+HasCommittedBegunSome initial workers boxes old new request index begun =
+    (key : KeyState) → HasBegunSome initial workers boxes key old request begun →
+    HasCommittedSome initial (record old { key = key }) new request index
 
 -- what a store saw of the item that it needs: of a hot one what is fixed, of another one what the
 -- first shard has

@@ -2,11 +2,11 @@
 use Rattle.std.specs.List.{AllByRecursion, list_any}
 use Rattle.std.specs.Prelude.{◌≡◌, ℕ, ◌<◌, ◌==◌, if◌then◌else◌, Bool, false, List, [], ◌∷◌, map, length, Option, Some, None, ⊤}
 use Rattle.phase_laws.specs.Numbers.{greatest_by}
-use Rattle.item_shards.specs.{ShardContents.{clock}, declared.shard.acts.Act.{Act}}
+use Rattle.item_shards.specs.{Acting.{CanDo}, ShardContents.{clock}, declared.shard.acts.Act.{Act}}
 use Rattle.shard_boxes.specs.{Helds.{HeldState}, Keys.{BoxId, KeyState, seat_at, seen_at, holds_at}}
-use Rattle.shard_boxes.specs.{Lines.{Line, first_two}, States.{ShardState}}
+use Rattle.shard_boxes.specs.{Lines.{Line, first_two, line_of}, States.{ShardState}}
 use Rattle.worker_slices.specs.{Homes.{shard_at}, declared.homes.Homes.{Homes}}
-use Rattle.phase_transactions.specs.{Putting.{CanDo, line_of, HasSameLines}, Workers.{IsIdle}}
+use Rattle.phase_transactions.specs.{Putting.{HasSameLines}, Workers.{IsIdle}}
 use Rattle.phase_transactions.specs.declared.taken.Taken.{Taken}
 use Rattle.phase_transactions.specs.inner.HeldShards.{alone_in, IsAsTaken}
 use Rattle.phase_transactions.specs.declared.taken.Taken.TheVariants as taken

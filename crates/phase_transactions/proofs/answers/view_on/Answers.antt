@@ -6,7 +6,7 @@ use Rattle.item_shards.specs.{ShardContents.{contents}, Values.{Value}}
 use Rattle.item_shards.specs.Views.{item_view, bids_view, category_view}
 use Rattle.phase_transactions.specs.{Txns.{SuitsBids, SuitsItem}, inner.Begun.{viewed}}
 use Rattle.phase_transactions.specs.{declared.asked.Viewed.{Viewed}, inner.Asking.{view_request}}
-use Rattle.phase_transactions.proofs.answers.view.Goals as goal
+use Rattle.phase_transactions.proofs.answers.view_on.Goals as goal
 
 -- what is shown of an item suits the request
 item_suits : (v : Value) (reply : Reply) → reply ≡ item_view v → SuitsItem reply
