@@ -7,9 +7,10 @@ use lib.ListN.{get_elem?}
 use Rattle.crossbeam_queue.{proofs.Lists.{at_set, set_here}, specs.Fifo.{Pushes, Pops, Learns}}
 use Rattle.item_shards.specs.declared.shard.Shard.{Shard}
 use Rattle.shard_boxes.proofs.LineLemmas.{kept_put, lines_of-append, entries-own, entries-other}
-use Rattle.shard_boxes.specs.{Helds.{MayPut}, Keys.{added, entries}}
+use Rattle.shard_boxes.specs.Keys.{added, entries}
 use Rattle.shard_boxes.specs.Lines.{Line, after_lines, lines_of}
-use Rattle.shard_boxes.specs.Passes.{Speaks, SpeaksForAll, IsSpare, start_of}
+use Rattle.shard_boxes.specs.Passes.{start_of}
+use Rattle.shard_boxes.specs.inner.Passing.{MayPut, Speaks, SpeaksForAll, IsSpare}
 use Rattle.shard_boxes.specs.States.{ShardState, state_of, no_shard, IsWithin}
 use Rattle.shard_boxes.specs.declared.shard_box.Knowledge.{Knowledge}
 use Rattle.shard_boxes.specs.inner.Rule.{IsLawfulList, HasParts, BoxState, FitsBox, IsIn, IsOut, BoxRule}

@@ -6,7 +6,8 @@ use Rattle.item_shards.specs.ShardContents.{contents, clock, IsSameShard}
 use Rattle.item_shards.specs.declared.shard.{Shard.{Shard}, acts.Act.{TheVariants.{Look}, Act}}
 use Rattle.item_shards.specs.declared.shard.acts.Look.{Look as LookedAt}
 use Rattle.item_shards.specs.declared.shard.acts.Look.TheVariants as look
-use Rattle.shard_boxes.specs.Helds.{MayGoBack, MayPut}
+use Rattle.shard_boxes.specs.Helds.{MayGoBack}
+use Rattle.shard_boxes.specs.inner.Passing.{MayPut}
 use Rattle.shard_boxes.specs.Lines.{Line, AreTrueOf, MayFollow, acts_in, first_two, line_of, seen_line, after_line}
 use Rattle.shard_boxes.specs.States.{ShardState, state_of}
 use Rattle.shard_boxes.specs.declared.line.Line.{Line as MadeLine}

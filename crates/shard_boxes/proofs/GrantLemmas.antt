@@ -5,7 +5,8 @@ use Rattle.shard_boxes.proofs.{BoxSteps.{maker_spare}, Each.{each_push}, KeyStep
 use Rattle.shard_boxes.{proofs.LineLemmas.{history_of}, specs.Closed.{IsSpent, AreSpent}}
 use Rattle.shard_boxes.specs.Keys.{BoxId, KeyState, key_at, no_seat, holds_at, lines_at, IsNewKey}
 use Rattle.shard_boxes.specs.Lines.{Line, after_lines, IsShardHistory, lines_of}
-use Rattle.shard_boxes.specs.Passes.{SpeaksForAll, IsSpare, start_of, GrantState}
+use Rattle.shard_boxes.specs.Passes.{start_of, GrantState}
+use Rattle.shard_boxes.specs.inner.Passing.{SpeaksForAll, IsSpare}
 use Rattle.shard_boxes.specs.Seats.{own_of, seat_of, boxes_of, key_of, IsFor, AreFor}
 use Rattle.shard_boxes.specs.States.{ShardState, state_of, state_at, no_shard, IsInitial}
 use Rattle.shard_boxes.specs.declared.shard_box.Knowledge.{Knowledge}

@@ -3,7 +3,8 @@ use Rattle.std.proofs.Common.{◌≡◌, ℕ, zero, suc, ◌<◌, false, List, [
 use Rattle.std.proofs.lemmas.List.{map-set, get_or-map, get_or-set_same, length-set}
 use Rattle.shard_boxes.proofs.BoxSteps.{with_first-head}
 use Rattle.shard_boxes.specs.Keys.{SeatState, KeyState, no_seat, seat_at, with_seat, put_seat, seen_at, holds_at, added, entries}
-use Rattle.shard_boxes.specs.{Lines.{Line}, Passes.{Speaks, GrantState}}
+use Rattle.shard_boxes.specs.{Lines.{Line}, Passes.{GrantState}}
+use Rattle.shard_boxes.specs.inner.Passing.{Speaks}
 use Rattle.shard_boxes.specs.Seats.{own_of, seat_of, boxes_of, key_of}
 use Rattle.shard_boxes.specs.{declared.shard_box.Knowledge.{Knowledge}, inner.Steps.{put}}
 

@@ -4,7 +4,8 @@ use Rattle.std.proofs.lemmas.List.{Elements.{filter-append}, append-nil, map-app
 use Rattle.std.specs.List.{AllByRecursion}
 use Rattle.phase_laws.specs.{Numbers.{IsLinkedFrom}, Order.{IsAscendingByNumber, part}}
 use Rattle.phase_laws.specs.Replay.{SawInTurn}
-use Rattle.shard_boxes.{proofs.LimitLemmas.{line_within}, specs.Helds.{MayPut}}
+use Rattle.shard_boxes.proofs.LimitLemmas.{line_within}
+use Rattle.shard_boxes.specs.inner.Passing.{MayPut}
 use Rattle.shard_boxes.specs.Keys.{added, entries}
 use Rattle.shard_boxes.specs.Lines.{Line, acts_in, after_line, after_lines, lines_of, AreTrueOf, MayFollow, IsShardHistory}
 use Rattle.shard_boxes.specs.States.{ShardState, state_at, IsWithin, IsInitial}

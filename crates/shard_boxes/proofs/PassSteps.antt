@@ -7,7 +7,8 @@ use lib.ListN.{get_elem?}
 use Rattle.crossbeam_queue.{proofs.Lists.{at_longer, set_else}, specs.Fifo.{Forks, Merges}}
 use Rattle.item_shards.specs.declared.shard.Shard.{Shard}
 use Rattle.shard_boxes.proofs.BoxSteps.{Each, at_snoc_index, both_ways, each_set, tail_at, length-tail, length-head, head_at, plus_zero}
-use Rattle.shard_boxes.specs.{Lines.{Line, lines_of, StartsWith}, Passes.{Speaks}}
+use Rattle.shard_boxes.specs.Lines.{Line, lines_of, StartsWith}
+use Rattle.shard_boxes.specs.inner.Passing.{Speaks}
 use Rattle.shard_boxes.specs.declared.shard_box.Knowledge.{Knowledge}
 use Rattle.shard_boxes.specs.inner.Rule.{BoxState, FitsBox, IsIn, IsOut, BoxRule}
 use Rattle.shard_boxes.specs.inner.Steps.{head_of, tail_of, first_of, rest_of, longer, joined, spent}

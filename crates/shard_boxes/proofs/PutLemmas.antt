@@ -5,7 +5,8 @@ use Rattle.item_shards.specs.{Contents.{Contents, after_acts, bid_unless}, Looki
 use Rattle.item_shards.specs.ShardContents.{IsSameShard, clock, contents}
 use Rattle.item_shards.specs.declared.shard.{Shard.{Shard}, acts.Act.{Act}}
 use Rattle.shard_boxes.proofs.EventLemmas.{line_done, line_follows}
-use Rattle.shard_boxes.specs.Helds.{HeldState, IsHeldFor, IsPutWith, MayPut, taken_at}
+use Rattle.shard_boxes.specs.Helds.{HeldState, IsHeldFor, IsPutWith, taken_at}
+use Rattle.shard_boxes.specs.inner.Passing.{MayPut}
 use Rattle.shard_boxes.specs.Keys.{KeyState, putting}
 use Rattle.shard_boxes.specs.Lines.{Line, MayFollow, after_line, bid_acts, line_of}
 use Rattle.shard_boxes.specs.States.{ShardState, state_of}

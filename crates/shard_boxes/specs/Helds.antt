@@ -29,11 +29,6 @@ held_code =
 abbrev pub taken_at : List ShardState → KeyState → ℕ → ShardState
 taken_at initial key s = after_lines (state_at initial s) (seen_at key s)
 
--- a shard may be put back after a line that may follow, or as it was taken
-abbrev pub MayPut : ShardState → ShardState → Option Line → Type 0
-MayPut taken now None = now ≡ taken
-MayPut taken now (Some line) = MayFollow taken line × (now ≡ after_line taken line)
-
 -- a shard may go back as it was taken, or after a line that the caller made: it tells the clock as
 -- taken, and a greater number
 abbrev pub MayGoBack : ShardState → ShardState → Option MadeLine → Type 0

@@ -1,7 +1,8 @@
 //! A worker's right to take the shards of a phase.
 ghost use Rattle.std.specs.Prelude.{◌≡◌, ◌<◌, ◌∷◌, [], ℕ, Some, option_map, true, false, length};
 ghost use Rattle.item_shards.specs.Acting.{CanDo};
-ghost use Rattle.shard_boxes.specs.Helds.{taken_at, CanBid, IsHeldFor, IsPutWith, MayGoBack, MayPut};
+ghost use Rattle.shard_boxes.specs.Helds.{taken_at, CanBid, IsHeldFor, IsPutWith, MayGoBack};
+ghost use Rattle.shard_boxes.specs.inner.Passing.{MayPut};
 ghost use Rattle.shard_boxes.specs.Keys.{taking, putting, lines_at, seen_at, holds_at};
 ghost use Rattle.shard_boxes.specs.Lines.{bid_refusal_on, line_of, line_of_bid, lines_of, seen_line, StartsWith, IsShardHistory};
 ghost use Rattle.shard_boxes.specs.{Passes.{GrantState}, States.{state_of, AreInitial}};

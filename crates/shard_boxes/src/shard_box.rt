@@ -1,9 +1,9 @@
 //! One box, the passes to it, its rule, and what each step of a pass tells.
 ghost use Rattle.std.specs.Prelude.{◌≡◌, ◌≢◌, [], true, false, IfOk, MatchOption};
 ghost use Rattle.ruled_cell.specs.Passes.{view, IsPassOf, IsSamePass, Carries, IsAtRest, KeepsSlot};
-ghost use Rattle.shard_boxes.specs.{Helds.{MayPut}, Lines.{after_lines}};
-ghost use Rattle.shard_boxes.specs.Passes.{Speaks, SpeaksForAll, IsSpare, start_of};
+ghost use Rattle.shard_boxes.specs.{Lines.{after_lines}, Passes.{start_of}};
 ghost use Rattle.shard_boxes.specs.{States.{state_of, IsWithin}, inner.Grants.{CanUnite}};
+ghost use Rattle.shard_boxes.specs.inner.Passing.{MayPut, Speaks, SpeaksForAll, IsSpare};
 ghost use Rattle.shard_boxes.specs.inner.Steps.{TakenBy, maker, opened, put, first_of, rest_of, joined};
 
 use crate::boxes::PhaseName;

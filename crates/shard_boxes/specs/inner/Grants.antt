@@ -1,7 +1,8 @@
 -- One grant for each box, as the boxes are opened and closed.
 use Rattle.std.specs.Prelude.{◌≡◌, ℕ, ◌+◌, ◌<◌, false, List, [], length, slice_index_or}
 use Rattle.shard_boxes.specs.{Keys.{BoxId}, Lines.{Line, IsShardHistory, lines_of}}
-use Rattle.shard_boxes.specs.{Passes.{Speaks, IsSpare, start_of, GrantState}, Seats.{boxes_of}}
+use Rattle.shard_boxes.specs.{Passes.{start_of, GrantState}, Seats.{boxes_of}}
+use Rattle.shard_boxes.specs.inner.Passing.{Speaks, IsSpare}
 use Rattle.shard_boxes.specs.States.{ShardState, state_at}
 use Rattle.shard_boxes.specs.{declared.shard_box.Knowledge.{Knowledge}, inner.Steps.{ready}}
 

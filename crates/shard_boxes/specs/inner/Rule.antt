@@ -4,7 +4,8 @@ use mathlib.Core.Option.{some}
 use lib.ListN.{get_elem?}
 use Rattle.item_shards.specs.declared.shard.Shard.{Shard}
 use Rattle.shard_boxes.specs.Lines.{Line, after_lines, after_put, put_by, line_put, lines_of, MayFollow, StartsWith}
-use Rattle.shard_boxes.specs.{Passes.{start_of, Speaks}, States.{ShardState, state_of, IsWithin}}
+use Rattle.shard_boxes.specs.{Passes.{start_of}, States.{ShardState, state_of, IsWithin}}
+use Rattle.shard_boxes.specs.inner.Passing.{Speaks}
 use Rattle.shard_boxes.specs.declared.shard_box.Knowledge.{Knowledge}
 
 -- each line may follow those before it, and its worker has a key

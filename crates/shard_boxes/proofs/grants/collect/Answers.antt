@@ -3,7 +3,8 @@ use Rattle.std.specs.Vec.Iter.{into_iter_items}
 use Rattle.shard_boxes.proofs.Each.{drop_next, at_head, is_next, one_on, all_gone}
 use Rattle.shard_boxes.proofs.{GrantLemmas.{place_is, as_many, joined_free}, KeySteps.{same_places}}
 use Rattle.shard_boxes.{proofs.Sweeps.{swept_more}, specs.Keys.{lines_at}}
-use Rattle.shard_boxes.specs.{Passes.{Speaks, GrantState}, States.{state_at}}
+use Rattle.shard_boxes.specs.{Passes.{GrantState}, States.{state_at}}
+use Rattle.shard_boxes.specs.inner.Passing.{Speaks}
 use Rattle.shard_boxes.specs.declared.shard_box.Knowledge.{Knowledge}
 use Rattle.shard_boxes.specs.inner.Grants.{IsFree, own_at}
 use Rattle.shard_boxes.proofs.grants.collect.Goals as goal

@@ -3,7 +3,8 @@ use Rattle.std.proofs.lemmas.List.{take_all}
 use Rattle.shard_boxes.proofs.Each.{each_push}
 use Rattle.shard_boxes.proofs.GrantLemmas.{rest_ready, first_ready, ready_for, places_more, place_is, new_key, as_many}
 use Rattle.shard_boxes.proofs.{KeySteps.{same_places}, Sweeps.{swept_more}}
-use Rattle.shard_boxes.specs.{Passes.{GrantState, Speaks}, States.{state_at}}
+use Rattle.shard_boxes.specs.{Passes.{GrantState}, States.{state_at}}
+use Rattle.shard_boxes.specs.inner.Passing.{Speaks}
 use Rattle.shard_boxes.specs.{declared.shard_box.Knowledge.{Knowledge}, inner.Grants.{IsNewView}}
 use Rattle.shard_boxes.specs.inner.Steps.{ready}
 use Rattle.shard_boxes.proofs.grants.deal.Goals as goal

@@ -3,7 +3,8 @@ use Rattle.std.specs.Vec.Iter.{into_iter_items}
 use Rattle.shard_boxes.proofs.Each.{drop_next, at_head, is_next, one_on, all_gone}
 use Rattle.shard_boxes.proofs.GrantLemmas.{opened_ready, place_is, as_many, as_many_states, state_is}
 use Rattle.shard_boxes.proofs.{KeySteps.{same_places}, Sweeps.{swept_more}}
-use Rattle.shard_boxes.specs.{Passes.{GrantState, IsSpare}, States.{IsWithin, state_at}}
+use Rattle.shard_boxes.specs.{Passes.{GrantState}, States.{IsWithin, state_at}}
+use Rattle.shard_boxes.specs.inner.Passing.{IsSpare}
 use Rattle.shard_boxes.specs.inner.Grants.{IsNewView}
 use Rattle.shard_boxes.proofs.grants.open_all.Goals as goal
 

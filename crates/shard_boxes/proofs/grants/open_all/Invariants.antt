@@ -1,6 +1,7 @@
 use Rattle.std.proofs.Common.{◌≡◌, ◌+◌, drop, length}
 use Rattle.std.specs.Vec.Iter.{into_iter_items, into_iter_len}
-use Rattle.shard_boxes.{proofs.Sweeps.{Swept}, specs.Passes.{GrantState, IsSpare}}
+use Rattle.shard_boxes.{proofs.Sweeps.{Swept}, specs.Passes.{GrantState}}
+use Rattle.shard_boxes.specs.inner.Passing.{IsSpare}
 use Rattle.shard_boxes.specs.{Seats.{boxes_of}, States.{state_at}, inner.Grants.{IsNewView}}
 use Rattle.shard_boxes.proofs.grants.open_all.Given as goal
 

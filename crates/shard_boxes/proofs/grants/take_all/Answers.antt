@@ -3,7 +3,8 @@ use Rattle.std.proofs.lemmas.List.{length-map, get_or_default, map_push}
 use Rattle.shard_boxes.proofs.Each.{each_push}
 use Rattle.shard_boxes.proofs.GrantLemmas.{place_is, as_many, for_all, taken_spare, taken_is}
 use Rattle.shard_boxes.proofs.{KeySteps.{same_places}, Sweeps.{swept_more}}
-use Rattle.shard_boxes.specs.{Passes.{GrantState, IsSpare}, States.{state_of, state_at, no_shard}}
+use Rattle.shard_boxes.specs.{Passes.{GrantState}, States.{state_of, state_at, no_shard}}
+use Rattle.shard_boxes.specs.inner.Passing.{IsSpare}
 use Rattle.shard_boxes.specs.inner.Grants.{IsFree, IsTaken, own_at}
 use Rattle.shard_boxes.proofs.grants.take_all.Goals as goal
 

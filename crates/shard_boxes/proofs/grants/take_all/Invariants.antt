@@ -1,5 +1,6 @@
 use Rattle.std.proofs.Common.{◌≡◌, ℕ, ◌<◌, ◌≤◌, length, map, slice_index_or, vec_len, vec_capacity}
-use Rattle.shard_boxes.{proofs.Sweeps.{Swept}, specs.Passes.{GrantState, IsSpare}}
+use Rattle.shard_boxes.{proofs.Sweeps.{Swept}, specs.Passes.{GrantState}}
+use Rattle.shard_boxes.specs.inner.Passing.{IsSpare}
 use Rattle.shard_boxes.specs.{Seats.{boxes_of}, States.{state_of, state_at}}
 use Rattle.shard_boxes.specs.inner.Grants.{IsTaken, own_at}
 use Rattle.shard_boxes.proofs.grants.take_all.Given as goal

@@ -1,6 +1,7 @@
 use Rattle.std.proofs.Common.{◌∙◌, refl, sym, subst}
 use Rattle.ruled_cell.{proofs.Rests.{still}, specs.Passes.{view}}
-use Rattle.shard_boxes.specs.{Passes.{Speaks}, declared.shard_box.Knowledge.{Knowledge}}
+use Rattle.shard_boxes.specs.declared.shard_box.Knowledge.{Knowledge}
+use Rattle.shard_boxes.specs.inner.Passing.{Speaks}
 use Rattle.shard_boxes.specs.inner.Steps.{TakenBy}
 use Rattle.shard_boxes.proofs.shard_box.take_from.Goals as goal
 

@@ -1,7 +1,7 @@
 use Rattle.std.proofs.Common.{ℕ, ◌<◌, List, sym, ap, ◌∙◌, subst, arith, length}
 use Rattle.shard_boxes.proofs.{BoxSteps.{length-with_first}, GrantLemmas.{place_is}}
 use Rattle.shard_boxes.proofs.{KeySteps.{read, key_after, put_seat_is}, Sweeps.{each_set}}
-use Rattle.shard_boxes.specs.Helds.{MayPut}
+use Rattle.shard_boxes.specs.inner.Passing.{MayPut}
 use Rattle.shard_boxes.specs.Keys.{SeatState, KeyState, seat_at, with_seat, put_seat}
 use Rattle.shard_boxes.specs.{Lines.{Line, after_lines}, Passes.{GrantState, start_of}}
 use Rattle.shard_boxes.specs.{Seats.{IsFor}, States.{ShardState, state_of}}

@@ -1,6 +1,7 @@
 use Rattle.std.proofs.Common.{ℕ, ◌<◌, Option, length, sym, subst, ap, ◌∙◌}
 use Rattle.item_shards.specs.declared.shard.Shard.{Shard}
-use Rattle.shard_boxes.{proofs.EventLemmas.{may_put}, specs.Helds.{taken_at, MayPut}}
+use Rattle.shard_boxes.{proofs.EventLemmas.{may_put}, specs.Helds.{taken_at}}
+use Rattle.shard_boxes.specs.inner.Passing.{MayPut}
 use Rattle.shard_boxes.specs.{Keys.{holds_at, putting}, Lines.{Line}, States.{state_of}}
 use Rattle.shard_boxes.specs.inner.Grants.{IsBoxAt}
 use Rattle.shard_boxes.proofs.key.Key.put_made.Goals as goal

@@ -1,6 +1,7 @@
 use Rattle.std.proofs.Common.{sym, ap, subst}
 use Rattle.shard_boxes.proofs.{BoxSteps.{opens}, Carried.{carried}}
-use Rattle.shard_boxes.specs.Passes.{GrantState, IsSpare}
+use Rattle.shard_boxes.specs.Passes.{GrantState}
+use Rattle.shard_boxes.specs.inner.Passing.{IsSpare}
 use Rattle.shard_boxes.proofs.shard_box.ShardBox.open.Goals as goal
 
 pub put_as-requires-clause-rule : goal.put_as-requires-clause-rule

@@ -1,5 +1,6 @@
 use Rattle.std.proofs.Common.{sym, ap, ◌∙◌, subst}
-use Rattle.shard_boxes.{proofs.{BoxSteps.{puts}, Carried.{carried}}, specs.Helds.{MayPut}}
+use Rattle.shard_boxes.proofs.{BoxSteps.{puts}, Carried.{carried}}
+use Rattle.shard_boxes.specs.inner.Passing.{MayPut}
 use Rattle.shard_boxes.specs.{Lines.{after_lines}, Passes.{GrantState, start_of}, States.{state_of}}
 use Rattle.shard_boxes.specs.declared.shard_box.Knowledge.{Knowledge}
 use Rattle.shard_boxes.proofs.shard_box.ShardBox.put.Goals as goal

@@ -1,5 +1,6 @@
 use Rattle.std.proofs.Common.{sym, ap, subst}
-use Rattle.shard_boxes.{proofs.BoxSteps.{takes}, specs.Passes.{GrantState, Speaks}}
+use Rattle.shard_boxes.{proofs.BoxSteps.{takes}, specs.Passes.{GrantState}}
+use Rattle.shard_boxes.specs.inner.Passing.{Speaks}
 use Rattle.shard_boxes.specs.declared.shard_box.Knowledge.{Knowledge}
 use Rattle.shard_boxes.proofs.shard_box.ShardBox.take.Goals as goal
 

@@ -1,7 +1,8 @@
 use Rattle.std.proofs.{Common.{sym, ap, ◌∙◌, subst}, lemmas.List.{nil_from_length}}
 use Rattle.ruled_cell.specs.Passes.{view}
 use Rattle.shard_boxes.proofs.BoxSteps.{takes, learns_full}
-use Rattle.shard_boxes.specs.Passes.{GrantState, SpeaksForAll}
+use Rattle.shard_boxes.specs.Passes.{GrantState}
+use Rattle.shard_boxes.specs.inner.Passing.{SpeaksForAll}
 use Rattle.shard_boxes.specs.{declared.shard_box.Knowledge.{Knowledge}, inner.Steps.{TakenBy}}
 use Rattle.shard_boxes.proofs.shard_box.ShardBox.take_last.Goals as goal
 
