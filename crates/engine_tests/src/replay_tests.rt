@@ -1,9 +1,9 @@
 //! Histories of whole runs, on threads and in turn, beside the auction of one thread. Worked
 //! examples of runs stand in tests/worked.
 use crate::testing::{Threaded, policy_of, run_of};
-use auction_rows::{Reply, Request, Stars, row_of};
+use auction_rows::{Opened, Reply, Request, Stars, row_of};
 use auction_run::{FreeGate, Gate, Policy};
-use item_shards::{Opened, OpeningBook};
+use item_shards::OpeningBook;
 use std::alloc::Global;
 use std::process::Abort;
 use std::sync::Wait;

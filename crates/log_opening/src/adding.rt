@@ -5,8 +5,7 @@ ghost use Rattle.phase_floor.specs.Adding.{HasBook, IsSameAuction, IsStartOf};
 ghost use Rattle.log_opening.specs.Parts.{HasAdded, HasAddedFirst, IsFirstRefused};
 ghost use Rattle.log_opening.specs.ReadBack.{IsInRange};
 
-use auction_rows::Row;
-use item_shards::Opened;
+use auction_rows::{Opened, Row};
 use phase_floor::{AddFault, Joined};
 use std::alloc::Global;
 

@@ -8,14 +8,15 @@ ghost use Rattle.item_shards.specs.OpeningRows.{IsRow, with_opened};
 ghost use Rattle.phase_permits.specs.Replying.{CountsOf};
 ghost use Rattle.closing_laws.specs.Standing.{counters_at};
 ghost use Rattle.phase_floor.specs.Adding.{HasBook, IsFull, IsOwn, IsSameAuction, IsStartOf, KeepsBooks, with_counted};
-ghost use Rattle.phase_floor.specs.{States.{IsBookOf, StandsFor}, inner.Rows.{CanTake}};
+ghost use Rattle.phase_floor.specs.{Resuming.{with_row}, States.{IsBookOf, StandsFor}};
+ghost use Rattle.phase_floor.specs.inner.Rows.{CanTake, HaveRoom};
 
 use crate::joined::Joined;
-use crate::resumption::count_row;
 use auction_rows::{
-    Object, Refusal, Request, Row, StoreReply, is_view, item_of, number_refusal, row_of_store,
+    Object, Opened, Refusal, Request, Row, StoreReply, is_view, item_of, number_refusal,
+    row_of_store,
 };
-use item_shards::{Opened, StoreCounts, refusal_with};
+use item_shards::{StoreCounts, refusal_with};
 use phase_permits::Counters;
 use std::alloc::AllocError;
 use thiserror::Error;
@@ -138,6 +139,20 @@ impl Joined {
         let worker = row.worker() as usize;
         count_row(&mut self.counters[worker], row);
         Ok(())
+    }
+}
+
+// Counts a row, which was one commit.
+fn count_row(counters: &mut Counters, row: &Row)
+    requires { HaveRoom counters.old }
+    ensures { counters.new ≡ with_row row.now counters.old }
+{
+    counters.commits += 1;
+    match row {
+        Row::Item(_) => counters.items += 1,
+        Row::Bid(_) => counters.bids += 1,
+        Row::Comment(_) => counters.comments += 1,
+        Row::Buy(_) => counters.buys += 1,
     }
 }
 

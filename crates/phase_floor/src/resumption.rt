@@ -4,12 +4,11 @@ ghost use Rattle.closing_laws.specs.Standing.{counters_at};
 ghost use Rattle.auction_rows.specs.Book.{worker_of};
 ghost use Rattle.item_shards.specs.OpeningBooks.{opening_of, rows_of_book};
 ghost use Rattle.phase_transactions.specs.Workers.{no_counters};
-ghost use Rattle.phase_floor.specs.{Resuming.{counters_in, with_row}, States.{StandsFor, IsBookOf}};
-ghost use Rattle.phase_floor.specs.inner.Rows.{HaveRoom};
+ghost use Rattle.phase_floor.specs.{Resuming.{counters_in}, States.{StandsFor, IsBookOf}};
 
 use crate::joined::Joined;
 use crate::memory::Memory;
-use auction_rows::{MOST_OF_A_WORKER, MOST_SHARDS, MOST_WORKERS, Opening, Row};
+use auction_rows::{MOST_OF_A_WORKER, MOST_SHARDS, MOST_WORKERS, Opening};
 use auction_shards::Shards;
 use item_shards::OpeningBook;
 use phase_permits::Counters;
@@ -87,19 +86,5 @@ impl Joined {
             joined.add_row(row)?;
         }
         Ok(joined)
-    }
-}
-
-// Counts a row, which was one commit.
-pub(crate) fn count_row(counters: &mut Counters, row: &Row)
-    requires { HaveRoom counters.old }
-    ensures { counters.new ≡ with_row row.now counters.old }
-{
-    counters.commits += 1;
-    match row {
-        Row::Item(_) => counters.items += 1,
-        Row::Bid(_) => counters.bids += 1,
-        Row::Comment(_) => counters.comments += 1,
-        Row::Buy(_) => counters.buys += 1,
     }
 }

@@ -9,10 +9,9 @@ ghost use Rattle.program_serving.specs.inner.Parts.{BeginsAt, BeginsPart, FailsP
 
 use crate::limits::take_past;
 use crate::telling::{Committed, LiveTeller, tell_committed};
-use auction_rows::Row;
+use auction_rows::{Opened, Row};
 use auction_run::{FreeGate, Outcome, RunFault, Stopped, run_on};
 use auction_text::{Before, CompactInput};
-use item_shards::Opened;
 use log_opening::{Refused, add_rows};
 use part_log::Log;
 use phase_floor::Joined;

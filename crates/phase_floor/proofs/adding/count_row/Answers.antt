@@ -1,7 +1,7 @@
 use Rattle.std.proofs.Common.{sym, ap}
 use Rattle.auction_rows.specs.declared.rows.Row.{Row}
 use Rattle.phase_floor.specs.Resuming.{with_row}
-use Rattle.phase_floor.proofs.resumption.count_row.Goals as goal
+use Rattle.phase_floor.proofs.adding.count_row.Goals as goal
 
 pub returns-in-Item : goal.returns-in-Item
 returns-in-Item c = ap (λ (row : Row). with_row row c.args.counters.now) (sym c.in-Item.is)
