@@ -8,7 +8,7 @@ from figures import ALONE, AUCTION, CLIENTS_RATE, FRONT_LOGGED, IN_C, LOCK, PHAS
 from measures import BIDDING, Policy
 
 # The systems that README.md shows, with their names there.
-OF_ONE_THREAD = {ALONE: "plain Rust, no lock, one executing thread", IN_C: "C, in one pass, one thread"}
+OF_ONE_THREAD = {ALONE: "plain Rust, no lock, one performing thread", IN_C: "C, in one pass, one thread"}
 SHOWN = {system: system for system in (AUCTION, UNSPLIT, PHASES, SHARDS)} | OF_ONE_THREAD
 
 PLAIN = (PHASES, SHARDS, LOCK, ALONE)
@@ -141,7 +141,7 @@ def lifetime(rows: list[Figure]) -> str:
     second if they were not measured."""
     found = figure(rows, table="clients", system=FRONT_LOGGED, load=MOST_CLIENTS, measure=CLIENTS_RATE)
     rate = found.value if found else 1000
-    return f"{two(clients.WORKERS * MOST_OF_A_LOG / rate / 3600)} hours at {two(rate)} writes per second"
+    return f"{two(clients.WORKERS * MOST_OF_A_LOG / rate / 3600)} hours at {two(rate)} stores per second"
 
 
 # Of any number of workers.

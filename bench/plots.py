@@ -46,7 +46,7 @@ STYLES = {
 }
 
 # What the legend adds to a system's name.
-GLOSSES = {AUCTION: "proved, with a history", PHASES: "no history", ALONE: "one thread executes"}
+GLOSSES = {AUCTION: "proved, with a history", PHASES: "no history", ALONE: "one performing thread"}
 
 # What the plot by workers shows; the tables have all.
 SHOWN = (AUCTION, UNSPLIT, PHASES, SHARDS, ALONE)
@@ -253,7 +253,7 @@ def by_delay(rows: list[Figure], origin: Origin) -> str | None:
     tics = rounds([value for delay in delays for value in (delay.median, delay.latest)])
     up_tics = steps(max(delay.rate.high for delay in delays))
     across, up = Axis(tics[0], tics[-1], 72, 580, True), Axis(0, up_tics[-1], 390, 70)
-    below = "milliseconds until a deferred view is answered (logarithmic):\nmedian, and a line to the 99th percentile"
+    below = "milliseconds until a stashed view is answered (logarithmic):\nmedian, and a line to the 99th percentile"
     labels = below, "requests per second"
     parts = [*frame(across, up, [(tic, f"{tic:g}") for tic in tics], [(tic, short(tic)) for tic in up_tics], labels)]
     style = STYLES[AUCTION]
@@ -265,7 +265,7 @@ def by_delay(rows: list[Figure], origin: Origin) -> str | None:
         parts += [mark(x, y, style.colour, 0), text(x + 8, y + 19, str(split), anchor="start")]
     bars = bars_said(rows)
     last, bottom = foot(516, origin, bars)
-    title, better = "Throughput against the delay of deferred views", "(up and left is better)"
+    title, better = "Throughput against the delay of stashed views", "(up and left is better)"
     under = f"{rows[0].load}, executing, {rows[0].workers} workers {better}"
     quotas = ", ".join(str(delay.split) for delay in delays)
     about = f"A point for each split quota: {quotas}. The table above it has the figures.{bars}"

@@ -151,7 +151,10 @@ def by_delay(rows: list[Figure]) -> str:
     in_ms = [[wait / rate.value * 1e3 for wait in pair] for pair, rate in zip(waits, rates)]
     lines = [
         ["millions of requests per second", *map(millions, rates)],
-        ["requests until a deferred reply, median / 99th percentile", *(" / ".join(map(two, pair)) for pair in waits)],
+        [
+            "requests until a stashed view's reply, median / 99th percentile",
+            *(" / ".join(map(two, pair)) for pair in waits),
+        ],
         ["the same in ms", *(" / ".join(map(two, pair)) for pair in in_ms)],
     ]
     heads = [f"{rows[0].load.capitalize()}, executing, {in_workers(rows[0].workers)}, `--split`", *map(str, quotas)]
@@ -198,7 +201,7 @@ def checking(rows: list[Figure]) -> str:
 
 
 # What the page calls these instructions.
-NAMED = {"of it the kit's reader of records": "of which the kit's CSV reader", "performing": "executing"}
+NAMED = {"of it the kit's reader of records": "of which the kit's CSV reader"}
 
 
 def instructions(rows: list[Figure]) -> str:
@@ -314,7 +317,7 @@ PLOTS = {
     "workers": "Requests per second of whole commands by number of workers",
     "skew": "Throughput by skew",
     "memory": "Memory by requests",
-    "delay": "Throughput against the delay of deferred views, by split quota",
+    "delay": "Throughput against the delay of stashed views, by split quota",
     "live": "Throughput by batch size, with a log and without",
 }
 
@@ -379,12 +382,12 @@ def heading(asked: Namespace, systems: measures.Systems, when: str, seconds: flo
     lines.append("")
     if systems.server:
         part = f"as many of the first {systems.few():,} requests of a load as it can in about {asked.seconds:g} s"
-        lines.append(f"PostgreSQL {systems.server_version} executes {part}.")
+        lines.append(f"PostgreSQL {systems.server_version} performs {part}.")
     if redis_server.is_there() and "redis" not in asked.skip:
         lines.append(f"Redis is {redis_server.version()}.")
     if "sqlite" not in asked.skip:
         spent = f"{systems.empty_statement / 1000:.2f} µs"
-        lines.append(f"SQLite {lite.sqlite3.sqlite_version} executes the first {systems.few():,}.")
+        lines.append(f"SQLite {lite.sqlite3.sqlite_version} performs the first {systems.few():,}.")
         lines.append(
             f"An empty statement, called from Python, takes {spent}; a bid is five statements, a view one or four."
         )

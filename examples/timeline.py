@@ -243,19 +243,19 @@ class Picture:
         yield line(x, lane + radius, x, under, INK, "2 3") + line(x, under, answered, under, INK, "2 3")
         if (entry, True) in self.at:
             yield line(answered, under, answered, lane + self.box / 2, INK, "2 3")
-        yield f"<g><title>index {entry.index} of worker {entry.worker}, deferred</title>" + circle(x, lane, WHITE, radius)
+        yield f"<g><title>index {entry.index} of worker {entry.worker}, stashed</title>" + circle(x, lane, WHITE, radius)
         if self.column >= WITH_WORDS:
             yield text(x, lane + 4, str(entry.index), 12)
         yield "</g>"
 
     def legend(self):
         y, x = self.foot + 48, 14
-        for colour, words in ((COLOURS["write"], "write"), (COLOURS["view"], "view"), (COLOURS["refused"], "refused")):
+        for colour, words in ((COLOURS["write"], "store"), (COLOURS["view"], "view"), (COLOURS["refused"], "refused")):
             yield box(x, y - 9, 18, 14, colour, 3) + text(x + 26, y + 3, words, 15, "start")
             x += 56 + 8 * len(words)
         y += 27
         yield circle(23, y - 2, WHITE, 7)
-        yield text(40, y + 3, "deferred: no number yet", 15, "start")
+        yield text(40, y + 3, "stashed: no number yet", 15, "start")
         yield box(262, y - 9, 18, 14, WHITE, 3, INK)
         yield text(288, y + 3, "its reply, in a later phase", 15, "start")
         yield text(14, y + 30, self.said(), 14, "start", GREY)
@@ -269,7 +269,7 @@ class Picture:
     def svg(self):
         title = f"Timeline of {self.name}"
         about = (f"{len(self.workers)} lanes, one for each worker, and {len(self.phases)} phases from left to right. Boxes are lines of the history, by their "
-                 f"numbers; {sum(not committed for _, committed in self.at)} deferred requests are circles, each with a dashed line to its reply.")
+                 f"numbers; {sum(not committed for _, committed in self.at)} stashed requests are circles, each with a dashed line to its reply.")
         parts = [*self.frame(), *self.numbers(), *self.boxes(), *self.legend()]
         return picture(self.width, self.foot + 118, title, about, parts)
 

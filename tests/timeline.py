@@ -154,9 +154,9 @@ def pictures(make: Maker, program: Path) -> None:
     tally.check(sorted(shown) == sorted(lines), f"timeline.py: {len(shown)} boxes of {len(lines)} lines")
     requests = [map(int, line.split(" ")[:4]) for line in lines]
     wanted = [
-        f"index {index} of worker {worker}, deferred" for phase, _, worker, index in requests if phase > reached(index)
+        f"index {index} of worker {worker}, stashed" for phase, _, worker, index in requests if phase > reached(index)
     ]
-    tally.check(wanted != [] and sorted(late) == sorted(wanted), f"timeline.py: deferred {late}, not {wanted}")
+    tally.check(wanted != [] and sorted(late) == sorted(wanted), f"timeline.py: stashed {late}, not {wanted}")
     tally.check(drawn(tally, history, []) == (shown, late), "timeline.py: the split quota is not found")
     in_order(tally, shown, late)
     name = make.folder / "h"
@@ -168,7 +168,7 @@ def pictures(make: Maker, program: Path) -> None:
     )
     shown, late = drawn(tally, OTHER, [])
     tally.check(
-        len(shown) == 6 and list(late) == ["index 1 of worker 0, deferred"],
+        len(shown) == 6 and list(late) == ["index 1 of worker 0, stashed"],
         f"timeline.py, other phases: {shown}, {late}",
     )
     for given, words in ((b"", []), (b"0,0,item 0.0\n", []), (b"", [TESTS / "none"]), (history, ["--from", "99"])):
@@ -490,7 +490,7 @@ def drawn_run(make: Maker, browser: Browser, history: bytes) -> None:
         shown[lines[int(box.attributes["data-line"]) - 1]] = float(shape["x"]) + float(shape["width"]) / 2
     for circle in root.of_class("deferral"):
         _, _, worker, index, _ = lines[int(circle.attributes["data-line"]) - 1].split(" ", 4)
-        late[f"index {index} of worker {worker}, deferred"] = float(circle.of_tag("circle")[0].attributes["cx"])
+        late[f"index {index} of worker {worker}, stashed"] = float(circle.of_tag("circle")[0].attributes["cx"])
     make.tally.check(list(shown) == lines and late != {}, f"{len(shown)} boxes of {len(lines)} lines")
     make.tally.check(list(shown.values()) == sorted(shown.values()), "the serial order from left to right")
     in_order(make.tally, shown, late)

@@ -22,7 +22,7 @@ TITLE = "Joined and split phases of Fundreivo"
 DESCRIPTION = (
     "Time runs to the right, in four lanes, one for each worker. In the first joined phase the workers bid on several items, often on item A. They take "
     "the shard of item A in turn, and wait for it. In the split phase each worker adds bids to its own slice of item A without waiting; a view of item A is "
-    "deferred. At the end of the split phase the slices are merged into item A. The next joined phase begins with the deferred view."
+    "stashed. At the end of the split phase the slices are merged into item A. The next joined phase begins with the stashed view."
 )
 
 
@@ -56,7 +56,7 @@ def frame():
     for x in (SPLIT, MERGED, JOINED):
         yield line(x, 14, x, 252)
     for begin, end, *words in ((BEGIN, SPLIT, "joined phase", "item A is busy:", "taken in turn"), (SPLIT, MERGED, "split phase", "item A is hot:", "each has a slice"),
-                               (JOINED, END, "joined phase", "what was deferred", "comes first")):
+                               (JOINED, END, "joined phase", "what was stashed", "comes first")):
         for y, part in zip((26, 46, 63), words):
             yield text((begin + end) / 2, y, part, *((14, "middle", INK, "bold") if y == 26 else (13, "middle", GREY)))
 
@@ -84,9 +84,9 @@ def merge():
 
 
 def joined_again():
-    deferred, again, under = SPLIT + 8 + 2 * (BOX + GAP) + BOX / 2, JOINED + 14, LANES[3] + 22
-    yield line(deferred, LANES[3] + 9, deferred, under, INK, 1.2, "2 3")
-    yield line(deferred, under, again, under, INK, 1.2, "2 3")
+    stashed, again, under = SPLIT + 8 + 2 * (BOX + GAP) + BOX / 2, JOINED + 14, LANES[3] + 22
+    yield line(stashed, LANES[3] + 9, stashed, under, INK, 1.2, "2 3")
+    yield line(stashed, under, again, under, INK, 1.2, "2 3")
     yield line(again, under, again, LANES[3] + 9, INK, 1.2, "2 3")
     yield from in_turn(JOINED + 33, ("Aooo", "o.Ao", ".Aoo", "oo.A"))
     yield line(again + 8, LANES[3], JOINED + 33, LANES[0], SHARD, 1.5)
@@ -95,11 +95,11 @@ def joined_again():
 
 def legend():
     entries = (
-        (lambda x, y: bar(x, 26, y, SHARD), "bid on item A: takes its shard, executes, puts it back"),
+        (lambda x, y: bar(x, 26, y, SHARD), "bid on item A: takes its shard, and puts it back"),
         (lambda x, y: waits(x, x + 26, y), "waits for the shard of item A"),
         (lambda x, y: bar(x, 26, y, SLICE), "bid on hot item A, in the worker's slice: no shard, no waiting"),
         (lambda x, y: bar(x, 26, y, OTHER), "bid on another item, not hot: takes its shard"),
-        (lambda x, y: circle(x + 13, y, WHITE), "view of item A: deferred"),
+        (lambda x, y: circle(x + 13, y, WHITE), "view of item A: stashed"),
         (lambda x, y: circle(x + 13, y, INK), "the same view, answered after the merge"),
     )
     for at, (mark, words) in enumerate(entries):
@@ -110,7 +110,7 @@ def legend():
 
 def notes():
     yield text(LEFT, 462, "These are long phases, drawn short: each worker has a thread.", 13, "start", weight="bold")
-    for at, words in enumerate(("If a phase is short, or half of its requests need one shard,", "one thread executes it, worker after worker.",
+    for at, words in enumerate(("If a phase is short, or half of its requests need one shard,", "one thread performs it, worker after worker.",
                                 "A phase ends after so many requests per worker (--joined, --split).")):
         yield text(LEFT, 484 + at * 20 + 4 * (at > 1), words, 13, "start", GREY)
 
