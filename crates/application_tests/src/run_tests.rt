@@ -1,4 +1,4 @@
-//! Runs: which requests are deferred, and what the counters show. The replies were worked out by
+//! Runs: which requests are put off, and what the counters show. The replies were worked out by
 //! hand.
 use crate::counters::CounterRequest::{Add, Least, Read, Unknown};
 use crate::counters::{CounterReply, CounterRequest, Counters};
@@ -48,7 +48,7 @@ fn policy(rounds: usize, threshold: u32) -> Policy {
     }
 }
 
-// Two counters are hot in the first split phase: what names another one, or reads, is deferred.
+// Two counters are hot in the first split phase: what names another one, or reads, is put off.
 #[test]
 fn three_workers_share_counters(rt: HostRuntime) -> Result<(), Fail> {
     let alloc = rt.alloc();

@@ -13,7 +13,7 @@ use worker_journals::History;
 pub struct Auction {
     /// The objects.
     pub state: Joined,
-    /// What each worker has deferred.
+    /// What each worker has stashed.
     pub stashes: Vec<Stash>,
     /// All commits so far.
     pub history: History,
@@ -63,7 +63,7 @@ impl Auction {
         })
     }
 
-    /// What a phase begins with: the objects, what each worker has deferred, all commits so far,
+    /// What a phase begins with: the objects, what each worker has stashed, all commits so far,
     /// and both clients.
     pub fn parts(self) -> (Joined, Vec<Stash>, History, (Client, Client))
         ensures state { result.0 ≡ self.state }

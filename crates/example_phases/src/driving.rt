@@ -17,7 +17,7 @@ use std::thread::Threads;
 
 const MOST_PHASES: u64 = 100;
 
-// An object that one accepted write of the last phase wrote is hot, and at most eight are.
+// An object that one accepted store of the last phase wrote is hot, and at most eight are.
 const THRESHOLD: u32 = 1;
 
 const MOST_HOT: u32 = 8;

@@ -21,7 +21,7 @@ const JOINED_QUOTA: u32 = 2;
 // How many in a split one.
 const SPLIT_QUOTA: u32 = 3;
 
-/// Begins a joined phase, with what each worker has deferred, and performs it.
+/// Begins a joined phase, with what each worker has stashed, and performs it.
 pub fn joined_phase<N, R>(rt: &R, alloc: Global, auction: Auction) -> anyhow::Result<Auction>
 where
     N: PhaseName + Send + Sync,
@@ -72,7 +72,7 @@ impl Work for JoinedPhase {
         Ok(Some(reply))
     }
 
-    fn perform_deferred<N: PhaseName, R: Wait>(
+    fn perform_stashed<N: PhaseName, R: Wait>(
         rt: &R,
         floor: &JoinedFloor<N>,
         permit: &mut JoinedPermit<N>,
@@ -99,8 +99,8 @@ impl Work for SplitPhase {
         }
     }
 
-    // What is deferred in a split phase waits for the next joined one.
-    fn perform_deferred<N: PhaseName, R: Wait>(
+    // What is stashed in a split phase waits for the next joined one.
+    fn perform_stashed<N: PhaseName, R: Wait>(
         _rt: &R,
         _floor: &SplitFloor<N>,
         _permit: &mut SplitPermit<N>,

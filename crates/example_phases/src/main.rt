@@ -1,4 +1,4 @@
-//! Two workers whose phases the program drives: each request is answered at once, except deferred
+//! Two workers whose phases the program drives: each request is answered at once, except stashed
 //! ones.
 #![tactic(auto)]
 

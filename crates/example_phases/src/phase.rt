@@ -18,7 +18,7 @@ use worker_journals::History;
 
 /// A kind of phase, with what its permits answer.
 pub trait Work: Kind {
-    /// Performs a request of the quota: None where it is deferred.
+    /// Performs a request of the quota: None where it is put off.
     fn perform<N: PhaseName, R: Wait>(
         rt: &R,
         floor: &Floor<N, Self>,
@@ -31,8 +31,8 @@ pub trait Work: Kind {
         requires receipt { IsReceipt floor.now permit.old.key.worker permit.old }
         ensures { IsReceipt floor.now permit.old.key.worker permit.new };
 
-    /// Performs what was deferred first, if anything was: its index and its reply.
-    fn perform_deferred<N: PhaseName, R: Wait>(
+    /// Performs what was stashed first, if anything was: its index and its reply.
+    fn perform_stashed<N: PhaseName, R: Wait>(
         rt: &R,
         floor: &Floor<N, Self>,
         permit: &mut Permit<N, Self>,
@@ -42,7 +42,7 @@ pub trait Work: Kind {
         ensures { IsReceipt floor.now permit.old.key.worker permit.new };
 }
 
-// Performs the client's next request, if it has one, and answers it unless it is deferred.
+// Performs the client's next request, if it has one, and answers it unless it is put off.
 fn perform_next<N: PhaseName, K: Work, R: Wait>(
     rt: &R,
     floor: &Floor<N, K>,
@@ -64,7 +64,7 @@ fn perform_next<N: PhaseName, K: Work, R: Wait>(
     Ok(())
 }
 
-// Performs what was deferred first, and answers it.
+// Performs what was stashed first, and answers it.
 fn perform_first<N: PhaseName, K: Work, R: Wait>(
     rt: &R,
     floor: &Floor<N, K>,
@@ -77,13 +77,13 @@ fn perform_first<N: PhaseName, K: Work, R: Wait>(
     if permit.tries() >= MOST_TRIES {
         return Ok(());
     }
-    if let Some((index, reply)) = K::perform_deferred(rt, floor, permit)? {
+    if let Some((index, reply)) = K::perform_stashed(rt, floor, permit)? {
         client.answer(index, reply)?;
     }
     Ok(())
 }
 
-// Performs what the worker has deferred, then what its client asks, as far as the quota goes.
+// Performs what the worker has stashed, then what its client asks, as far as the quota goes.
 fn perform_all<N: PhaseName, K: Work, R: Wait>(
     rt: &R,
     floor: &Floor<N, K>,
@@ -187,7 +187,7 @@ fn both(first: Result<Client>, second: Result<Client>) -> Result<(Client, Client
     Ok((first?, second?))
 }
 
-// Closes the phase: the objects, what each worker has deferred, and all commits so far.
+// Closes the phase: the objects, what each worker has stashed, and all commits so far.
 fn close<N: PhaseName, K: Kind>(
     alloc: Global,
     floor: Floor<N, K>,

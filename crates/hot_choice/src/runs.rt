@@ -12,7 +12,7 @@ use worker_journals::{History, Journal};
 const FEW_RUNS: usize = 48;
 
 /// An object that an entry writes, and how many entries after it write the same. On a busy object
-/// most writes follow each other.
+/// most stores follow each other.
 #[derive(Clone, Copy)]
 pub(crate) struct Run {
     pub(crate) object: Object,

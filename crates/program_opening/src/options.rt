@@ -241,7 +241,7 @@ pub fn read_options(alloc: Global, words: &[String]) -> Result<Options, UsageFau
 // What the program says of itself and of its options.
 const DESCRIPTION: Description<'static> = Description {
     about: "\
-Executes the scripts of up to 16 workers on an auction in memory, and writes the replies.",
+Performs the scripts of up to 16 workers on an auction in memory, and writes the replies.",
     usage: "rubis_auction [OPTIONS] < INPUT",
     after: FORMATS,
 };
@@ -299,7 +299,7 @@ Reads one record per line from standard input; ITEM is an item's worker and seri
   WORKER,viewuser,USER
 Rows that open the auction come first; their kinds are +item, +bid, +comment and +buynow.
 
-Writes one line per request to standard output, WORKER,INDEX,REPLY: after all are executed, or
+Writes one line per request to standard output, WORKER,INDEX,REPLY: after all are performed, or
 with --live while more requests come.
 Faults, this help and the version go to standard error.
 Status: 0 all written, 1 options or help, 2 input, 3 run, 4 output, 5 log.

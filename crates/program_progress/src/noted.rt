@@ -10,7 +10,7 @@ use std::rt::Clock;
 /// What the bytes of a reader are.
 #[derive(Clone, Copy)]
 pub enum Source {
-    /// Rows and scripts, which are executed once they are read.
+    /// Rows and scripts, which are performed once they are read.
     Scripts,
     /// An input, before a history is read.
     Input,
@@ -36,9 +36,9 @@ pub struct NotedWriter<'a, R, W> {
 }
 
 // What a note says of bytes that were read.
-fn read_words(source: Source, is_executed: bool) -> &'static str {
+fn read_words(source: Source, is_performed: bool) -> &'static str {
     match source {
-        Source::Scripts if is_executed => "read, executing",
+        Source::Scripts if is_performed => "read, performing",
         Source::Scripts => "read",
         Source::Input => "of the input read",
         Source::History => "of the history read",
@@ -79,9 +79,9 @@ impl<R: Clock + Eprint, I: Read> Read for NotedReader<'_, R, I> {
         let given = self.reader.read(buf)?;
         self.bytes = self.bytes.saturating_add(given as u64);
         let is_ended = given == 0 && !buf.is_empty();
-        let is_executed = is_ended && matches!(self.source, Source::Scripts);
-        let words = read_words(self.source, is_executed);
-        self.progress.note(self.bytes, words, is_executed);
+        let is_performed = is_ended && matches!(self.source, Source::Scripts);
+        let words = read_words(self.source, is_performed);
+        self.progress.note(self.bytes, words, is_performed);
         Ok(given)
     }
 }

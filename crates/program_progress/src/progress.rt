@@ -32,7 +32,7 @@ struct Notes {
 }
 
 /// How far a program is, as its user sees it at the terminal: once the program has worked for a
-/// second, at most once a second, and once more as it executes what it has read.
+/// second, at most once a second, and once more as it performs what it has read.
 #[derive(Drop)]
 pub struct Progress<'a, R> {
     /// The system.

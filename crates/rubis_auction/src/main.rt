@@ -73,7 +73,7 @@ where
     let rt = progress.rt;
     let alloc = rt.alloc();
     if options.live == 0 && options.log.is_none() {
-        return execute_input(progress, &mut rt.reader(), options);
+        return perform_input(progress, &mut rt.reader(), options);
     }
     if options.report {
         return Err(Fault::Report);
@@ -103,9 +103,9 @@ where
     NotedWriter::of(progress, io::writer(progress.rt))
 }
 
-// Executes an input that is read first. Its buffers are not on the stack of the others.
+// Performs an input that is read first. Its buffers are not on the stack of the others.
 #[inline(never)]
-fn execute_input<R, I>(progress: &Progress<'_, R>, stdin: I, options: &Options) -> Result<(), Fault>
+fn perform_input<R, I>(progress: &Progress<'_, R>, stdin: I, options: &Options) -> Result<(), Fault>
 where
     I: Read + Drop,
     R: Print + Alloc<A = Global> + Threads + Wait + Sync + Clock + Eprint,

@@ -64,7 +64,7 @@ module _ {Record Slice Look Request Reply Act : Type 0}
       (p : ℕ × Request → Bool) → count p (calls_of worker history) ≡ count p (calls script)
 
   -- of two commits of one worker the first is first in the script too, or it is splittable: it
-  -- overtook one that was deferred
+  -- overtook one that was put off
   abbrev pub IsInTurn : Entry Request Reply → Entry Request Reply → Type 0
   IsInTurn d e = (d.index < e.index) ⊎ (rules.splits d.request ≡ true)
 

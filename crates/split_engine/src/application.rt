@@ -62,8 +62,8 @@ pub trait Application {
         ensures value { result ≡ rules.decide request.now (looks_in rules looks.now) }
         ensures small { AllByRecursion is_small result.acts };
 
-    /// Whether a request can be performed on slices of its records. If not, a split phase defers it
-    /// to the next joined one.
+    /// Whether a request can be performed on slices of its records. If not, a split phase puts it
+    /// off to the next joined one.
     fn splits(request: &Self::Request) -> bool
         ensures { result ≡ rules.splits request.now };
 

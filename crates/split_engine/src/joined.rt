@@ -130,7 +130,7 @@ fn stash_quota<A: Application>(
     Ok(())
 }
 
-// A worker's turn in a joined phase: what was deferred, then what the quota gives of its script.
+// A worker's turn in a joined phase: what was put off, then what the quota gives of its script.
 fn take_turn<A: Application>(
     so_far: &mut Outcome<A>,
     worker: u32,

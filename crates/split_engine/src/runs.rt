@@ -22,7 +22,7 @@ use std::thread::Threads;
 #[derive(Clone, Copy, PartialEq, Eq, Debug)]
 pub struct Policy {
     /// How many requests of its script each worker is given in a joined phase, after those that
-    /// were deferred.
+    /// were put off.
     pub joined_quota: usize,
     /// How many it is given in a split phase.
     pub split_quota: usize,

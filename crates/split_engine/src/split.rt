@@ -128,7 +128,7 @@ fn is_taken<A: Application>(hot: &[bool], request: &A::Request) -> bool
     A::splits(request) && are_hot(hot, &keys)
 }
 
-// Performs a request of a worker's script, or defers it.
+// Performs a request of a worker's script, or puts it off.
 fn perform_or_put_off<A: Application>(
     phase: &SplitPhase<'_, A>,
     own: &mut SplitData<A>,
@@ -164,7 +164,7 @@ fn perform_or_put_off<A: Application>(
     Ok(())
 }
 
-/// Performs what the quota gives of a worker's script: what slices do not allow is deferred.
+/// Performs what the quota gives of a worker's script: what slices do not allow is put off.
 pub(crate) fn perform_quota<A: Application>(
     phase: &SplitPhase<'_, A>,
     worker: u32,

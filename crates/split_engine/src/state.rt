@@ -15,7 +15,7 @@ pub struct Outcome<A: Application> {
     pub table: Vec<A::Record>,
 }
 
-/// How far a worker came in its script, and which requests before that are deferred to the next
+/// How far a worker came in its script, and which requests before that are put off to the next
 /// joined phase, each with its index.
 #[derive(Drop)]
 pub(crate) struct Cursor<Q> {

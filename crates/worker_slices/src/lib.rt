@@ -1,5 +1,5 @@
 //! What a worker alone touches in a phase: its slices of hot objects, the requests that it
-//! deferred, and its counters; and where it finds the objects of a request.
+//! put off, and its counters; and where it finds the objects of a request.
 #![tactic(auto)]
 
 mod counters;

@@ -16,9 +16,9 @@ fn to_strings(rt: &impl Abort, alloc: Global, words: &[&str]) -> Vec<String> {
     strings
 }
 
-// Asserts how an input is executed, by the words of a command line: the line of the fault that ends
+// Asserts how an input is performed, by the words of a command line: the line of the fault that ends
 // it, and what is written.
-fn assert_executed<R: Abort + Alloc<A = Global> + Threads + Wait + Sync>(
+fn assert_performed<R: Abort + Alloc<A = Global> + Threads + Wait + Sync>(
     rt: &R,
     words: &[&str],
     input: &[u8],
@@ -29,8 +29,8 @@ fn assert_executed<R: Abort + Alloc<A = Global> + Threads + Wait + Sync>(
     let read = read_options(alloc, &to_strings(rt, alloc, words));
     let options = read.expect(rt, "options");
     let mut text = Vec::new(alloc);
-    let executed = execute(rt, alloc, input, &mut text, &options);
-    assert_eq!(rt; line_of(rt, alloc, &executed).as_slice(), ended);
+    let performed = execute(rt, alloc, input, &mut text, &options);
+    assert_eq!(rt; line_of(rt, alloc, &performed).as_slice(), ended);
     assert_eq!(rt; text.as_slice(), written);
 }
 
@@ -75,12 +75,12 @@ category 0 latest 1:0.0
 category 1 latest
 user 3 rating=0 comments=3
 ";
-    assert_executed(&rt, &words, COMMENTS, b"", reported);
+    assert_performed(&rt, &words, COMMENTS, b"", reported);
 }
 
 #[test]
 fn an_input_with_a_fault_is_not_performed(rt: HostRuntime) {
     let input: &[u8] = b"0,item,0,0,Vase,10,100,1\n5,foo";
     let fault = b"rubis_auction: record 2: no such worker\n";
-    assert_executed(&rt, &["rubis_auction"], input, fault, b"");
+    assert_performed(&rt, &["rubis_auction"], input, fault, b"");
 }

@@ -24,7 +24,7 @@ pub record HasStashed {Request : Type 0} (script : List Request)
 abbrev pub AreFresh : {Request : Type 0} → List (Cursor Request) → Type 0
 AreFresh cursors = AllByRecursion (λ cursor. (cursor.next ≡ 0) × (cursor.stash.items ≡ [])) cursors
 
--- cursors at the end of these scripts, with nothing deferred
+-- cursors at the end of these scripts, with nothing put off
 abbrev pub AllFinished : {Request : Type 0} → List (List Request) → List (Cursor Request) → Type 0
 AllFinished [] [] = ⊤
 AllFinished [] (d ∷ ds) = ⊥
@@ -33,11 +33,11 @@ AllFinished (s ∷ ss) (d ∷ ds) = ((d.next ≡ length s) × (d.stash.items ≡
 
 module _ {Record Slice Look Request Reply Act : Type 0}
     (rules : Rules Record Slice Look Request Reply Act) where
-  -- whether a request is performed in a split phase with these keys hot: if not, it is deferred
+  -- whether a request is performed in a split phase with these keys hot: if not, it is put off
   abbrev pub is_taken : List Bool → Request → Bool
   is_taken hot q = rules.splits q && list_all (is_hot hot) (rules.keys q)
 
-  -- of some calls those that a split phase performs, and those that it defers
+  -- of some calls those that a split phase performs, and those that it puts off
   abbrev pub split_calls : List Bool → List (ℕ × Request) → List (ℕ × Request)
   split_calls hot all = filter (λ call. is_taken hot call.1) all
 
@@ -58,7 +58,7 @@ module _ {Record Slice Look Request Reply Act : Type 0}
     -- each commit is one of the phase, and the worker's
     pub split : AllByRecursion (IsSplitEntry rules IsSmall table) journal
     pub own : AllByRecursion (λ e. e.worker ≡ worker) journal
-    -- they are the calls that the phase performs, and the others are deferred
+    -- they are the calls that the phase performs, and the others are put off
     pub performed : map call_of journal ≡ split_calls hot all
     pub stash_is : stash ≡ before ++ put_off hot all
     -- its slices are those of its commits
@@ -83,7 +83,7 @@ module _ {Record Slice Look Request Reply Act : Type 0}
     pub stash_rises : IsOrderedBy (λ c e. c.0 < e.0) cursor.stash.items
     pub stash_before : AllByRecursion (λ call. call.0 < cursor.next) cursor.stash.items
 
-  -- Where a worker stands: what of its script up to a place is not committed is deferred.
+  -- Where a worker stands: what of its script up to a place is not committed is put off.
   pub record HasServed (size : ℕ) (worker : ℕ) (script : List Request) (cursor : Cursor Request)
       (history : List (Entry Request Reply)) : Type 0 where
     pub counts : (p : ℕ × Request → Bool) →

@@ -27,7 +27,7 @@ returns-then-cursor-len g c =
           absurd (omega (arith, here.0, c.if-cursor-len.true, c.len.ensures, script.ok.0)),
     )
 
--- a request is deferred
+-- a request is put off
 pub returns-then-not-is_empty : goal.returns-then-not-is_empty
 returns-then-not-is_empty g c =
     let script = c.index-scripts-worker.result in let cursor = c.index-cursors-worker.result in
