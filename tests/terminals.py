@@ -32,7 +32,7 @@ END_OF_INPUT = b"\x04"
 EMPTY_LINE = b"\r\x1b[K"
 AWAITS = "{}: reads rows and scripts from the terminal until Ctrl-D; --help lists the options\n"
 NOTE = re.compile(rb"(\w+): (\d+) (KB|MB) (.*)")
-OF_READING = (b"read", b"read, executing")
+OF_READING = (b"read", b"read, performing")
 UNITS = {b"KB": 1_000, b"MB": 1_000_000}
 # So many parts, so far apart, take more than three seconds.
 PARTS, PAUSE = 14, 0.25
@@ -94,7 +94,7 @@ class TerminalTester(Tester):
             [words for words in dict.fromkeys(said) if words in wanted or words not in also] == wanted,
             f"{what}: notes {said}",
         )
-        regular = [at for (at, _), words in zip(notes, said) if words != b"read, executing"]
+        regular = [at for (at, _), words in zip(notes, said) if words != b"read, performing"]
         self.tally.check(all(at >= count for count, at in enumerate(regular, 1)), f"{what}: notes at {regular}")
         self.tally.check(len(regular) >= 2, f"{what}: notes at {regular}")
 
@@ -279,12 +279,12 @@ def slow_inputs(tester: TerminalTester) -> None:
     for words in ([], ["--log", log]):
         ended = perform([tester.auction, *words], slowly([data] * PARTS))
         tester.tally.check((ended.status, ended.output) == (0, replies), f"{words}: the replies to a slow input")
-        tester.notes_are_due(f"{words}, slow input", ended, [b"read", b"read, executing"])
+        tester.notes_are_due(f"{words}, slow input", ended, [b"read", b"read, performing"])
         tester.counts_rise(f"{words}, slow input", ended.screen, b"read", len(data) * PARTS)
         tester.tally.check(ended.screen.text().endswith(EMPTY_LINE), f"{words}: a note is left")
     last = ended.screen.notes()[-1][1]
     tester.tally.check(
-        last == b"rubis_auction: %d KB read, executing" % (len(data) * PARTS // 1000), f"the last note: {last}"
+        last == b"rubis_auction: %d KB read, performing" % (len(data) * PARTS // 1000), f"the last note: {last}"
     )
     tester.shows("a short input", perform([tester.auction], [data]), 0, expected(data, Options()).stdout, b"")
 
