@@ -16,7 +16,7 @@ from svg import BLUE, EDGE, GREY, RED, SAND, WHITE, box, picture, text
 LAYERS = {
     "theory": {"phase_laws": 420},
     "model and records": {"auction_rows": 420, "split_records": 670, "top_records": 670, "item_shards": 690, "request_scripts": 540, "worker_journals": 420, "run_laws": 210,
-                          "published_parts": 120, "auction_window": 350, "hot_choice": 510, "example_mean": 880, "test_values": 340, "record_tests": 790},
+                          "published_parts": 120, "phase_boards": 350, "auction_window": 350, "hot_choice": 510, "example_mean": 880, "test_values": 340, "record_tests": 790},
     "engine": {"job_threads": 320, "split_engine": 180, "application_check": 245, "application_tests": 325, "application_window": 85, "example_window": 85, "ruled_cell": 800, "shard_boxes": 690,
                "auction_shards": 770, "worker_slices": 600, "phase_transactions": 600, "phase_permits": 600, "closing_laws": 640, "phase_floor": 630, "phase_workers": 420,
                "run_phases": 560, "auction_run": 560},

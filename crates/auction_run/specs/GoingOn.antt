@@ -3,7 +3,7 @@ use Rattle.std.specs.Prelude.{ℕ, ◌+◌, ◌<◌, ◌≤◌, ◌≡◌, List,
 use Rattle.auction_rows.specs.{Book.{Book}, History.{book_after}}
 use Rattle.auction_rows.specs.declared.limits.TheConstants.{MOST_OF_A_WORKER}
 use Rattle.auction_rows.specs.declared.{limits.Policy.Policy, values.Opening.Opening, requests.Request.Request, rows.Row.Row}
-use Rattle.auction_window.specs.Published.{book_of}
+use Rattle.phase_boards.specs.Boards.{book_of}
 use Rattle.closing_laws.specs.Standing.{counters_at, stores}
 use Rattle.phase_floor.specs.States.{JoinedState, IsBookOf}
 use Rattle.run_laws.specs.Serving.{script_of}

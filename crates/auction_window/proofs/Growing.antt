@@ -1,18 +1,14 @@
 -- One phase more.
-use Rattle.std.proofs.Common.{◌≡◌, suc, List, [], ◌∷◌, ◌++◌, length, refl, ap, sym, ◌∙◌, subst}
+use Rattle.std.proofs.Common.{◌≡◌, suc, List, [], ◌∷◌, ◌++◌, length, ap, sym, ◌∙◌, subst}
 use mathlib.Core.List.{IsPrefix}
 use Rattle.std.specs.Prelude.{Some}
 use Rattle.auction_rows.specs.Book.{Book}
 use Rattle.auction_rows.specs.declared.{values.Opening.Opening, rows.Row.Row}
 use Rattle.item_shards.specs.Serial.{CanFollow, CanAdd, HoldsBook, serial_opening}
 use Rattle.item_shards.specs.declared.serial.SerialAuction.{SerialAuction}
-use Rattle.auction_window.specs.{Published.{book_of}, inner.Copies.{HasPhases, IsLastPhase}}
+use Rattle.auction_window.specs.inner.Copies.{HasPhases, IsLastPhase}
+use Rattle.phase_boards.{proofs.BookLemmas.{book_of-snoc}, specs.Boards.{book_of}}
 use Rattle.published_parts.proofs.Growing.{before_last}
-
--- the book with one phase more is the book with its rows at the end
-pub book_of-snoc : (rows : Book) (phases : List (List Row)) (last : List Row) → book_of rows (phases ++ last ∷ []) ≡ book_of rows phases ++ last
-book_of-snoc rows [] last = refl
-book_of-snoc rows (phase ∷ phases) last = book_of-snoc (rows ++ phase) phases last
 
 -- an auction that has the rows of some phases, and the phase that comes next
 module _ {opening : Opening} {rows : Book} {last : List Row} {new : List (List Row)} (phase : IsLastPhase opening rows last new)

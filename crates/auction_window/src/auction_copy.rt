@@ -4,7 +4,8 @@ ghost use Rattle.std.specs.Prelude.{◌≡◌, ◌++◌, ◌∷◌, [], List, If
 ghost use mathlib.Core.List.{IsPrefix};
 ghost use Rattle.auction_rows.specs.Replies.{reply};
 ghost use Rattle.item_shards.specs.OpeningBooks.{opening_of, rows_of_book};
-ghost use Rattle.auction_window.specs.{Published.{book_of}, inner.Copies.{IsLastPhase}};
+ghost use Rattle.auction_window.specs.inner.Copies.{IsLastPhase};
+ghost use Rattle.phase_boards.specs.Boards.{book_of};
 
 use crate::phases::{Prefix, WindowName};
 use auction_rows::{Reply, Request, Row};

@@ -6,11 +6,14 @@
 #![tactic(auto)]
 
 mod auction_copy;
+mod board;
 mod phases;
 mod publisher;
 mod window;
 
-pub use phases::{PhaseLog, WindowName, last_rows, rows_of};
+pub use board::WindowBoard;
+pub use phase_boards::rows_of;
+pub use phases::{PhaseLog, WindowName};
 pub use published_parts::{MakeFault, NoGuard};
 pub use publisher::Publisher;
 pub use window::{Seen, Told, Window};

@@ -1,7 +1,7 @@
 //! What publishes the rows of phases.
 ghost use Rattle.std.specs.Prelude.{◌≡◌, ◌++◌, ◌∷◌, ◌<◌, ◌≤◌, [], true, false, length, All, alloc_error, Err, IfOk, OnOk, OnErr};
 ghost use Rattle.item_shards.specs.{OpeningBooks.{opening_of, rows_of_book}, Serial.{CanFollow}};
-ghost use Rattle.auction_window.specs.Published.{book_of};
+ghost use Rattle.phase_boards.specs.Boards.{book_of};
 ghost use Rattle.published_parts.specs.Parts.{AreComparable};
 
 use crate::auction_copy::{AddPhase, AuctionCopy};

@@ -2,7 +2,7 @@
 ghost use Rattle.std.specs.Prelude.{◌≡◌, ◌⊎◌, ◌↔◌, List, length, false, Ok, None, IfOk, OnErr, IfSome, IfNone};
 ghost use mathlib.Core.List.{IsPrefix};
 ghost use Rattle.auction_rows.specs.{Replies.{reply}, Requests.{is_view}};
-ghost use Rattle.auction_window.specs.Published.{book_of};
+ghost use Rattle.phase_boards.specs.Boards.{book_of};
 
 use crate::auction_copy::AuctionCopy;
 use crate::phases::{Prefix, WindowName};

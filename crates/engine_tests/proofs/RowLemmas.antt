@@ -6,7 +6,7 @@ use Rattle.auction_rows.proofs.HistoryLemmas.{book_after-replays, book_parts, ro
 use Rattle.auction_rows.specs.Book.{Book, worker_of}
 use Rattle.auction_rows.specs.History.{GoOn, ReplaysFrom, book_after, row_of_entry, rows_of}
 use Rattle.auction_rows.specs.declared.{values.Opening.Opening, rows.Row.Row, rows.Entry.Entry}
-use Rattle.auction_window.specs.Published.{book_of}
+use Rattle.phase_boards.specs.Boards.{book_of}
 use Rattle.item_shards.{proofs.CountLemmas.{of_kind}, specs.Serial.{CanFollow}}
 use Rattle.phase_floor.specs.States.{JoinedState, IsBookOf}
 use Rattle.phase_laws.proofs.{ListLemmas.{all-left, all-right}, OrderLemmas.{all-weaker}}

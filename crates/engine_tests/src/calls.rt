@@ -3,7 +3,7 @@
 //! allocation refused in turn. What they answer stands in `tests/library_calls.txt`.
 ghost use Rattle.std.specs.Prelude.{◌≡◌, ◌<◌, ◌++◌, ◌∷◌, [], IfOk, false};
 ghost use Rattle.item_shards.specs.{OpeningBooks.{opening_of}, Serial.{CanFollow}};
-ghost use Rattle.auction_window.specs.Published.{book_of};
+ghost use Rattle.phase_boards.specs.Boards.{book_of};
 
 use crate::testing::{own_scripts, policy_of, vases_and_bid};
 use auction_rows::{Reply, Request, Row};

@@ -3,7 +3,7 @@
 ghost use Rattle.std.specs.Prelude.{◌≡◌, ◌++◌, ◌∷◌, [], length, vec_len, false};
 ghost use Rattle.auction_rows.specs.History.{rows_of as stored_rows};
 ghost use Rattle.item_shards.specs.{OpeningBooks.{opening_of, rows_of_book}, Serial.{CanFollow}};
-ghost use Rattle.auction_window.specs.Published.{book_of};
+ghost use Rattle.phase_boards.specs.Boards.{book_of};
 
 use crate::testing::{own_scripts, policy_of, vases_and_bid};
 use auction_rows::{Entry, Reply, Request, Row};

@@ -10,10 +10,10 @@ use Rattle.auction_rows.specs.Book.{Book, worker_of}
 use Rattle.auction_rows.specs.History.{IsBook, ReplaysFrom, after_entry, book_after, row_of_entry, rows_of}
 use Rattle.auction_rows.specs.Replies.{row_of}
 use Rattle.auction_rows.specs.declared.{limits.Policy.Policy, values.Opening.Opening, requests.Request.Request, rows.Row.Row, rows.Entry.Entry}
-use Rattle.auction_window.{proofs.Growing.{book_of-snoc}, specs.Published.{book_of}}
 use Rattle.item_shards.proofs.{CountLemmas.{of_kind}, SerialLemmas.{worker_of_added}}
 use Rattle.item_shards.specs.{OpeningRows.{rows_by}, Serial.{CanFollow}}
 use Rattle.phase_floor.specs.States.{JoinedState, IsBookOf}
+use Rattle.phase_boards.{proofs.BookLemmas.{book_of-snoc}, specs.Boards.{book_of, CanShow}}
 use Rattle.phase_laws.proofs.ListLemmas.{all-append, all-both, all-kept, all-right, filter_false}
 use Rattle.phase_laws.{proofs.OrderLemmas.{all-weaker, all-from_map}, specs.Order.{part}}
 use Rattle.run_laws.proofs.CallLemmas.{requests_in_turns}
@@ -25,7 +25,7 @@ use Rattle.run_laws.specs.{Run.{calls_of}, Serving.{script_of, segment_of, call_
 use Rattle.run_laws.specs.Turns.{numbered, turn, turns}
 use Rattle.worker_journals.specs.Merged.{merged}
 use Rattle.run_phases.specs.Beginning.{AreShort, AreShortFor}
-use Rattle.run_phases.specs.Boards.{CanShow, HasShownAfter, IsUpToDate, phase_rows}
+use Rattle.run_phases.specs.Boards.{HasShownAfter, IsUpToDate, phase_rows}
 use Rattle.run_phases.specs.{Outcomes.{HasShownFirstAfter}, Phases.{hot_sets}}
 use Rattle.run_phases.specs.declared.faults.RunFault.{TheVariants.{Memory}, RunFault}
 use Rattle.run_phases.specs.{declared.phase.Running.{Running}, inner.Plans.{waiting_in}}

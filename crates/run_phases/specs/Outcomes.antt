@@ -5,7 +5,7 @@ use Rattle.auction_rows.specs.declared.{limits.Policy.Policy, values.Opening.Ope
 use Rattle.phase_floor.specs.States.{StandsFor}
 use Rattle.run_laws.specs.{Run.{AreChosen, HasRun}, Serving.{AreNumbered, Serves, segment_of}}
 use Rattle.worker_journals.specs.Merged.{merged}
-use Rattle.auction_window.specs.Published.{book_of}
+use Rattle.phase_boards.specs.Boards.{book_of}
 use Rattle.run_phases.specs.{Boards.{HasShownAfter}, Phases.{hot_sets}}
 use Rattle.run_phases.specs.declared.{course.Outcome.{Outcome}, faults.RunFault.{RunFault}}
 use Rattle.run_phases.specs.declared.faults.RunFault.TheVariants.{Memory}

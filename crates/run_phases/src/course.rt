@@ -7,21 +7,20 @@ ghost use Rattle.auction_rows.specs.declared.values.Opening.{Opening as Numbers}
 ghost use Rattle.auction_rows.specs.declared.rows.Row.{Row as Stored};
 ghost use Rattle.auction_rows.specs.History.{rows_of as stored_rows};
 ghost use Rattle.worker_journals.specs.Merged.{merged};
-ghost use Rattle.auction_window.specs.Published.{book_of};
+ghost use Rattle.phase_boards.specs.Boards.{book_of, CanShow};
 ghost use Rattle.run_phases.specs.Beginning.{BeginsWith, CannotBegin, CanShowRun, HasShards, HasQuotas};
-ghost use Rattle.run_phases.specs.Boards.{CanShow, HasShownAfter};
+ghost use Rattle.run_phases.specs.Boards.{HasShownAfter};
 ghost use Rattle.run_phases.specs.{Outcomes.{HasShownFirstAfter, IsOutcome}, Phases.{IsMet}};
 ghost use Rattle.run_phases.specs.inner.Plans.{waiting_in, AreAsked, IsNoneLeft, IsPlanOf, IsSomeLeft};
 ghost use Rattle.run_phases.specs.inner.Running.{CanPerformNext, HasPerformedNext, IsRunning};
 
-use crate::board::Board;
 use crate::faults::RunFault;
 use crate::phase::{Running, Workload, perform_phase};
 use crate::plan::PhasePlan;
 use auction_rows::{MOST_OF_A_WORKER, Object, Policy};
-use auction_window::last_rows;
 use hot_choice::choose_hot_after;
 use indexmap::IndexSet;
+use phase_boards::{Board, last_rows};
 use phase_floor::Joined;
 use phase_permits::Stash;
 use phase_workers::Gate;

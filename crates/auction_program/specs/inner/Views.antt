@@ -4,7 +4,7 @@ use mathlib.Core.List.{IsPrefix}
 use Rattle.auction_rows.specs.Book.{Book}
 use Rattle.auction_rows.specs.declared.requests.Request.TheVariants.{ViewCategory, ViewUser}
 use Rattle.auction_rows.specs.declared.{values.Opening.Opening, requests.Request.Request, replies.Reply.Reply, rows.Row.Row}
-use Rattle.auction_window.specs.Published.{book_of}
+use Rattle.phase_boards.specs.Boards.{book_of}
 use Rattle.phase_floor.specs.States.{JoinedState, StandsFor}
 use Rattle.auction_program.specs.Report.{category_views, user_views}
 use Rattle.auction_program.specs.declared.texts.Viewed.{TheVariants.{Categories, Users}, Viewed}

@@ -4,7 +4,7 @@ use Rattle.auction_rows.specs.Book.{Book}
 use Rattle.auction_rows.specs.declared.{values.Opening.Opening, rows.Row.Row}
 use Rattle.item_shards.specs.Serial.{HoldsBook, CanFollow, serial_opening}
 use Rattle.item_shards.specs.declared.serial.SerialAuction.{SerialAuction}
-use Rattle.auction_window.specs.Published.{book_of}
+use Rattle.phase_boards.specs.Boards.{book_of}
 
 -- an auction, where there is one, has the rows of these phases after those of the book
 abbrev pub HasPhases : Opening → Book → Option SerialAuction → List (List Row) → Type 0

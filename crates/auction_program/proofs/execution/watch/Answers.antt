@@ -4,7 +4,7 @@ use base.Growing.{prefix_refl}
 use Rattle.auction_rows.{proofs.HistoryLemmas.{book_after-replays}, specs.Book.{Book}}
 use Rattle.auction_rows.specs.{History.{book_after, ReplaysFrom}, declared.rows.Row.{Row}}
 use Rattle.auction_run.{proofs.BoardLemmas.{rows_length}, specs.Boards.{phase_rows}}
-use Rattle.auction_window.specs.Published.{book_of}
+use Rattle.phase_boards.specs.Boards.{book_of}
 use Rattle.item_shards.specs.OpeningBooks as opened
 use Rattle.phase_floor.specs.States.{StandsFor}
 use Rattle.program_opening.{proofs.ErrorLemmas.{error_is}, specs.Options.{opening_asked}}

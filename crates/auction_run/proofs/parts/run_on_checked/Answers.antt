@@ -1,6 +1,6 @@
 use Rattle.std.proofs.Common.{◌≡◌, ◌≤◌, ◌∙◌, ap, length, refl, subst, sym}
 use Rattle.auction_rows.specs.{Book.{Book}, History.{book_after}}
-use Rattle.auction_window.specs.Published.{book_of}
+use Rattle.phase_boards.specs.Boards.{book_of}
 use Rattle.phase_floor.specs.States.{JoinedState, IsBookOf}
 use Rattle.job_threads.proofs.ThreadLemmas.{err_as}
 use Rattle.auction_run.proofs.AnswerLemmas.{answered_stopped, no_outcome}

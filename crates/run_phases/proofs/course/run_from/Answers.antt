@@ -1,6 +1,6 @@
 use Rattle.std.proofs.Common.{rules, arith, ◌≡◌, ◌<◌, ◌⊎◌, ◌+◌, List, suc, length, refl, inl, subst, sym, ap, ◌∙◌}
 use Rattle.auction_rows.specs.{Book.{Book}, declared.rows.Row.{Row}}
-use Rattle.auction_window.specs.Published.{book_of}
+use Rattle.phase_boards.specs.Boards.{book_of}
 use Rattle.job_threads.proofs.ThreadLemmas.{err_as}
 use Rattle.run_laws.specs.{Run.{HasLeft, first_index}, Serving.{script_of}}
 use Rattle.run_phases.proofs.BoardLemmas.{begins_shown, can_show, first_shown, has_shown, next_runs, none_shown, not_shown}

@@ -1,6 +1,6 @@
 use Rattle.std.proofs.Common.{◌≡◌, List}
 use Rattle.auction_rows.specs.{Book.{Book}, declared.rows.Row.{Row}}
-use Rattle.auction_window.specs.Published.{book_of}
+use Rattle.phase_boards.specs.Boards.{book_of}
 use Rattle.run_phases.specs.{Beginning.{BeginsWith}, Boards.{HasShownAfter}, inner.Plans.{AreAsked}}
 use Rattle.run_phases.specs.inner.Running.{IsRunning}
 use Rattle.run_phases.proofs.course.run_from.Given as goal

@@ -1,6 +1,6 @@
 use Rattle.std.proofs.Common.{rules, ◌≡◌, ◌++◌, ◌∷◌, ◌∙◌, [], false, ap}
 use Rattle.auction_window.specs.Published.{Published}
-use Rattle.run_phases.proofs.board.WindowBoardPublisherBoard.publish.Goals as goal
+use Rattle.auction_window.proofs.board.WindowBoardPublisherBoard.publish.Goals as goal
 
 pub publish-requires : goal.publish-requires
 publish-requires g c = let can = c.requires tt in search rules

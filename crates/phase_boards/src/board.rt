@@ -1,6 +1,5 @@
 //! Whom a run shows its phases.
 use auction_rows::Row;
-use auction_window::{Publisher, Told, WindowName};
 use std::alloc::AllocError;
 use std::sync::Wait;
 
@@ -9,7 +8,7 @@ pub trait Board {
     ghost use Rattle.std.specs.Prelude.{◌≡◌, ◌++◌, ◌∷◌, [], false, List, OnOk, OnErr};
     ghost use Rattle.auction_rows.specs.{Book.{Book}, declared.values.Opening.{Opening}};
     ghost use Rattle.auction_rows.specs.declared.rows.Row.{Row as Stored};
-    ghost use Rattle.run_phases.specs.Boards.{CanShow};
+    ghost use Rattle.phase_boards.specs.Boards.{CanShow};
 
     /// It has these phases, each a list of rows, of an auction that was opened with these rows.
     ghost has: { Self → Opening → Book → List (List Stored) → Type 0 };
@@ -60,46 +59,6 @@ impl Board for NoBoard {
     }
 
     fn publish<R: Wait>(&mut self, _rt: &R, _last: Vec<Row>) -> Result<(), AllocError> {
-        Ok(())
-    }
-}
-
-/// The board of a publisher's windows, which are shown each phase. It is spent by ending its
-/// publisher.
-pub struct WindowBoard<J: WindowName, P = Publisher<J>> {
-    pub publisher: P,
-    /// What the publisher told last, for a window to learn: None before the first phase.
-    pub told: Option<Told<J>>,
-}
-
-impl<J: WindowName> WindowBoard<J, Publisher<J>> {
-    ghost use Rattle.std.specs.Prelude.{◌≡◌, None};
-
-    /// A board of this publisher, which has told nothing yet.
-    pub fn new(publisher: Publisher<J>) -> WindowBoard<J>
-        ensures publisher { result.publisher ≡ publisher }
-        ensures told { result.told ≡ None }
-    {
-        WindowBoard {
-            publisher,
-            told: None,
-        }
-    }
-}
-
-impl<J: WindowName> Board for WindowBoard<J, Publisher<J>> {
-    ghost use Rattle.std.specs.Prelude.{false, true};
-    ghost use Rattle.run_phases.specs.Boards.{HasPublished};
-
-    ghost has = { λ board opening rows phases.
-        HasPublished false J.opening J.rows opening rows board.publisher board.told phases };
-
-    ghost has_refused = { λ board opening rows phases.
-        HasPublished true J.opening J.rows opening rows board.publisher board.told phases };
-
-    fn publish<R: Wait>(&mut self, rt: &R, last: Vec<Row>) -> Result<(), AllocError> {
-        let told = self.publisher.publish(rt, last)?;
-        self.told = Some(told);
         Ok(())
     }
 }

@@ -1,7 +1,7 @@
 use Rattle.std.proofs.{Common.{◌∙◌, ap}, lemmas.List.{take_all}}
 use Rattle.auction_rows.specs.History.{rows_of}
-use Rattle.auction_window.proofs.RowLemmas.{one_more}
-use Rattle.auction_window.proofs.phases.rows_of.Goals as goal
+use Rattle.phase_boards.proofs.RowLemmas.{one_more}
+use Rattle.phase_boards.proofs.rows.rows_of.Goals as goal
 
 pub loop-entry-preserved : goal.loop-entry-preserved
 loop-entry-preserved c =

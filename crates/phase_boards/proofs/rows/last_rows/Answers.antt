@@ -1,8 +1,8 @@
 use Rattle.std.proofs.{Common.{◌∙◌, ◌++◌, List, ap, sym, rules}, lemmas.List.{append-nil}}
 use Rattle.auction_rows.specs.{History.{rows_of}, declared.rows.Entry.{Entry}}
 use Rattle.worker_journals.specs.Merged.{merged}
-use Rattle.auction_window.proofs.RowLemmas.{gone_by}
-use Rattle.auction_window.proofs.phases.last_rows.Goals as goal
+use Rattle.phase_boards.proofs.RowLemmas.{gone_by}
+use Rattle.phase_boards.proofs.rows.last_rows.Goals as goal
 
 pub loop-entry-init : goal.loop-entry-init
 loop-entry-init c = search rules

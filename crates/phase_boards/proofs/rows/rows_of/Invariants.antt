@@ -1,6 +1,6 @@
 use Rattle.std.proofs.Common.{◌≡◌, take}
 use Rattle.auction_rows.specs.History.{rows_of}
-use Rattle.auction_window.proofs.phases.rows_of.Given as goal
+use Rattle.phase_boards.proofs.rows.rows_of.Given as goal
 
 -- the rows of the entries so far
 abbrev pub invariant-loop-entry : goal.invariant-loop-entry
