@@ -65,7 +65,7 @@ class Front:
 
     bid = ("BID", "1", "0.0", "500", "5")
 
-    def __init__(self, program: str, folder: str, is_logged: bool):
+    def __init__(self, program: str, folder: str, is_logged: bool) -> None:
         self.log = f"{folder}/front.log" if is_logged else None
         words = ["--port", "0", "--workers", str(WORKERS), *(["--log", self.log] if self.log else [])]
         self.words = [sys.executable, "-B", FRONT, *words, program, "--fast"]
@@ -95,7 +95,7 @@ class Front:
 class Redis(redis_server.Server):
     """Redis with the item, as long as a `with` over it; a bid is a call of its script."""
 
-    def __init__(self, _: str, folder: str, is_logged: bool):
+    def __init__(self, _: str, folder: str, is_logged: bool) -> None:
         super().__init__(is_logged)
         self.row = f"{folder}/row"
 

@@ -64,7 +64,7 @@ class Refused(Exception):
 
 
 class Auction:
-    def __init__(self, users: int, categories: int):
+    def __init__(self, users: int, categories: int) -> None:
         self.database = sqlite3.connect(":memory:", isolation_level=None, cached_statements=100)
         self.database.executescript(SCHEMA)
         self.run = self.database.execute

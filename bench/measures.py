@@ -110,7 +110,7 @@ class Systems:
     """All systems, over loads that are made once. As a `with` it keeps a PostgreSQL server alive where one can be
     had."""
 
-    def __init__(self, built: dict[str, str], asked: Namespace, folder: str, end: float):
+    def __init__(self, built: dict[str, str], asked: Namespace, folder: str, end: float) -> None:
         """No further try begins that would not be done by the end, a time of the clock that never goes back."""
         self.built, self.asked, self.folder, self.end = built, asked, folder, end
         self.turns = 0

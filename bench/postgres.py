@@ -59,7 +59,7 @@ def tools() -> str | None:
 class Server:
     """A server that lives as long as a `with` over it."""
 
-    def __init__(self, settings: dict[str, str] = SETTINGS):
+    def __init__(self, settings: dict[str, str] = SETTINGS) -> None:
         self.settings, self.tools = settings, tools()
         # The server does not run as root: Debian's package has made a user for it.
         self.leave = ["runuser", "-u", "postgres", "--"] if os.geteuid() == 0 else []

@@ -69,7 +69,7 @@ def packed(*words: object) -> bytes:
 class Server:
     """A server that lives as long as a `with` over it. Its log, if it has one, is synced before each reply."""
 
-    def __init__(self, is_logged: bool):
+    def __init__(self, is_logged: bool) -> None:
         self.is_logged = is_logged
 
     def __enter__(self) -> "Server":

@@ -4,7 +4,8 @@
     docs/man_pages.py FOLDER [PROGRAM..]
     man -l FOLDER/rubis_auction.1
 
-The programs are rubis_auction, rubis_check and rubis_load, as they are built in crates/*/out, unless others are given. Nothing is built."""
+The programs are rubis_auction, rubis_check and rubis_load, as they are built in crates/*/out, unless others are given.
+Nothing is built."""
 
 import re
 import subprocess
@@ -21,14 +22,18 @@ NAMES = ("rubis_auction", "rubis_check", "rubis_load")
 # The page that has the faults of a program, and the head of its table.
 FAULTS = {"rubis_auction": (ROOT / "docs" / "FORMATS.md", "| Text | Status | Cause |\n")}
 
-PARTS = re.compile(r"(?s)(?P<what>.+?)\n\nUsage: (?P<name>\w+) (?P<usage>.+?)\n\nOptions:\n(?P<options>.+?)\n\n(?P<text>.+)\nExamples:\n(?P<examples>.+)")
+PARTS = re.compile(
+    r"(?s)(?P<what>.+?)\n\nUsage: (?P<name>\w+) (?P<usage>.+?)\n\nOptions:\n(?P<options>.+?)\n\n"
+    r"(?P<text>.+)\nExamples:\n(?P<examples>.+)"
+)
 OPTION = re.compile(r" +((?:-\w, +)?--[\w-]+)( <\w+>)? +(.*)")
 STATUSES = re.compile(r"(?s)Status: (.*?)\.\n")
 ESCAPES = str.maketrans({"\\": "\\e", "-": "\\-", "'": "\\(aq", '"': "\\(dq", "`": "\\(ga", "^": "\\(ha", "~": "\\(ti"})
 
 
 class Help(NamedTuple):
-    """What help says: what the program does, its name, its usage without the name, lines of options, the paragraphs after them, and examples."""
+    """What help says: what the program does, its name, its usage without the name, lines of options, the paragraphs
+    after them, and examples."""
 
     what: str
     name: str
@@ -109,7 +114,8 @@ def page(program: Path) -> tuple[str, str]:
     }
     # No word is divided, so that each can be found and copied.
     head = f'.TH {told.name.upper()} 1 "" "{roff(version)}"\n.nr HY 0\n.nh\n.ad l'
-    return told.name, "\n".join([head, *(line for title, lines in sections.items() for line in (f".SH {title}", *lines)), ""])
+    body = (line for title, lines in sections.items() for line in (f".SH {title}", *lines))
+    return told.name, "\n".join([head, *body, ""])
 
 
 def main() -> None:

@@ -8,10 +8,13 @@ PROGRAM is rubis_auction; the options go to it, for example --log auction.rows."
 import argparse
 import subprocess
 from collections import Counter
+from pathlib import Path
+from typing import Any, NoReturn
 
 from command_line import end, parser_of
 
-# So many requests are sent before their replies are read: they fit into a pipe, so that neither side waits for the other.
+# So many requests are sent before their replies are read: they fit into a pipe, so that neither side waits for the
+# other.
 BLOCK = 300
 
 
@@ -20,23 +23,26 @@ class Refused(Exception):
 
 
 class Auction:
-    """An auction in a process of its own. A request is the text of its record without the worker, such as `bid,1,0.0,500,3`."""
+    """An auction in a process of its own. A request is the text of its record without the worker, such as
+    `bid,1,0.0,500,3`."""
 
-    def __init__(self, program, *options, most=1000, **how):
+    def __init__(self, program: str | Path, *options: str | Path, most: int = 1000, **how: Any) -> None:
         words = [program, "--live", str(most), *options]
-        self.process = subprocess.Popen(words, stdin=subprocess.PIPE, stdout=subprocess.PIPE, stderr=subprocess.PIPE, **how)
+        self.process = subprocess.Popen(
+            words, stdin=subprocess.PIPE, stdout=subprocess.PIPE, stderr=subprocess.PIPE, **how
+        )
         self.sent = Counter()
 
-    def one(self, request, worker=0):
+    def one(self, request: str, worker: int = 0) -> str:
         """The reply to a request."""
         return self.many([(worker, request)])[0]
 
-    def many(self, requests):
+    def many(self, requests: list[tuple[int, str]]) -> list[str]:
         """The replies to requests, each with its worker, in the order of the requests."""
         blocks = [requests[at : at + BLOCK] for at in range(0, len(requests), BLOCK)]
         return [reply for block in blocks for reply in self.block(block)]
 
-    def block(self, requests):
+    def block(self, requests: list[tuple[int, str]]) -> list[str]:
         places = []
         for worker, _ in requests:
             places.append((worker, self.sent[worker]))
@@ -45,14 +51,14 @@ class Auction:
         replies = dict(self.reply() for _ in requests)
         return [replies[place] for place in places]
 
-    def write(self, text):
+    def write(self, text: str) -> None:
         try:
             self.process.stdin.write(text.encode())
             self.process.stdin.flush()
         except BrokenPipeError:
             self.refuse()
 
-    def reply(self):
+    def reply(self) -> tuple[tuple[int, int], str]:
         """The next line: worker and index of a request, and its reply."""
         line = self.process.stdout.readline().decode()
         if not line.endswith("\n"):
@@ -60,24 +66,24 @@ class Auction:
         worker, index, text = line[:-1].split(",", 2)
         return (int(worker), int(index)), text
 
-    def refuse(self):
+    def refuse(self) -> NoReturn:
         words = self.process.stderr.read().decode()
         raise Refused(words.strip(), self.process.wait())
 
-    def close(self):
+    def close(self) -> None:
         """Ends the input, and waits for the program."""
         self.process.stdin.close()
         if self.process.wait() != 0:
             self.refuse()
 
 
-def ask(auction):
+def ask(auction: Auction) -> None:
     print(auction.one("item,0,0,Vase,10,100,1"))
     print(*auction.many([(0, "bid,1,0.0,500,3"), (0, "bid,2,0.0,700,4"), (0, "viewitem,0.0")]), sep="\n")
     auction.close()
 
 
-def main():
+def main() -> None:
     words = parser_of(__doc__)
     words.add_argument("program", metavar="PROGRAM", help="rubis_auction")
     words.add_argument("options", metavar="OPTION", nargs=argparse.REMAINDER, help="options of it")

@@ -1,5 +1,5 @@
-"""How the scripts of this repository read their words, and what they say instead of a traceback if a word is wrong, a file or a program is not there, or they
-are interrupted: one line."""
+"""How the scripts of this repository read their words, and what they say instead of a traceback if a word is wrong, a
+file or a program is not there, or they are interrupted: one line."""
 
 import argparse
 import csv
@@ -14,7 +14,9 @@ from typing import NoReturn
 def parser_of(text: str) -> argparse.ArgumentParser:
     """A parser of a script's words. Its help begins with this text, which shows how the script is called."""
     sys.excepthook = tell
-    return argparse.ArgumentParser(description=text, formatter_class=argparse.RawDescriptionHelpFormatter, usage=argparse.SUPPRESS)
+    return argparse.ArgumentParser(
+        description=text, formatter_class=argparse.RawDescriptionHelpFormatter, usage=argparse.SUPPRESS
+    )
 
 
 def executable(word: str) -> Path:

@@ -1,17 +1,22 @@
 #!/usr/bin/env python3
-"""front.py on several machines: one front leads and serves, and what it replies is in etcd first, synced by most of its servers.
+"""front.py on several machines: one front leads and serves, and what it replies is in etcd first, synced by most of
+its servers.
 
-    examples/front_quorum.py --etcd HOST:2379,HOST:2379,HOST:2379 [--port 7379] [--audit FOLDER] --log FILE PROGRAM [OPTION..]
+    examples/front_quorum.py --etcd HOST:2379,HOST:2379,HOST:2379 [--port 7379] [--audit FOLDER] --log FILE
+        PROGRAM [OPTION..]
 
-Start one on each machine, and again whenever it ends (systemd: Restart=always), over three servers of etcd (3.4 or later) that keep nothing else. The front that
-has the key `leader`, under a lease, writes FILE anew from the rows under `log/`, and listens; the others wait, so a client tries one after the other, and needs a
-timeout. If a front dies, freezes or is cut off, another leads a few seconds later, with all that was acknowledged. This gives availability, not capacity: one front
-serves, and each reply waits for etcd, whose quota (2 GB, if it is not set) bounds the log. A front that can no longer lead ends with status 6.
+Start one on each machine, and again whenever it ends (systemd: Restart=always), over three servers of etcd (3.4 or
+later) that keep nothing else. The front that has the key `leader`, under a lease, writes FILE anew from the rows under
+`log/`, and listens; the others wait, so a client tries one after the other, and needs a timeout. If a front dies,
+freezes or is cut off, another leads a few seconds later, with all that was acknowledged. This gives availability, not
+capacity: one front serves, and each reply waits for etcd, whose quota (2 GB, if it is not set) bounds the log. A front
+that can no longer lead ends with status 6.
 
 An auction with a log goes on from it, once etcd has its rows:
 
     split -C 64K -d -a 16 auction.rows part. && for part in part.*; do etcdctl put log/${part#part.} < $part; done"""
 
+import argparse
 import asyncio
 import base64
 import json
@@ -23,6 +28,7 @@ import time
 from contextlib import suppress
 from http.client import HTTPConnection, HTTPException
 from itertools import cycle
+from typing import Any, NoReturn
 
 import front
 
@@ -30,39 +36,42 @@ LEASE, ANSWER, OUTAGE = 3, 1, 10  # seconds: of the lease, for an answer of a se
 MOST_BYTES, MOST_KEYS = 65536, 100  # bytes put at once, and keys read at once
 LEADER, STARTS, LOG = b"leader", b"starts", b"log/"
 FAULTS = (OSError, HTTPException, ValueError)
+# What etcd is asked, and what it answers.
+Json = dict[str, Any]
 
 
-def end(words):
+def end(words: object) -> NoReturn:
     """Ends at once: nothing more is released."""
     front.say(words)
     os._exit(6)
 
 
-def encoded(data):
+def encoded(data: bytes) -> str:
     return base64.b64encode(data).decode()
 
 
-def get(key):
+def get(key: bytes) -> Json:
     return {"request_range": {"key": encoded(key)}}
 
 
-def put(key, value, **how):
+def put(key: bytes, value: bytes, **how: Any) -> Json:
     return {"request_put": {"key": encoded(key), "value": encoded(value), **how}}
 
 
-def is_created_at(revision):
+def is_created_at(revision: str) -> Json:
     """The comparison that holds while the key `leader` is the one of this revision."""
     return {"key": encoded(LEADER), "target": "CREATE", "result": "EQUAL", "create_revision": revision}
 
 
 class Etcd:
-    """A connection to a server of etcd, or to the next one if that does not answer. All that it is asked may be asked twice."""
+    """A connection to a server of etcd, or to the next one if that does not answer. All that it is asked may be asked
+    twice."""
 
-    def __init__(self, addresses):
+    def __init__(self, addresses: str) -> None:
         self.connections = cycle([HTTPConnection(address, timeout=ANSWER) for address in addresses.split(",")])
         self.connection = next(self.connections)
 
-    def ask(self, path, **body):
+    def ask(self, path: str, **body: Any) -> Json:
         until = time.monotonic() + OUTAGE
         while True:
             try:
@@ -74,7 +83,7 @@ class Etcd:
             self.connection = next(self.connections)
             time.sleep(0.05)
 
-    def ask_once(self, path, body):
+    def ask_once(self, path: str, body: Json) -> Json:
         self.connection.request("POST", f"/v3/{path}", json.dumps(body))
         response = self.connection.getresponse()
         told = json.loads(response.read())
@@ -84,17 +93,18 @@ class Etcd:
 
 
 class Replicated(front.Engine):
-    """The program of the front that leads. Its replies are held until etcd has the rows before them and says that the front leads, whatever clocks say."""
+    """The program of the front that leads. Its replies are held until etcd has the rows before them and says that the
+    front leads, whatever clocks say."""
 
-    def __init__(self, asked):
+    def __init__(self, asked: argparse.Namespace) -> None:
         super().__init__(asked)
         self.etcd, self.lease, self.is_over, self.held = Etcd(asked.etcd), None, threading.Event(), []
         self.number = self.at = 0  # the key of the next rows, and where these begin in the file
 
-    async def ask_etcd(self, path, **body):
+    async def ask_etcd(self, path: str, **body: Any) -> Json:
         return await asyncio.to_thread(self.etcd.ask, path, **body)
 
-    async def start(self):
+    async def start(self) -> None:
         if self.lease is None:
             await self.lead()
         # A program that died may have left rows. What it replied is released already.
@@ -105,7 +115,7 @@ class Replicated(front.Engine):
         self.starts = int(told["response_range"]["kvs"][0]["version"]) - 1
         await super().start()
 
-    async def lead(self):
+    async def lead(self) -> None:
         """Waits until this front leads."""
         front.say("waits until it leads")
         self.lease = (await self.ask_etcd("lease/grant", TTL=LEASE))["ID"]
@@ -118,26 +128,30 @@ class Replicated(front.Engine):
         await self.write_log()
         front.say(f"leads, with {self.at} bytes of rows")
 
-    async def leader(self):
+    async def leader(self) -> Json:
         """The key of the front that leads: of this one, if there was none."""
         own = put(LEADER, f"{self.asked.host}:{self.asked.port}".encode(), lease=self.lease)
-        told = await self.ask_etcd("kv/txn", compare=[is_created_at("0")], success=[own, get(LEADER)], failure=[get(LEADER)])
+        told = await self.ask_etcd(
+            "kv/txn", compare=[is_created_at("0")], success=[own, get(LEADER)], failure=[get(LEADER)]
+        )
         return told["responses"][-1]["response_range"]["kvs"][0]
 
-    def hold(self):
+    def hold(self) -> None:
         """Keeps the lease, in a thread of its own, since a start with many rows takes its time."""
         etcd = Etcd(self.asked.etcd)
         while not self.is_over.wait(LEASE / 4):
             if "TTL" not in etcd.ask("lease/keepalive", ID=self.lease)["result"]:
                 end("the lease is over")
 
-    async def write_log(self):
-        """Writes the log anew: rows that only it has were never acknowledged. The program of a front that was killed may still be writing the old file."""
+    async def write_log(self) -> None:
+        """Writes the log anew: rows that only it has were never acknowledged. The program of a front that was killed
+        may still be writing the old file."""
         log, more = self.asked.log, True
         fresh = log.with_name(log.name + ".new")
         with fresh.open("wb") as file:
             while more:
-                told = await self.ask_etcd("kv/range", key=encoded(LOG + b"%016d" % self.number), range_end=encoded(LOG + b":"), limit=MOST_KEYS)
+                first, beyond = encoded(LOG + b"%016d" % self.number), encoded(LOG + b":")
+                told = await self.ask_etcd("kv/range", key=first, range_end=beyond, limit=MOST_KEYS)
                 for pair in told.get("kvs", ()):
                     file.write(base64.b64decode(pair["value"]))
                     self.number = 1 + int(base64.b64decode(pair["key"]).removeprefix(LOG))
@@ -147,14 +161,14 @@ class Replicated(front.Engine):
             raise OSError(f"{log} has rows, and etcd has none")
         fresh.replace(log)
 
-    async def as_leader(self, *operations):
+    async def as_leader(self, *operations: Json) -> list[Json]:
         """Does them all if this front still leads."""
         told = await self.ask_etcd("kv/txn", compare=[self.leads], success=operations)
         if not told.get("succeeded"):
             end("this front leads no longer")
         return told["responses"]
 
-    async def put_rows(self):
+    async def put_rows(self) -> None:
         """Puts the rows that the file has and etcd has not; if there are none, asks whether this front leads."""
         is_last = False
         while not is_last:
@@ -165,12 +179,12 @@ class Replicated(front.Engine):
             await self.as_leader(put(LOG + b"%016d" % self.number, rows) if rows else get(LEADER))
             self.number, self.at, is_last = self.number + bool(rows), self.at + len(rows), len(data) < MOST_BYTES
 
-    def release(self, lines, requests):
+    def release(self, lines: list[bytes], requests: list[front.Request]) -> None:
         self.held.append((lines, requests))
         if self.putting.done():
             self.putting = asyncio.create_task(self.release_held())
 
-    async def release_held(self):
+    async def release_held(self) -> None:
         """Releases what is held, and what comes meanwhile, each time after a put."""
         while self.held:
             held, self.held = self.held, []
@@ -181,12 +195,12 @@ class Replicated(front.Engine):
             except OSError as fault:
                 end(fault)
 
-    def connection_lost(self, fault):
+    def connection_lost(self, fault: Exception | None) -> None:
         """The program has ended, once all that it replied is released."""
         ended = super().connection_lost
         self.putting.add_done_callback(lambda _: ended(fault))
 
-    async def go_on(self):
+    async def go_on(self) -> int:
         """Lets the next front lead at once when this one is stopped."""
         status = await super().go_on()
         self.is_over.set()
@@ -195,9 +209,11 @@ class Replicated(front.Engine):
         return status
 
 
-def arguments():
+def arguments() -> argparse.Namespace:
     words = front.arguments(__doc__)
-    words.add_argument("--etcd", metavar="HOST:PORT,..", default="127.0.0.1:2379", help="the servers of etcd [default: 127.0.0.1:2379]")
+    words.add_argument(
+        "--etcd", metavar="HOST:PORT,..", default="127.0.0.1:2379", help="the servers of etcd [default: 127.0.0.1:2379]"
+    )
     asked = words.parse_args()
     if asked.log is None:
         words.error("--log FILE is needed")

@@ -1,18 +1,20 @@
 #!/usr/bin/env python3
-"""Judges a history as `rubis_check` does, but unproved and without the kit: whether the auction of small_engine.py gives its replies in its order.
+"""Judges a history as `rubis_check` does, but unproved and without the kit: whether the auction of small_engine.py
+gives its replies in its order.
 
     python3 examples/replay.py INPUT HISTORY
 
 It prints the verdict of docs/CHECKING.md, and ends with its status. It asks for no order within a session."""
 import re
 import sys
+from typing import Iterable
 
-from small_engine import opened, words_of
+from small_engine import Auction, Scripts, opened, words_of
 
 LINE = re.compile(r"[0-9]+ [0-9]+ ([0-9]+) ([0-9]+) (.*)\n", re.DOTALL)
 
 
-def verdict(auction, scripts, lines):
+def verdict(auction: Auction, scripts: Scripts, lines: Iterable[str]) -> tuple[int, str]:
     """A status, and what it means."""
     left = {(worker, index) for worker, script in scripts.items() for index in range(len(script))}
     for number, line in enumerate(lines, start=1):
@@ -30,7 +32,7 @@ def verdict(auction, scripts, lines):
     return (6, "{},{} stands in no line".format(*min(left))) if left else (0, "the history replays")
 
 
-def main():
+def main() -> int:
     words = words_of(__doc__)
     words.add_argument("history", metavar="HISTORY", help="lines of PHASE NUMBER WORKER INDEX TEXT")
     asked = words.parse_args()

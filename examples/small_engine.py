@@ -1,32 +1,40 @@
 #!/usr/bin/env python3
-"""An auction of two copies, which executes an input in a random order of the workers and writes its history for `rubis_check`.
+"""An auction of two copies, which executes an input in a random order of the workers and writes its history for
+`rubis_check`.
 
     python3 examples/small_engine.py INPUT SEED > history
     rubis_check --workers N --strict --history history < INPUT
 
-It commits on the first copy. With --stale it has a bug: views of items read the second copy, which is refreshed every third commit.
+It commits on the first copy. With --stale it has a bug: views of items read the second copy, which is refreshed every
+third commit.
 """
 import copy
 import csv
 import random
 import re
 import signal
+from argparse import ArgumentParser, Namespace
 from pathlib import Path
+from typing import Iterator
 
 from command_line import end, parser_of
 
 N, ITEM = "[0-9]+", r"[0-9]+\.[0-9]+"
 # A row or a request, with tabs between its fields.
-RECORD = re.compile(rf"{N}\t(\+?(item\t{N}\t{N}\t[ -~]+(\t{N}){{3,4}}|(bid|buynow)\t{N}\t{ITEM}\t{N}\t{N}|comment\t{N}\t{N}\t{ITEM}\t-?[0-5])"
-                    rf"|view(item|bids)\t{ITEM}|view(category|user)\t{N})")
+RECORD = re.compile(
+    rf"{N}\t(\+?(item\t{N}\t{N}\t[ -~]+(\t{N}){{3,4}}|(bid|buynow)\t{N}\t{ITEM}\t{N}\t{N}"
+    rf"|comment\t{N}\t{N}\t{ITEM}\t-?[0-5])|view(item|bids)\t{ITEM}|view(category|user)\t{N})"
+)
+# Of each worker its requests, each with its kind and its fields.
+Scripts = dict[int, list[tuple[str, list[str]]]]
 
 
 class Auction:
-    def __init__(self, users, categories):
+    def __init__(self, users: int, categories: int) -> None:
         self.users, self.categories = users, categories
         self.items, self.bids, self.sold, self.comments, self.latest, self.serials = {}, {}, {}, {}, {}, {}
 
-    def refusal(self, kind, fields):
+    def refusal(self, kind: str, fields: list[str]) -> str | None:
         users = {"item": 1, "bid": 1, "comment": 2, "buynow": 1, "viewuser": 1}.get(kind, 0)
         if any(int(user) >= self.users for user in fields[:users]):
             return "1 NoSuchUser"
@@ -50,12 +58,12 @@ class Auction:
             return "7 NotEnough"
         return None
 
-    def new_id(self, worker, kind):
+    def new_id(self, worker: int, kind: str) -> tuple[int, int]:
         serial = self.serials.get((worker, kind), 0)
         self.serials[worker, kind] = serial + 1
         return (worker, serial)
 
-    def store(self, worker, kind, fields):
+    def store(self, worker: int, kind: str, fields: list[str]) -> str:
         one = self.new_id(worker, kind)
         name = f"{one[0]}.{one[1]}"
         if kind == "item":
@@ -72,7 +80,7 @@ class Auction:
             self.sold[fields[1]] += int(fields[2])
         return f"{kind} {name}"
 
-    def view(self, kind, name):
+    def view(self, kind: str, name: str) -> str:
         if kind == "viewuser":
             stars = self.comments.get(name, [])
             return f"user rating={sum(stars)} comments={len(stars)}"
@@ -83,17 +91,20 @@ class Auction:
         if kind == "viewbids":
             return "bids" + "".join(f" {b[0]}:{b[1]}:{b[4]}:{b[2]}.{b[3]}" for b in best[:10])
         item, lead = self.items[name], (best[0][0], best[0][4]) if best else ("-", "-")
-        return (f"viewitem seller={item['seller']} category={item['category']} start={item['start']} closes={item['closes']}"
-                f" highest={lead[0]} bidder={lead[1]} bids={len(best)} left={item['quantity'] - self.sold[name]} name={item['name']}")
+        return (
+            f"viewitem seller={item['seller']} category={item['category']} start={item['start']}"
+            f" closes={item['closes']} highest={lead[0]} bidder={lead[1]} bids={len(best)}"
+            f" left={item['quantity'] - self.sold[name]} name={item['name']}"
+        )
 
-    def answer(self, worker, kind, fields):
+    def answer(self, worker: int, kind: str, fields: list[str]) -> str:
         reason = self.refusal(kind, fields)
         if reason:
             return f"refused {reason}"
         return self.view(kind, fields[0]) if kind.startswith("view") else self.store(worker, kind, fields)
 
 
-def records_of(path):
+def records_of(path: str) -> Iterator[list[str]]:
     lines = csv.reader(Path(path).read_text().splitlines())
     for record in filter(None, lines):
         if not RECORD.fullmatch("\t".join(record)):
@@ -101,7 +112,7 @@ def records_of(path):
         yield record
 
 
-def opened(asked):
+def opened(asked: Namespace) -> tuple[Auction, Scripts]:
     """The auction with the rows of an input, and the scripts of its workers."""
     scripts, auction = {}, Auction(asked.users, asked.categories)
     for worker, kind, *fields in records_of(asked.input):
@@ -114,7 +125,7 @@ def opened(asked):
     return auction, scripts
 
 
-def words_of(text):
+def words_of(text: str) -> ArgumentParser:
     words = parser_of(text)
     words.add_argument("input", metavar="INPUT", help="rows and scripts, as docs/FORMATS.md has them")
     words.add_argument("--users", type=int, default=100, help="users of the auction [default: 100]")
@@ -122,7 +133,7 @@ def words_of(text):
     return words
 
 
-def main():
+def main() -> None:
     # Who reads the history may have seen enough before its end.
     signal.signal(signal.SIGPIPE, signal.SIG_DFL)
     words = words_of(__doc__)

@@ -61,8 +61,8 @@ MOST_WORDS, MOST_OF_THE_FIRST = 16_000, 1_200
 LINES = (DOCUMENTS / "SERVING.md", re.compile(r"(\d+) lines of Python code"), ROOT / "examples" / "front.py")
 NO_CODE = {tokenize.COMMENT, tokenize.NL, tokenize.NEWLINE, tokenize.INDENT, tokenize.DEDENT, tokenize.ENDMARKER}
 
-# How many columns a line of Python may have, and in which folders.
-MOST_COLUMNS, OF_LINES = 120, ("tests",)
+# How many columns a line of Python may have, in any folder.
+MOST_COLUMNS = 120
 
 NAME = re.compile(r"[A-Za-z_]\w*(::[A-Za-z_]\w*)*(\(\))?|--[a-z]+")
 # A path from the top, perhaps after steps up.
@@ -308,13 +308,11 @@ def lines_of_code(script: Path) -> int:
 
 
 def lengths_of_lines(tally: Tally) -> None:
-    """lines of scripts in Python, at most 120 columns"""
+    """lines of Python in all folders, at most 120 columns"""
     for path in sorted(filter(is_python, files())):
-        name = path.relative_to(ROOT)
-        if name.parts[0] in OF_LINES:
-            lines = enumerate(path.read_text().splitlines(), 1)
-            long = [f"{name}:{number} has {len(line)} columns" for number, line in lines if len(line) > MOST_COLUMNS]
-            tally.check(not long, f"a line has at most {MOST_COLUMNS} columns: {'; '.join(long)}")
+        name, lines = path.relative_to(ROOT), enumerate(path.read_text().splitlines(), 1)
+        long = [f"{name}:{number} has {len(line)}" for number, line in lines if len(line) > MOST_COLUMNS]
+        tally.check(not long, f"a line of Python, in any folder, has at most {MOST_COLUMNS} columns: {'; '.join(long)}")
 
 
 def is_python(path: Path) -> bool:

@@ -1,11 +1,13 @@
 #!/usr/bin/env python3
-"""Draws docs/pictures/part.svg: how two parts go through the program, read, run, log, reply, and what a crash leaves at each moment.
+"""Draws docs/pictures/part.svg: how two parts go through the program, read, run, log, reply, and what a crash leaves at
+each moment.
 
     docs/pictures/part.py           writes the picture beside this script
     docs/pictures/part.py --print   writes it to standard output
 """
 import sys
 from pathlib import Path
+from typing import Iterator, Sequence
 
 sys.path.append(str(Path(__file__).resolve().parents[2] / "examples"))
 from svg import BLUE, GREY, INK, RED, SAND, TINT, WHITE, box, line, picture, text
@@ -23,25 +25,26 @@ APPENDED, SYNCED = 16, 68
 
 TITLE = "How a part is processed"
 DESCRIPTION = (
-    "Time runs down, in three lanes: client, program and log. The client sends three requests. The program reads them as a part, runs it, adds its rows to "
-    "the log and waits for the sync, and then writes the replies. What the client sent meanwhile is the second part. A crash before the sync of a part ends "
-    "leaves none, some or all of its rows, and nobody was answered; a crash after it leaves all of them."
+    "Time runs down, in three lanes: client, program and log. The client sends three requests. The program reads them "
+    "as a part, runs it, adds its rows to the log and waits for the sync, and then writes the replies. What the client "
+    "sent meanwhile is the second part. A crash before the sync of a part ends leaves none, some or all of its rows, "
+    "and nobody was answered; a crash after it leaves all of them."
 )
 
 
-def arrow(x1, x2, y, colour):
+def arrow(x1: float, x2: float, y: float, colour: str) -> Iterator[str]:
     way = 1 if x2 > x1 else -1
     yield line(x1, y, x2 - 6 * way, y, colour, 2)
     yield f'<polygon points="{x2 - 9 * way},{y - 5} {x2 - 9 * way},{y + 5} {x2},{y}" fill="{colour}"/>'
 
 
-def requests(y, count):
+def requests(y: float, count: int) -> Iterator[str]:
     """Records on the client's lane, the last of them at a height."""
     for at in range(count):
         yield box(CLIENT - 10, y - 5 - at * 13, 20, 9, INK, 2)
 
 
-def steps(begin):
+def steps(begin: int) -> list[int]:
     """Where each step of a part begins, and where the last one ends."""
     places = [begin]
     for _, height, _ in STEPS:
@@ -49,9 +52,10 @@ def steps(begin):
     return places
 
 
-def frame():
+def frame() -> Iterator[str]:
     yield text(WIDTH / 2, 28, TITLE, 16, weight="bold")
-    for x, words in ((CLIENT, "client"), (PROGRAM, "program"), (LOG, "log on disk"), ((CRASH + END) / 2, "a crash leaves")):
+    heads = ((CLIENT, "client"), (PROGRAM, "program"), (LOG, "log on disk"), ((CRASH + END) / 2, "a crash leaves"))
+    for x, words in heads:
         yield text(x, 60, words, 13, weight="bold")
     for lane in (CLIENT, PROGRAM, LOG):
         for (begin, _), end in zip(PARTS, (PARTS[1][0] - 30, LAST)):
@@ -60,7 +64,7 @@ def frame():
         yield text(CLIENT + 24, begin - 14, words, 13, "start", GREY, "bold")
 
 
-def part(begin):
+def part(begin: int) -> Iterator[str]:
     read, _, log, reply, _ = places = steps(begin)
     for (name, height, fill), y in zip(STEPS, places):
         yield box(PROGRAM - BOX / 2, y, BOX, height, fill, 4)
@@ -75,7 +79,7 @@ def part(begin):
     yield text((CLIENT + PROGRAM - BOX / 2) / 2 + 4, reply + 10, "replies", 13, fill=BLUE)
 
 
-def clients():
+def clients() -> Iterator[str]:
     (first, _), (second, _) = PARTS
     yield from requests(first + 17, 3)
     waiting = steps(first)[2] + 40
@@ -84,7 +88,7 @@ def clients():
     yield line(CLIENT, waiting + 6, CLIENT, second + 17, GREY, 1.5, "3 4")
 
 
-def crashes():
+def crashes() -> Iterator[str]:
     for at, (begin, _) in enumerate(PARTS):
         log = steps(begin)[2]
         synced, until = log + SYNCED, LAST if at else PARTS[1][0]
@@ -93,14 +97,14 @@ def crashes():
         yield line(LOG + ROW / 2, synced, END, synced, RED, 1.5, "2 3")
 
 
-def left(begin, end, fill, words):
+def left(begin: int, end: int, fill: str, words: Sequence[str]) -> Iterator[str]:
     """What a crash leaves between two moments."""
     yield box(CRASH, begin, END - CRASH, end - begin, fill)
     for at, part_of in enumerate(words):
         yield text((CRASH + END) / 2, (begin + end) / 2 + 5 + 19 * (at - (len(words) - 1) / 2), part_of, 13)
 
 
-def notes():
+def notes() -> Iterator[str]:
     yield text(14, HEIGHT - 34, "At the next start an incomplete last row is moved to FILE.cut;", 13, "start", GREY)
     yield text(14, HEIGHT - 14, "the other rows restore the auction.", 13, "start", GREY)
 

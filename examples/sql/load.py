@@ -3,7 +3,8 @@
 
     rubis_auction --rows OPTIONS < input | examples/sql/load.py --users N --categories N | psql
 
-It reads standard input, keeps all rows in memory, and writes SQL for psql. Serials are counted by worker and kind, as the auction does.
+It reads standard input, keeps all rows in memory, and writes SQL for psql. Serials are counted by worker and kind, as
+the auction does.
 """
 
 import csv
@@ -28,17 +29,20 @@ COLUMNS = {
 ITEM_FIELD = {"bid": 1, "comment": 2, "buynow": 1, "viewitem": 0, "viewbids": 0}
 
 # What is kept beside what it counts.
-COUNTED = """\
-UPDATE items SET
-    bids = (SELECT count(*) FROM bids WHERE (item_worker, item_serial) = (items.worker, items.serial)),
-    remaining = items.quantity - (SELECT coalesce(sum(quantity), 0) FROM purchases WHERE (item_worker, item_serial) = (items.worker, items.serial));
-UPDATE users SET rating = sums.rating, comments = sums.comments
-FROM (SELECT about, sum(stars) AS rating, count(*) AS comments FROM comments GROUP BY about) AS sums WHERE about = id;
-"""
+COUNTED = (
+    "UPDATE items SET\n"
+    "    bids = (SELECT count(*) FROM bids WHERE (item_worker, item_serial) = (items.worker, items.serial)),\n"
+    "    remaining = items.quantity - (SELECT coalesce(sum(quantity), 0) FROM purchases"
+    " WHERE (item_worker, item_serial) = (items.worker, items.serial));\n"
+    "UPDATE users SET rating = sums.rating, comments = sums.comments\n"
+    "FROM (SELECT about, sum(stars) AS rating, count(*) AS comments FROM comments GROUP BY about) AS sums"
+    " WHERE about = id;\n"
+)
 
 
 def values(kind: str, fields: list[str]) -> list[str]:
-    """The fields of a row or request as the columns of its table: an item's id is two, and a quantity that is left out is 1."""
+    """The fields of a row or request as the columns of its table: an item's id is two, and a quantity that is left out
+    is 1."""
     if kind == "item" and len(fields) == 6:
         return [*fields, "1"]
     at = ITEM_FIELD.get(kind)

@@ -1,17 +1,20 @@
 #!/usr/bin/env python3
-"""Executes scripts on PostgreSQL, with a connection for each worker, and writes the history, which `rubis_check` can judge.
+"""Executes scripts on PostgreSQL, with a connection for each worker, and writes the history, which `rubis_check` can
+judge.
 
     createdb auction
     examples/sql/perform.py --database auction [--users N] [--categories N] [--keep | --unlocked] < input > history
     rubis_check --workers N --strict --history history < input
 
-The database has to be empty, since the tables of schema.sql are made there; connections are psql's, so PGHOST and the like hold. Rows are loaded, and then
-each request is a transaction: it locks the objects that it touches, calls a function of transactions.sql, draws a number while it holds the locks, and
-commits. The history is in the order of the numbers.
+The database has to be empty, since the tables of schema.sql are made there; connections are psql's, so PGHOST and the
+like hold. Rows are loaded, and then each request is a transaction: it locks the objects that it touches, calls a
+function of transactions.sql, draws a number while it holds the locks, and commits. The history is in the order of the
+numbers.
 
-With --keep each transaction also writes its line into a table, which in the end is the history. A worker whose connection breaks makes a new one, perhaps to
-another server (three.sh), and looks there whether its request was executed: so each request is executed once. Standard error says how many lines that were
-acknowledged are not in the table.
+With --keep each transaction also writes its line into a table, which in the end is the history. A worker whose
+connection breaks makes a new one, perhaps to another server (three.sh), and looks there whether its request was
+executed: so each request is executed once. Standard error says how many lines that were acknowledged are not in the
+table.
 
 With --unlocked nothing is locked, nor is an item `FOR UPDATE` before it is bought: two buyers may get the last piece.
 """
@@ -92,7 +95,7 @@ def objects(kind: str, fields: list[str]) -> list[str]:
 class Worker:
     """A worker: its script, and a connection, which is a psql that is sent statements and prints what they give."""
 
-    def __init__(self, number: int, script: list[list[str]], asked: argparse.Namespace):
+    def __init__(self, number: int, script: list[list[str]], asked: argparse.Namespace) -> None:
         self.number, self.script, self.asked = number, script, asked
         self.broken = 0
         patiently(asked, self.connect)
@@ -133,8 +136,10 @@ class Worker:
         return line
 
     def find(self, index: int) -> Line | None:
-        """The line of a request that a broken connection has executed. It is written again: so its commit, too, waits for a standby."""
-        found = f"UPDATE history SET reply = reply WHERE worker = {self.number} AND index = {index} RETURNING {LINE} AS line"
+        """The line of a request that a broken connection has executed. It is written again: so its commit, too, waits
+        for a standby."""
+        place = f"worker = {self.number} AND index = {index}"
+        found = f"UPDATE history SET reply = reply WHERE {place} RETURNING {LINE} AS line"
         told = self.hear(*self.begin([]), f"WITH found AS ({found}) SELECT coalesce(max(line), 'none') FROM found")
         self.hear(*COMMIT)
         return None if told == "none" else Line.of(told)
@@ -145,10 +150,13 @@ class Worker:
 
     def locks(self, names: list[str]) -> list[str]:
         """Statements that lock objects until the transaction ends, and print empty lines."""
-        return [] if self.asked.unlocked else [f"SELECT pg_advisory_xact_lock(hashtextextended({quoted(name)}, 0))" for name in names]
+        if self.asked.unlocked:
+            return []
+        return [f"SELECT pg_advisory_xact_lock(hashtextextended({quoted(name)}, 0))" for name in names]
 
     def hear(self, *statements: str) -> str:
-        """Sends statements to the server, in one message, and gives the first line with something on it that they print."""
+        """Sends statements to the server, in one message, and gives the first line with something on it that they
+        print."""
         try:
             self.psql.stdin.write("\\; ".join(statements) + ";\n")
             self.psql.stdin.flush()
@@ -197,7 +205,9 @@ def options() -> argparse.Namespace:
     words.add_argument("--users", type=int, default=100, help="users of the auction [default: 100]")
     words.add_argument("--categories", type=int, default=10, help="categories of the auction [default: 10]")
     one_of = words.add_mutually_exclusive_group()
-    one_of.add_argument("--keep", action="store_true", help="keep the history in a table, and go on after a broken connection")
+    one_of.add_argument(
+        "--keep", action="store_true", help="keep the history in a table, and go on after a broken connection"
+    )
     one_of.add_argument("--unlocked", action="store_true", help="lock nothing")
     asked = words.parse_args()
     installed("psql", "postgresql-client")
@@ -221,7 +231,8 @@ def main() -> None:
     if asked.keep:
         kept = set(map(Line.of, patiently(asked, partial(ask, asked, f"SELECT {LINE} FROM history;"))))
         broken = sum(worker.broken for worker in workers)
-        print(f"{len(lines)} requests acknowledged, {len(lines - kept)} of them lost; {broken} connections broken", file=sys.stderr)
+        told = f"{len(lines)} requests acknowledged, {len(lines - kept)} of them lost; {broken} connections broken"
+        print(told, file=sys.stderr)
         lines = kept
     for line in sorted(lines):
         print(0, *line)
