@@ -32,8 +32,8 @@ abbrev pub HasShownAll : {B : Type 0} → (B → Opening → Book → List (List
 HasShownAll has opening rows board outcome =
     HasShown has opening rows (length outcome.hot.items) outcome.history.entries board
 
--- A board has the first phases of a run of these scripts, from an opening book on, which is refused
--- for this fault.
+-- A board has the first phases of a run of these scripts, from an opening book on, which ends with
+-- this fault.
 abbrev pub HasShownFirst : {B : Type 0} → (B → Opening → Book → List (List Row) → Type 0) →
     (B → Opening → Book → List (List Row) → Type 0) →
     Opening → Book → Policy → List (List Request) → B → RunFault → Type 0

@@ -39,9 +39,9 @@ AreShortFor limit rows scripts = (worker : ℕ) → worker < length scripts →
     (length (script_of scripts worker) ≤ MOST_OF_A_WORKER)
     × (rows_by rows worker + length (script_of scripts worker) ≤ limit)
 
--- A run of scripts begins with a state, from a book: it is one of their workers' rows, which were
--- all their commits, and short together with the scripts; the state stands for it, before a phase
--- 0, over the policy's shards.
+-- A run of scripts begins with a state, from a book. The book has rows of their workers alone, which
+-- were all that these committed, and is short together with the scripts. The state stands for it,
+-- its next phase is 0, and it has the policy's shards.
 pub record BeginsWith (state : JoinedState) (rows : Book) (policy : Policy)
     (scripts : List (List Request)) : Type 0 where
   pub is_book : IsBook state.opening rows

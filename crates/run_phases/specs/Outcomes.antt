@@ -1,4 +1,4 @@
--- The outcome of a run, and what its board has if it is refused.
+-- The outcome of a run, and what its board has if it ends with a fault.
 use Rattle.std.specs.Prelude.{ℕ, ◌≡◌, ◌-◌, ◌⊎◌, List, length}
 use Rattle.auction_rows.specs.{Book.{Book}, History.{ReplaysFrom, book_after}}
 use Rattle.auction_rows.specs.declared.{limits.Policy.Policy, values.Opening.Opening, requests.Object.Object, requests.Request.Request, rows.Row.Row, rows.Entry.Entry}
@@ -36,7 +36,7 @@ pub record IsOutcome (opening : Opening) (rows : Book) (policy : Policy)
   pub counters : length outcome.state.counters ≡ length scripts
 
 -- A board that had these phases before a run of these scripts has the first phases of the run after
--- them, which is refused for this fault. They are all that it was given; or, if no memory was left,
+-- them, and the run ends with this fault. They are all that it was given; or, if no memory was left,
 -- it has them and has refused the next.
 pub record HasShownFirstAfter {B : Type 0}
     (has has_refused : B → Opening → Book → List (List Row) → Type 0) (opening : Opening)

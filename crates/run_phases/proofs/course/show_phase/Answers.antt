@@ -1,5 +1,5 @@
 use Rattle.std.proofs.Common.{rules, sym, subst}
-use Rattle.run_phases.specs.Boards.{CanShow}
+use Rattle.phase_boards.specs.Boards.{CanShow}
 use Rattle.run_phases.proofs.course.show_phase.Goals as goal
 
 pub publish-requires : goal.publish-requires
