@@ -8,7 +8,7 @@ from figures import ALONE, AUCTION, CLIENTS_RATE, FRONT_LOGGED, IN_C, LOCK, PHAS
 from measures import BIDDING, Policy
 
 # The systems that README.md shows, with their names there.
-OF_ONE_THREAD = {ALONE: "plain Rust, no lock, one performing thread", IN_C: "C, in one pass, one thread"}
+OF_ONE_THREAD = {ALONE: "plain Rust, no lock; one thread performs", IN_C: "C, in one pass, one thread"}
 SHOWN = {system: system for system in (AUCTION, UNSPLIT, PHASES, SHARDS)} | OF_ONE_THREAD
 
 PLAIN = (PHASES, SHARDS, LOCK, ALONE)

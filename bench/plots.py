@@ -46,7 +46,7 @@ STYLES = {
 }
 
 # What the legend adds to a system's name.
-GLOSSES = {AUCTION: "proved, with a history", PHASES: "no history", ALONE: "one performing thread"}
+GLOSSES = {AUCTION: "proved, with a history", PHASES: "no history", ALONE: "one thread performs"}
 
 # What the plot by workers shows; the tables have all.
 SHOWN = (AUCTION, UNSPLIT, PHASES, SHARDS, ALONE)
