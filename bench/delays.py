@@ -1,4 +1,4 @@
-"""How long deferred requests wait, as a history shows it: in requests that are answered meanwhile."""
+"""How long stashed requests wait, as a history shows it: in requests that are answered meanwhile."""
 from typing import NamedTuple
 
 # Its worker, and its place in the script.
@@ -6,7 +6,7 @@ Request = tuple[int, int]
 
 
 class Late(NamedTuple):
-    """A deferred request, the phase in which it was asked, and its line."""
+    """A stashed request, the phase in which it was asked, and its line."""
 
     request: Request
     asked: int
@@ -14,14 +14,14 @@ class Late(NamedTuple):
 
 
 def reached(index: int, joined: int, split: int) -> int:
-    """The phase in which a request commits unless it is deferred."""
+    """The phase in which a request commits unless it is stashed."""
     rounds, left = divmod(index, joined + split)
     return 2 * rounds + (left >= joined)
 
 
 def of_history(path: str, joined: int, split: int) -> list[int]:
-    """Of each deferred request, how many lines of the history come between where it was asked and its own: after the
-    last one before it in its script that was not deferred, and in the phase in which it was."""
+    """Of each stashed request, how many lines of the history come between where it was asked and its own: after the
+    last one before it in its script that was not stashed, and in the phase in which it was."""
     line_of: dict[Request, int] = {}
     begun: dict[int, int] = {}
     late: list[Late] = []
@@ -38,7 +38,7 @@ def of_history(path: str, joined: int, split: int) -> list[int]:
 
 
 def before(line_of: dict[Request, int], request: Request) -> int:
-    """The line of the last request before one in its script that was not deferred."""
+    """The line of the last request before one in its script that was not stashed."""
     worker, index = request
     while index >= 0 and (worker, index) not in line_of:
         index -= 1

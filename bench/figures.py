@@ -174,7 +174,7 @@ def by_workers(asked: Namespace) -> list[Wanted]:
 
 
 def executing(asked: Namespace) -> list[Wanted]:
-    """C, in one pass, executes each request as it is read."""
+    """C, in one pass, performs each request as it is read."""
     return [
         Wanted("executing", Setup(system, load, workers, asked.requests, policy_of(system)), EXECUTING)
         for load in LOADS
@@ -193,7 +193,7 @@ def of_processors(asked: Namespace) -> list[Wanted]:
 
 
 def ways_counted(asked: Namespace) -> list[tuple[Load, str, int]]:
-    """What has its counts: with one worker all, with more what executes on as many threads."""
+    """What has its counts: with one worker all, with more what performs requests on as many threads."""
     counts = sorted({1, asked.workers} | (set() if asked.fast else {8}))
     return [
         (load, system, workers)
@@ -366,7 +366,7 @@ def together(systems: Systems, asked: Namespace, names: list[str]) -> list[Figur
 
 
 def late_replies(systems: Systems, asked: Namespace) -> Iterator[Figure]:
-    """For each split quota, how many requests are answered between one that is deferred and its reply."""
+    """For each split quota, how many requests are answered between one that is stashed and its reply."""
     for setup in (one.setup for one in by_delay(asked)):
         found = sorted(systems.delays(setup.load, setup.workers, setup.requests, setup.policy))
         for measure, part in ((DELAY, 0.5), (LATEST, 0.99)) if found else ():

@@ -72,7 +72,7 @@ class Load(NamedTuple):
 
 ONE_ITEM = Load("bids on one item", items=1)
 UNIFORM = Load("bids on 10,000 items")
-# Its views of the one item are deferred where it is hot.
+# Its views of the one item are stashed where it is hot.
 VIEWED = Load("bids on one item, 10 % views", items=1, views=10)
 BIDDING = Load("bidding mix", skew=100, views=85, comments=3, purchases=2, new_items=2)
 
@@ -213,7 +213,7 @@ class Systems:
         return os.path.getsize(path) / 1e6, os.path.getsize(history) / 1e6, seconds, of_scripts_alone, megabytes
 
     def delays(self, load: Load, workers: int, requests: int, policy: Policy) -> list[int]:
-        """Of each deferred request, how many others are answered between it and its reply."""
+        """Of each stashed request, how many others are answered between it and its reply."""
         return delays.of_history(self.history(load, workers, requests, policy), *policy.quotas)
 
     def instructions(self, load: Load, requests: int, policy: Policy) -> list[float]:

@@ -234,7 +234,7 @@ def by_requests(rows: list[Figure], origin: Origin) -> str:
 
 
 class Delay(NamedTuple):
-    """Of a split quota the throughput, and at that the milliseconds until a deferred view is answered."""
+    """Of a split quota the throughput, and at that the milliseconds until a stashed view is answered."""
 
     split: int
     rate: Figure
@@ -243,7 +243,7 @@ class Delay(NamedTuple):
 
 
 def by_delay(rows: list[Figure], origin: Origin) -> str | None:
-    """Throughput against the time until a deferred view is answered, a point for each split quota."""
+    """Throughput against the time until a stashed view is answered, a point for each split quota."""
     most = max(row.workers for row in rows)
     rows = [row for row in rows if row.workers == most]
     is_timed = any(row.measure == EXECUTING for row in rows)

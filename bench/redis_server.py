@@ -1,6 +1,6 @@
 """Bids and views in Redis, for bench/run alone: a server of its own on loopback, a sorted set of the highest bids of
 each item and its counters, a sorted set of the latest items of each category, and a script in Lua for each request,
-which the server executes as one transaction. No load of it has comments or new items."""
+which the server performs as one transaction. No load of it has comments or new items."""
 import shutil
 import socket
 import subprocess

@@ -143,7 +143,7 @@ def by_rates(rows: list[Figure]) -> str:
 
 
 def by_delay(rows: list[Figure]) -> str:
-    """For each split quota the throughput, and how long a deferred view waits: in requests, and at that throughput in
+    """For each split quota the throughput, and how long a stashed view waits: in requests, and at that throughput in
     milliseconds."""
     quotas = plots.quotas_of(rows)
     rates = [figure(rows, measure=EXECUTING, split=split) for split in quotas]
@@ -251,7 +251,7 @@ def all_threads(rows: list[Figure], system: str, workers: int) -> str:
 
 
 def bound(rows: list[Figure], system: str, workers: int) -> str:
-    """Amdahl's, of counts: all that one worker executes over what the longest thread does."""
+    """Amdahl's, of counts: the instructions of one worker over those of the longest thread."""
     of_one = figure(rows, system=system, workers=1, measure=ALL_THREADS)
     return times(of_one, figure(rows, system=system, workers=workers, measure=LONGEST_THREAD)) if workers > 1 else ""
 

@@ -1,5 +1,5 @@
 #!/usr/bin/env python3
-"""An auction of two copies, which executes an input in a random order of the workers and writes its history for
+"""An auction of two copies, which performs an input in a random order of the workers and writes its history for
 `rubis_check`.
 
     python3 examples/small_engine.py INPUT SEED > history

@@ -1,6 +1,6 @@
 #!/usr/bin/env python3
 """Draws a run as an SVG picture: a lane for each worker, a box for each line of its history, and a circle for each
-deferred request in the phase that deferred it. FILE is the output of `rubis_auction --history`; if that of `--report`
+stashed request in the phase that stashed it. FILE is the output of `rubis_auction --history`; if that of `--report`
 is there too, after it or in a file of its own, hot objects are named.
 
     rubis_auction --history --report < INPUT | examples/timeline.py > timeline.svg
@@ -28,9 +28,9 @@ LEFT, RIGHT, TOP = 92, 16, 84
 USUAL_WIDTH, WIDEST, NARROWEST, LEAST_OF_A_PHASE = 1000, 92, 10, 104
 # Narrower boxes have no words.
 WITH_WORDS = 66
-COLOURS = {"write": RED, "view": BLUE, "refused": SLATE}
+COLOURS = {"store": RED, "view": BLUE, "refused": SLATE}
 ORDER = "The serial order is by phase, number and worker."
-WRITES = {"item", "bid", "comment", "buynow"}
+STORES = {"item", "bid", "comment", "buynow"}
 # The template of a page and its scripts.
 PAGE = Path(__file__).with_suffix("")
 # Lines of which a page is made; any other is an unreadable one of the history.
@@ -51,23 +51,23 @@ class Entry(NamedTuple):
 
     def kind(self) -> str:
         word = self.reply.split(" ")[0]
-        return "write" if word in WRITES else "refused" if word == "refused" else "view"
+        return "store" if word in STORES else "refused" if word == "refused" else "view"
 
     def words(self) -> str:
-        """A write with its id, a refusal with its code, of a view only its kind."""
+        """A store with its id, a refusal with its code, of a view only its kind."""
         return " ".join(self.reply.split(" ")[:1 if self.kind() == "view" else 2])
 
 
 class Run(NamedTuple):
     entries: list[Entry]
-    # The phase in which each request is asked, by worker and index: that of its entry, unless it is deferred.
+    # The phase in which each request is asked, by worker and index: that of its entry, unless it is stashed.
     asked: Phases
     hot: dict[int, list[str]]
     # Whether quotas make these phases. Those of `--live` and of other engines are made otherwise.
     by_quotas: bool
 
     def alternates(self) -> bool:
-        """Whether odd phases are known to be split: something is hot, or deferred as quotas have it, which may fit by
+        """Whether odd phases are known to be split: something is hot, or stashed as quotas have it, which may fit by
         chance if nothing is."""
         return bool(self.hot) or self.by_quotas and any(map(self.is_late, self.entries))
 
@@ -120,7 +120,7 @@ def by_order(scripts: Scripts) -> Phases:
 
 
 def split_quota(scripts: Iterable[dict[int, int]], joined: int) -> int:
-    """Joined phases defer nothing, so a script that goes on after phase 2 shows it; of a shorter run only what it is at
+    """Joined phases stash nothing, so a script that goes on after phase 2 shows it; of a shorter run only what it is at
     least."""
     least = 1
     for script in scripts:
@@ -132,7 +132,7 @@ def split_quota(scripts: Iterable[dict[int, int]], joined: int) -> int:
 
 
 def columns_of(own: list[Entry], late: list[Entry]) -> dict[Entry, tuple[int, int]]:
-    """Where the entries of a phase and what it defers are drawn: each (number, 0), or the number before it and a place
+    """Where the entries of a phase and what it stashes are drawn: each (number, 0), or the number before it and a place
     after it."""
     places, last = {entry: (entry.number, 0) for entry in own}, {}
     for entry in sorted(late, key=lambda entry: entry.index):
@@ -235,7 +235,7 @@ class Picture:
                 yield from self.entry(entry, x)
         for (entry, committed), x in self.at.items():
             if not committed:
-                yield from self.deferred(entry, x)
+                yield from self.stashed(entry, x)
 
     def entry(self, entry: Entry, x: float) -> Iterator[str]:
         width, lane = self.column - min(4, self.column / 5), self.lane(entry.worker)
@@ -248,7 +248,7 @@ class Picture:
             yield text(x, lane + 13, f"index {entry.index}", 12, fill=WHITE)
         yield "</g>"
 
-    def deferred(self, entry: Entry, x: float) -> Iterator[str]:
+    def stashed(self, entry: Entry, x: float) -> Iterator[str]:
         """A hollow circle at which it was asked, and its way to the box in which it is answered, if that is drawn."""
         lane, radius = self.lane(entry.worker), min(11, self.column / 2.6)
         answered = self.at.get((entry, True), max(x for pair in self.bounds.values() for x in pair))
@@ -264,7 +264,7 @@ class Picture:
 
     def legend(self) -> Iterator[str]:
         y, x = self.foot + 48, 14
-        for colour, words in ((COLOURS["write"], "store"), (COLOURS["view"], "view"), (COLOURS["refused"], "refused")):
+        for colour, words in ((COLOURS["store"], "store"), (COLOURS["view"], "view"), (COLOURS["refused"], "refused")):
             yield box(x, y - 9, 18, 14, colour, 3) + text(x + 26, y + 3, words, 15, "start")
             x += 56 + 8 * len(words)
         y += 27
@@ -369,7 +369,7 @@ def page(lines: Iterable[bytes], split: int | None, name: str) -> str:
         "history": "\n".join(history),
         "hot": run.hot,
         "alternates": run.alternates(),
-        "deferred": [(at, run.asked[entry.worker, entry.index]) for at, entry in late],
+        "stashed": [(at, run.asked[entry.worker, entry.index]) for at, entry in late],
         "verdict": read_verdict(verdict, history)._asdict() if verdict else None,
     }
     files = ("page.html", "history.js", "draw.js", "act.js")

@@ -4,7 +4,7 @@ and that the referee sees what is lost otherwise.
 
     tests/failover.py [PROGRAM [CHECKER]]
 
-Clients (examples/sql/perform.py --keep) execute a load while one standby falls behind, the primary is killed with
+Clients (examples/sql/perform.py --keep) perform a load while one standby falls behind, the primary is killed with
 signal 9, and the other takes over (examples/sql/three.sh). If commits wait for a standby, five failovers lose nothing
 that was acknowledged, the referee accepts each history, and the tables have the views of the program that is opened
 with the rows of the history. If they do not wait, and both standbys fall behind, the referee names a request that was
@@ -77,7 +77,7 @@ class Servers:
         return said_by(f"psql, asked {text!r}", words, text).splitlines()
 
     def fail_over(self, data: bytes, moment: int, kill: Callable[[Future], None]) -> Outcome:
-        """The history of an input that a new auction executes. The primary is killed after so many requests; from half
+        """The history of an input that a new auction performs. The primary is killed after so many requests; from half
         of them on one standby hears nothing."""
         self.ask("SET client_min_messages = warning; DROP SCHEMA public CASCADE; CREATE SCHEMA public;")
         self.primary = int(self.ask(PRIMARY)[0])

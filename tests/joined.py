@@ -4,9 +4,9 @@ has its own workers and items.
 
     tests/joined.py [PROGRAM [CHECKER]]
 
-A load is dealt to four processes: each executes the requests on the items of four workers, as these workers. Their
+A load is dealt to four processes: each performs the requests on the items of four workers, as these workers. Their
 rows, joined, open an auction with the same rows, byte for byte. Joined in another order they open one with the same
-categories, users and items, and so do the rows of one process that executes all. The referee accepts their joined
+categories, users and items, and so do the rows of one process that performs all. The referee accepts their joined
 histories but for views of categories and users, of which each process knows only its own part; there it names the line.
 """
 
@@ -67,7 +67,7 @@ class Trial:
     def __init__(self, program: Path, checker: Path, folder: Path, tally: Tally) -> None:
         self.program, self.checker, self.folder, self.tally = program, checker, folder, tally
 
-    def execute(self, process: int, given: list[str]) -> Share:
+    def perform(self, process: int, given: list[str]) -> Share:
         log = self.folder / f"rows.{process}"
         got = self.auction(text_of(given), "--history", "--log", log)
         self.tally.check((got.status, got.stderr) == (0, b""), f"process {process}: {described(got)}")
@@ -89,7 +89,7 @@ class Trial:
 
 
 def joined_rows(trial: Trial, shares: list[Share]) -> None:
-    """rows of four processes, which are one auction, in any order, as a log, and as if one process had executed all"""
+    """rows of four processes, which are one auction, in any order, as a log, and as if one process had performed all"""
     rows = [share.rows for share in shares]
     whole = b"".join(rows)
     trial.tally.check(all(rows), "each process has rows")
@@ -165,7 +165,7 @@ def main() -> None:
     with TemporaryDirectory() as folder, ThreadPoolExecutor(PROCESSES) as threads:
         trial = Trial(program, checker, Path(folder), tally)
         given = dealt(load_of(replace(LOAD, seed=seed)))
-        shares = list(threads.map(trial.execute, range(PROCESSES), given))
+        shares = list(threads.map(trial.perform, range(PROCESSES), given))
         for check in (joined_rows, joined_histories):
             tally.tell(check, trial, shares)
     tally.finish()

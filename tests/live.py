@@ -381,17 +381,17 @@ def gets_room(process: subprocess.Popen, pipe: int) -> bool:
 
 
 def short_parts(tester: LiveTester) -> None:
-    """views of what a long part makes hot are deferred, and in parts that are not longer than
+    """views of what a long part makes hot are stashed, and in parts that are not longer than
     the joined phase they are not"""
     data = FIRST[0], *(request for number in range(200) for request in (f"bid,1,0.0,{500 + number},5", "viewitem,0.0"))
-    for most, is_deferred in ((10, False), (1000, True)):
+    for most, is_stashed in ((10, False), (1000, True)):
         got = run(
             [tester.program, "--history", "--live", str(most), "--joined", "64", "--split", "64", "--threshold", "1"],
             "".join(f"0,{request}\n" for request in data).encode(),
         )
         indexes = [int(line.split(b" ")[3]) for line in got.stdout.splitlines()]
         tester.tally.check(
-            sorted(indexes) == [*range(len(data))] and (indexes != sorted(indexes)) == is_deferred,
+            sorted(indexes) == [*range(len(data))] and (indexes != sorted(indexes)) == is_stashed,
             f"parts of {most}: {indexes[60:80]}",
         )
 

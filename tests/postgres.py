@@ -5,7 +5,7 @@
 
 Runs of random inputs leave their rows. Of each item, its bids, each category and each user the view of the
 program, opened with these rows, is compared with the line that examples/sql/lines.sql gives. Then
-examples/sql/perform.py executes random inputs and loads: the referee accepts their histories, and the tables have
+examples/sql/perform.py performs random inputs and loads: the referee accepts their histories, and the tables have
 the views of the program that is opened with the rows of the history, also if connections break all the time. With
 no locks two buyers get the last piece, and the referee names the line. The server is one of its own, in a folder
 of its own; without PostgreSQL nothing is tried.
@@ -141,7 +141,7 @@ class Server:
         return self.ask(tables + loading + views + transactions + lines)
 
     def perform(self, data: bytes, *asked: str) -> Outcome:
-        """The history of an input that a new database executes."""
+        """The history of an input that a new database performs."""
         self.clear()
         place = {"PGHOST": str(self.folder), "PGUSER": "auction", "PGDATABASE": "postgres"}
         return run([sys.executable, "-B", SQL / "perform.py", *MARKET, *asked], data, env=os.environ | place)
@@ -275,7 +275,7 @@ def wait_for(server: Answers, moment: int, performed: Future) -> None:
 
 
 def broken_connections(server: Server, program: Path, checker: Path, rng: random.Random, tally: Tally) -> None:
-    """a history over connections that break, after a commit too: each request is executed once"""
+    """a history over connections that break, after a commit too: each request is performed once"""
     data = load_of(replace(BREAKING, seed=rng.randrange(1 << 32)))
     server.clear()
     with ThreadPoolExecutor() as threads:

@@ -335,7 +335,7 @@ def cut_leader(cluster: Cluster) -> None:
 
 
 def cut_idle_leader(cluster: Cluster) -> None:
-    """It has no write that waits for etcd, and views behind it."""
+    """It has no store that waits for etcd, and views behind it."""
     if cluster.network.spaces:
         leader = cluster.leader()
         cluster.tester.tally.check(cluster.network.cut(leader.number), "an idle machine is cut off")

@@ -238,7 +238,7 @@ def group_commit(tester: FrontTester) -> None:
 
 
 def outcomes(tester: FrontTester) -> None:
-    """a program that is killed: its writes are unknown, its views are asked again, in the order of their requests;
+    """a program that is killed: its stores are unknown, its views are asked again, in the order of their requests;
     and nothing else is disturbed"""
     front = Front(tester, "outcomes", rows=b"0,+bi")
     with front.client() as client, front.client() as other:
@@ -310,7 +310,7 @@ for line in sys.stdin:
 
 
 def full_workers(tester: FrontTester) -> None:
-    """a write past a worker's limit: an error, and the next request is answered"""
+    """a store past a worker's limit: an error, and the next request is answered"""
     front = Front(tester, "full_workers", program=script(tester.folder / "full", IS_FULL))
     with front.client() as client:
         got = client.ask(b"BID 1 0.0 500 5", b"VIEWUSER 0")

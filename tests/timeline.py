@@ -1,5 +1,5 @@
 #!/usr/bin/env python3
-"""Tests examples/timeline.py: its picture has each line of a history and what is deferred, and so has its page
+"""Tests examples/timeline.py: its picture has each line of a history and what is stashed, and so has its page
 (--html), which is a whole document with no outside parts, whatever the lines are, and marks what rubis_check finds
 wrong; and in Chromium, if it is installed, what is drawn, and what keys, the wheel and a search show.
 
@@ -88,7 +88,7 @@ WORDS = [
     ("soft", "panel"),
     ("soft", "split"),
     ("ink", "split"),
-    ("on-write", "write"),
+    ("on-store", "store"),
     ("on-view", "view"),
     ("on-wrong", "wrong"),
     ("on-mark", "mark"),
@@ -96,9 +96,9 @@ WORDS = [
 ]
 SHAPES = [
     (shape, ground)
-    for shape in ("write", "view-edge", "share", "refused-edge", "wrong", "focus")
+    for shape in ("store", "view-edge", "share", "refused-edge", "wrong", "focus")
     for ground in ("ground", "split")
-] + [("write", "view")]
+] + [("store", "view")]
 
 
 class Maker:
@@ -146,7 +146,7 @@ def data_of(page: str) -> dict:
 
 
 def pictures(make: Maker, program: Path) -> None:
-    """pictures of histories: each line once, and each deferred request once more"""
+    """pictures of histories: each line once, and each stashed request once more"""
     tally = make.tally
     history = run([program, *OF_SKEWED, "--report"], SKEWED.read_bytes()).stdout
     lines = [line for line in history.decode().splitlines() if line[0].isdigit()]
@@ -180,7 +180,7 @@ def pictures(make: Maker, program: Path) -> None:
 
 
 def in_order(tally: Tally, shown: dict[str, float], late: dict[str, float]) -> None:
-    """What reaches a phase lies in it from left to right in the order of each script, deferred or not."""
+    """What reaches a phase lies in it from left to right in the order of each script, stashed or not."""
     asked = [(x, *map(int, line.split(" ")[:4])) for line, x in shown.items()]
     asked = [(worker, index, x) for x, phase, _, worker, index in asked if phase == reached(index)]
     asked += [(worker, index, x) for text, x in late.items() for index, worker in [map(int, re.findall(r"\d+", text))]]
@@ -211,7 +211,7 @@ def drawn(tally: Tally, history: bytes, words: list) -> tuple[dict[str, float], 
 
 
 def whole_pages(make: Maker, program: Path) -> None:
-    """a run's page: a whole document with no outside parts, its lines, deferred requests, hot objects and name"""
+    """a run's page: a whole document with no outside parts, its lines, stashed requests, hot objects and name"""
     both = run([program, *OF_SKEWED, "--report"], SKEWED.read_bytes()).stdout
     history, report = re.fullmatch(rb"(.*\n)(phases .*)", both, re.S).groups()
     page = make.page(history, report=report)
@@ -221,7 +221,7 @@ def whole_pages(make: Maker, program: Path) -> None:
     requests = [tuple(map(int, line.split(b" ")[:4])) for line in history.splitlines()]
     asked = [reached(index) for _, _, _, index in requests]
     late = [[at, asked[at]] for at, (phase, *_) in enumerate(requests) if phase > asked[at]]
-    check(late != [] and data["deferred"] == late, f"deferred: {data['deferred']}, not {late}")
+    check(late != [] and data["stashed"] == late, f"stashed: {data['stashed']}, not {late}")
     hot = {words[1]: words[2:] for words in map(str.split, report.decode().splitlines()) if words[0] == "hot"}
     check(hot != {} and data["hot"] == hot and data["verdict"] is None, f"hot: {data['hot']}, not {hot}")
     check(
@@ -406,8 +406,8 @@ def large_pages(make: Maker, program: Path) -> None:
         data["history"].encode() + b"\n" == history and history.count(b"\n") == LARGE, "each line of a large history"
     )
     make.tally.check(took < SECONDS, f"{LARGE} lines took {took:.1f} processor seconds, of at most {SECONDS}")
-    most = len(history) + LARGE + 16 * len(data["deferred"]) + (64 << 10)
-    make.tally.check(data["deferred"] != [] and len(page) <= most, f"the page has {len(page)} bytes, of at most {most}")
+    most = len(history) + LARGE + 16 * len(data["stashed"]) + (64 << 10)
+    make.tally.check(data["stashed"] != [] and len(page) <= most, f"the page has {len(page)} bytes, of at most {most}")
 
 
 def pressed(*keys: str) -> str:
@@ -441,7 +441,7 @@ def drawn_small(make: Maker, browser: Browser) -> None:
     check, report = make.tally.check, (EXAMPLES / "contended.report").read_bytes()
     root = browser.opened(make.page(CONTENDED, report=report), MEASURE)
     boxes = [(int(box.attributes["data-line"]), box.of_tag("rect")[0].attributes) for box in root.of_class("box")]
-    kinds = ["write", "view", "write", "view", "write", "write", "write", "view late"]
+    kinds = ["store", "view", "store", "view", "store", "store", "store", "view late"]
     check([(number, shape["class"]) for number, shape in boxes] == list(enumerate(kinds, 1)), f"boxes: {boxes}")
     sizes = json.loads(root.of_tag("body")[0].attributes["data-sizes"])
     check(
@@ -452,7 +452,7 @@ def drawn_small(make: Maker, browser: Browser) -> None:
     check(places == sorted(places) and len(set(places)) == 8, f"from left to right, and down: {places}")
     circles = [
         (circle.attributes["data-line"], float(circle.of_tag("circle")[0].attributes["cx"]))
-        for circle in root.of_class("deferral")
+        for circle in root.of_class("stashing")
     ]
     check(
         [line for line, _ in circles] == ["8"] and places[5][0] < circles[0][1] < places[6][0],
@@ -477,7 +477,7 @@ def drawn_small(make: Maker, browser: Browser) -> None:
         row.insert(5, asked)
     check(rows == wanted, f"the list: {rows}")
     check(
-        root.by_id("facts").text() == "8 lines, 2 workers, 3 phases, 5 writes, 3 views, 0 refused, 1 deferred.",
+        root.by_id("facts").text() == "8 lines, 2 workers, 3 phases, 5 stores, 3 views, 0 refused, 1 stashed.",
         root.by_id("facts").text(),
     )
 
@@ -488,7 +488,7 @@ def drawn_run(make: Maker, browser: Browser, history: bytes) -> None:
     for box in root.of_class("box"):
         shape = box.of_tag("rect")[0].attributes
         shown[lines[int(box.attributes["data-line"]) - 1]] = float(shape["x"]) + float(shape["width"]) / 2
-    for circle in root.of_class("deferral"):
+    for circle in root.of_class("stashing"):
         _, _, worker, index, _ = lines[int(circle.attributes["data-line"]) - 1].split(" ", 4)
         late[f"index {index} of worker {worker}, stashed"] = float(circle.of_tag("circle")[0].attributes["cx"])
     make.tally.check(list(shown) == lines and late != {}, f"{len(shown)} boxes of {len(lines)} lines")
@@ -529,7 +529,7 @@ def drawn_hostile(make: Maker, browser: Browser) -> None:
 
 def drawn_large(make: Maker, browser: Browser, page: str) -> None:
     data, check = data_of(page), make.tally.check
-    lines, late = data["history"].split("\n"), [at + 1 for at, _ in data["deferred"]]
+    lines, late = data["history"].split("\n"), [at + 1 for at, _ in data["stashed"]]
     bids = [number for number, line in enumerate(lines, 1) if line.endswith(" bid 2.77")]
     stages = [
         "",
@@ -550,7 +550,7 @@ def drawn_large(make: Maker, browser: Browser, page: str) -> None:
     )
     check(
         again["told"].startswith(f"line {late[1]}: ") and not again["boxes"],
-        f"the second deferred request, and the whole run: {again}",
+        f"the second stashed request, and the whole run: {again}",
     )
 
 

@@ -1,5 +1,5 @@
 #!/usr/bin/env python3
-"""Executes scripts on PostgreSQL, with a connection for each worker, and writes the history, which `rubis_check` can
+"""Performs scripts on PostgreSQL, with a connection for each worker, and writes the history, which `rubis_check` can
 judge.
 
     createdb auction
@@ -13,7 +13,7 @@ numbers.
 
 With --keep each transaction also writes its line into a table, which in the end is the history. A worker whose
 connection breaks makes a new one, perhaps to another server (three.sh), and looks there whether its request was
-executed: so each request is executed once. Standard error says how many lines that were acknowledged are not in the
+performed: so each request is performed once. Standard error says how many lines that were acknowledged are not in the
 table.
 
 With --unlocked nothing is locked, nor is an item `FOR UPDATE` before it is bought: two buyers may get the last piece.
@@ -104,27 +104,27 @@ class Worker:
         self.psql = Popen(psql(self.asked), stdin=PIPE, stdout=PIPE, stderr=PIPE, text=True)
         self.hear("SELECT 'connected'")
 
-    def perform(self) -> list[Line]:
+    def perform_script(self) -> list[Line]:
         """The lines of the script's requests, each of which has committed."""
         lines = [self.line(index, request) for index, request in enumerate(self.script)]
         self.psql.communicate()
         return lines
 
     def line(self, index: int, request: list[str]) -> Line:
-        """Executes a request, through however many connections."""
+        """Performs a request, through however many connections."""
         try:
-            return self.execute(index, request)
+            return self.perform(index, request)
         except ConnectionError as error:
             if not self.asked.keep:
                 raise SystemExit(f"worker {self.number}: {error}")
         self.broken += 1
-        return patiently(self.asked, partial(self.find_or_execute, index, request))
+        return patiently(self.asked, partial(self.find_or_perform, index, request))
 
-    def find_or_execute(self, index: int, request: list[str]) -> Line:
+    def find_or_perform(self, index: int, request: list[str]) -> Line:
         self.connect()
-        return self.find(index) or self.execute(index, request)
+        return self.find(index) or self.perform(index, request)
 
-    def execute(self, index: int, request: list[str]) -> Line:
+    def perform(self, index: int, request: list[str]) -> Line:
         kind, *fields = request
         reply = self.hear(*self.begin(objects(kind, fields)), f"SELECT {call(self.number, kind, fields)}")
         # Nobody sees a new item before the commit; whoever looked for it before has committed once its lock is had.
@@ -136,7 +136,7 @@ class Worker:
         return line
 
     def find(self, index: int) -> Line | None:
-        """The line of a request that a broken connection has executed. It is written again: so its commit, too, waits
+        """The line of a request that a broken connection has performed. It is written again: so its commit, too, waits
         for a standby."""
         place = f"worker = {self.number} AND index = {index}"
         found = f"UPDATE history SET reply = reply WHERE {place} RETURNING {LINE} AS line"
@@ -227,7 +227,7 @@ def main() -> None:
         end(str(fault))
     workers = [Worker(number, script, asked) for number, script in enumerate(scripts)]
     with ThreadPoolExecutor(len(workers)) as threads:
-        lines = {line for lines in threads.map(Worker.perform, workers) for line in lines}
+        lines = {line for lines in threads.map(Worker.perform_script, workers) for line in lines}
     if asked.keep:
         kept = set(map(Line.of, patiently(asked, partial(ask, asked, f"SELECT {LINE} FROM history;"))))
         broken = sum(worker.broken for worker in workers)

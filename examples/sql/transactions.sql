@@ -2,7 +2,7 @@
 --
 -- At "read committed" a transaction changes at most one row that other workers change too, an item's or a user's, and holds it until it commits. What else it
 -- reads never changes, except how many pieces are left, which only falls, so that a refusal stays right; a view is STABLE, so that it reads one snapshot. So
--- the transactions are serializable: writes in the order of their commits, views and refusals as of what they read.
+-- the transactions are serializable: stores in the order of their commits, views and refusals as of what they read.
 --
 -- take_serial comes from schema.sql. Two sessions that write as one worker wait for each other's commits.
 

@@ -29,14 +29,14 @@ function move(part) {
     redraw();
 }
 
-// Words with an equals sign and `deferred` are of the line; the others together are of its reply, in which numbers are whole.
+// Words with an equals sign and `stashed` are of the line; the others together are of its reply, in which numbers are whole.
 function finder(query) {
     const tests = [], words = [];
     for (const word of query.trim().split(/ +/)) {
         const [, field, value] = /^(line|phase|number|worker|index|kind)=(\S+)$/.exec(word) ?? [];
         if (field === "line") tests.push((line) => line.at + 1 === Number(value));
         else if (field) tests.push((line) => line[field] === value);
-        else if (word === "deferred") tests.push((line) => line.asked);
+        else if (word === "stashed") tests.push((line) => line.asked);
         else words.push(word);
     }
     const phrase = words.join(" "), plain = phrase.replace(/[.*+?^${}()|[\]\\]/g, "\\$&");
@@ -91,7 +91,7 @@ function lineAt(event) {
     const lane = Math.floor((event.clientY - byId("lanes").getBoundingClientRect().top - TOP + 3) / laneHeight);
     const isThere = (one) => x >= 0 && (one.line ?? one).lane === lane && one.x <= column && column < one.x + reach;
     const near = lines.slice(firstOf(lines, (line) => line.x + reach > column), firstOf(lines, (line) => line.x > column));
-    return near.find(isThere) ?? deferred.find(isThere)?.line;
+    return near.find(isThere) ?? stashed.find(isThere)?.line;
 }
 
 function tell(event) {
@@ -171,10 +171,10 @@ function sayVerdict() {
 }
 
 function sayFacts() {
-    const [writes, views, refused, unreadable] = KINDS.map((kind) => lines.filter((line) => line.kind === kind).length);
+    const [stores, views, refused, unreadable] = KINDS.map((kind) => lines.filter((line) => line.kind === kind).length);
     const known = workers.filter((worker) => worker !== null).length;
-    const facts = [counted(lines.length, "line"), counted(known, "worker"), counted(segments.length, "phase"), counted(writes, "write"), counted(views, "view"),
-        counted(refused, "refused", ""), counted(deferred.length, "deferred", ""), ...(unreadable ? [counted(unreadable, "unreadable", "")] : [])].join(", ");
+    const facts = [counted(lines.length, "line"), counted(known, "worker"), counted(segments.length, "phase"), counted(stores, "store"), counted(views, "view"),
+        counted(refused, "refused", ""), counted(stashed.length, "stashed", ""), ...(unreadable ? [counted(unreadable, "unreadable", "")] : [])].join(", ");
     byId("facts").textContent = `${facts}.`;
     byId("lanes").setAttribute("aria-label", `Lanes by worker: ${facts}. The list below has every line.`);
     byId("lanes").style.height = `${height + 2}px`;

@@ -40,7 +40,7 @@ function settle() {
 
 function describe(line) {
     if (line.kind === "unreadable") return `line ${line.at + 1} is unreadable: ${line.reply}`;
-    const asked = line.asked ? `, deferred in phase ${line.asked.phase}` : "";
+    const asked = line.asked ? `, stashed in phase ${line.asked.phase}` : "";
     return `line ${line.at + 1}: phase ${line.phase}, number ${line.number}, worker ${line.worker}, index ${line.index}${asked}: ${line.reply}`;
 }
 
@@ -78,10 +78,10 @@ function ticks(places, below) {
 }
 
 function drawShares() {
-    return [...shares(view, lanes, (lane) => middleOf(lane) - half, 2 * half), ticks(deferred, half + 2), ticks(state.matches, -half - 7)];
+    return [...shares(view, lanes, (lane) => middleOf(lane) - half, 2 * half), ticks(stashed, half + 2), ticks(state.matches, -half - 7)];
 }
 
-// ---- From near: a box for each line, and a circle for each deferred request in the phase that deferred it
+// ---- From near: a box for each line, and a circle for each stashed request in the phase that stashed it
 
 // Of a view only its kind, as far as there is room.
 function wordsOf(line) {
@@ -107,9 +107,9 @@ function circle(one) {
     const { line } = one, y = middleOf(line.lane), under = y + half + 5, radius = Math.min(half - 2, view.scale / 2.6);
     const [begin, end] = [one, line].map((either) => clamp(-9, middleX(either), view.width + 9));
     const down = begin === middleX(one) ? y + radius : under, up = end === middleX(line) ? y + half : under;
-    const group = svg("g", { class: dimmed(line, line === state.chosen ? "deferral is-chosen" : "deferral"), "data-line": line.at + 1 },
+    const group = svg("g", { class: dimmed(line, line === state.chosen ? "stashing is-chosen" : "stashing"), "data-line": line.at + 1 },
         svg("path", { class: "way", d: `M${begin} ${down}V${under}H${end}V${up}` }),
-        svg("circle", { class: line === state.chosen ? "deferred chosen" : "deferred", cx: middleX(one), cy: y, r: radius }));
+        svg("circle", { class: line === state.chosen ? "stashed chosen" : "stashed", cx: middleX(one), cy: y, r: radius }));
     if (view.scale >= WITH_NUMBER && half >= TWO_LINES && line.index.length < 4) group.append(text(middleX(one), y + 4, line.index, "middle"));
     return group;
 }
@@ -123,7 +123,7 @@ function drawNumbers(seen) {
 
 function drawBoxes() {
     const seen = lines.slice(firstOf(lines, ({ x }) => x + 1 > view.left), firstOf(lines, ({ x }) => x >= right()));
-    const late = deferred.filter((one) => isSeen(one) || isSeen(one.line) || one.line === state.chosen);
+    const late = stashed.filter((one) => isSeen(one) || isSeen(one.line) || one.line === state.chosen);
     const way = seen.map((line) => `${middleX(line).toFixed(1)} ${middleOf(line.lane)}`).join("L");
     const order = view.scale >= WITH_NUMBER && way ? [svg("path", { class: "order", d: `M${way}` })] : [];
     return [...order, ...seen.map(box), ...late.map(circle), ...drawNumbers(seen)];

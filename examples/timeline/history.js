@@ -1,8 +1,8 @@
 // The lines of a history, their lanes and their columns.
 "use strict";
 
-const WRITES = new Set(["item", "bid", "comment", "buynow"]);
-const KINDS = ["write", "view", "refused", "unreadable"];
+const STORES = new Set(["item", "bid", "comment", "buynow"]);
+const KINDS = ["store", "view", "refused", "unreadable"];
 const MOST_LANES = 64;
 const data = JSON.parse(document.getElementById("data").textContent);
 const verdict = data.verdict;
@@ -18,13 +18,13 @@ function firstOf(array, passes) {
     return low;
 }
 
-// ---- Lines, their lanes, and deferred requests
+// ---- Lines, their lanes, and stashed requests
 
 function readLine(line, at) {
     const found = /^(\d{1,20}) (\d{1,20}) (\d{1,20}) (\d{1,20}) (.*)$/s.exec(line);
     if (!found) return { at, kind: "unreadable", phase: null, number: null, worker: null, index: null, reply: line };
     const [, phase, number, worker, index, reply] = found, word = reply.split(" ", 1)[0];
-    const kind = WRITES.has(word) ? "write" : word === "refused" ? "refused" : "view";
+    const kind = STORES.has(word) ? "store" : word === "refused" ? "refused" : "view";
     return { at, kind, phase, number, worker, index, reply };
 }
 
@@ -33,12 +33,12 @@ const workers = [...new Set(lines.map((line) => line.worker))].sort((one, other)
 const lanes = Math.min(workers.length, MOST_LANES);
 const laneOf = new Map(workers.map((worker, at) => [worker, Math.min(at, lanes - 1)]));
 for (const line of lines) line.lane = laneOf.get(line.worker);
-const deferred = data.deferred.map(([at, phase]) => (lines[at].asked = { line: lines[at], phase: String(phase) }));
+const stashed = data.stashed.map(([at, phase]) => (lines[at].asked = { line: lines[at], phase: String(phase) }));
 const wrong = verdict?.line ? lines[verdict.line - 1] : null;
 
-// ---- Columns: one for each number of a phase, and more for what the phase defers
+// ---- Columns: one for each number of a phase, and more for what the phase stashes
 
-// Lines of a phase that follow each other, an unreadable one with those before it. A phase that only defers has none.
+// Lines of a phase that follow each other, an unreadable one with those before it. A phase that only stashes has none.
 function segmentsOf() {
     const segments = [];
     let { phase } = lines.find((line) => line.phase !== null);
@@ -49,7 +49,7 @@ function segmentsOf() {
         line.segment.lines.push(line);
     }
     const first = new Map(segments.map((segment) => [segment.phase, segment]).reverse());
-    for (const one of deferred) {
+    for (const one of stashed) {
         if (!first.has(one.phase)) {
             first.set(one.phase, { phase: one.phase, lines: [], late: [] });
             segments.splice(segments.indexOf(one.line.segment), 0, first.get(one.phase));
@@ -82,8 +82,8 @@ function byWorker(segment) {
     return groups.values();
 }
 
-// A deferred request is after the column of what its worker committed before it. Counts the columns that this takes before each column, and after the last.
-function placeDeferred({ own, late }, extra) {
+// A stashed request is after the column of what its worker committed before it. Counts the columns that this takes before each column, and after the last.
+function placeStashed({ own, late }, extra) {
     let next = 0, before = 0, count = 0;
     for (const one of late) {
         for (; next < own.length && own[next].index - one.line.index < 0; next++) {
@@ -96,7 +96,7 @@ function placeDeferred({ own, late }, extra) {
 
 function place(segment, begin) {
     const columns = placeLines(segment), extra = new Uint32Array(columns + 1), starts = new Float64Array(columns + 2);
-    for (const group of byWorker(segment)) placeDeferred(group, extra);
+    for (const group of byWorker(segment)) placeStashed(group, extra);
     for (let column = 0; column <= columns; column++) starts[column + 1] = starts[column] + extra[column] + 1;
     for (const line of segment.lines) line.x = begin + starts[line.column] + extra[line.column];
     for (const one of segment.late) one.x = begin + starts[one.before] + one.place;

@@ -136,7 +136,7 @@ class Start:
                 counts[int(worker)] += 1
         return start
 
-    def writes(self) -> list[str]:
+    def stores(self) -> list[str]:
         return [self.requests[worker, index] for worker, index, text in self.history if is_stored(text)]
 
 
@@ -178,15 +178,15 @@ def against_time(starts: list[Start], outcome: Outcome) -> str:
 
 
 def log_is_exact(starts: list[Start], log: list[str]) -> str:
-    """Behind the rows that a start began with are the answered writes of its history, and then at most what was under
+    """Behind the rows that a start began with are the answered stores of its history, and then at most what was under
     way, but nothing at the end."""
     ends = [*(len(start.rows) for start in starts[1:]), len(log)]
     for start, end in zip(starts, ends):
-        rows, writes = len(start.rows), start.writes()
-        if log[:rows] != start.rows or list(map(fields, log[rows : rows + len(writes)])) != list(map(fields, writes)):
-            return f"start {start.number}: the log has other rows than the answered writes"
-        if not 0 <= end - rows - len(writes) <= CLIENTS * PIPELINE * (start is not starts[-1]):
-            return f"start {start.number}: {end - rows - len(writes)} rows behind the answered writes"
+        rows, stores = len(start.rows), start.stores()
+        if log[:rows] != start.rows or list(map(fields, log[rows : rows + len(stores)])) != list(map(fields, stores)):
+            return f"start {start.number}: the log has other rows than the answered stores"
+        if not 0 <= end - rows - len(stores) <= CLIENTS * PIPELINE * (start is not starts[-1]):
+            return f"start {start.number}: {end - rows - len(stores)} rows behind the answered stores"
     return ""
 
 
