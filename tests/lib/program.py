@@ -84,8 +84,13 @@ def run_typed(command: list, typed: bytes, **how: Any) -> Outcome:
 
 
 def was_running(session: int) -> bool:
-    """Whether something of a session was running. It is no more."""
+    """Whether something of a session is still there after a while. It is no more. What has ended is there until it is
+    waited for, which may take a second or two where its parent ended before it."""
+    until = time.monotonic() + 5
     try:
+        while time.monotonic() < until:
+            os.killpg(session, 0)
+            time.sleep(0.01)
         os.killpg(session, signal.SIGKILL)
     except ProcessLookupError:
         return False
