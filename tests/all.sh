@@ -1,19 +1,39 @@
 #!/usr/bin/env bash
 # All tests: `rt ci`, and then the scripts beside this one on the programs that it built. The last line counts them all.
 #
-#     tests/all.sh            all tests
-#     tests/all.sh --built    only the scripts, on programs and tests that are built
+#     tests/all.sh                   all tests
+#     tests/all.sh --since COMMIT    and the edits (tests/edits.py) of crates that changed since, or above such crates
+#     tests/all.sh --built           only the scripts, on programs and tests that are built
 #
-# The first line tells the commit, whether the tree has changes, the kit, and when; the sums of the programs follow `rt ci`, for tests/package.sh.
-# Six scripts run beside the others; what they said is printed after them.
+# A line tells the commit, whether the tree has changes, the kit, and when; the sums of the programs follow `rt ci`, for tests/package.sh.
+# Seven scripts run beside the others; what they said is printed after them.
 set -euo pipefail
 cd "$(dirname "$0")/.."
-case "$*" in
-    "" | --built) ;;
-    *)
-        echo "all.sh: takes no words but --built" >&2
-        exit 2
+
+refuse() {
+    echo "all.sh: $1" >&2
+    exit 2
+}
+
+must_be_built() {
+    [ -x "$1" ] || refuse "--built: there is no $1, which \`rt ci\` builds"
+}
+
+how=${1:-} edits=(--read)
+case "$how $#" in
+    " 0") ;;
+    "--since 2")
+        git rev-parse -q --verify "$2^{commit}" > /dev/null || refuse "git knows no commit $2"
+        edits=(--since "$2")
         ;;
+    "--built 1")
+        for crate in crates/*; do
+            name=$(basename "$crate")
+            [ ! -e "$crate/src/main.rt" ] || must_be_built "$crate/out/$name"
+            ! grep -rqF '#[test]' "$crate/src" || must_be_built "$crate/out/${name}_tests"
+        done
+        ;;
+    *) refuse "takes no words but --since COMMIT or --built" ;;
 esac
 said=$(mktemp -d)
 trap 'kill $(jobs -p) 2> /dev/null || true; rm -rf "$said"' EXIT
@@ -21,13 +41,15 @@ trap 'kill $(jobs -p) 2> /dev/null || true; rm -rf "$said"' EXIT
 tree="no changes"
 [ -z "$(git status --porcelain 2>&1)" ] || tree="changes"
 echo "commit $(git rev-parse HEAD 2> /dev/null || echo unknown), $tree, $(rt version 2> /dev/null || echo unknown), $(date -u +%FT%TZ)"
-if [ "${1:-}" != --built ]; then
-    # A lane a processor, where there are 4 GB for each: a check here takes half of the memory that rt sets aside for it.
-    lanes=$(awk -v most="$(nproc)" '/^MemAvailable/ { fits = int($2 / 4000000); print fits < 1 ? 1 : fits < most ? fits : most }' /proc/meminfo)
-    RT_JOBS=${RT_JOBS:-$lanes} rt ci | tee "$said/rt_ci"
+RT_JOBS=$(PYTHONPATH=tests python3 -B -c 'from lib.kit import lanes; print(lanes())')
+export RT_JOBS
+if [ "$how" != --built ]; then
+    rt ci | tee "$said/rt_ci"
     sha256sum crates/{rubis_auction/out/rubis_auction,rubis_check/out/rubis_check,rubis_load/out/rubis_load}
 fi
-beside="second_opinion tutorial must_be_spent timeline failover terminals"
+echo "== tests/edits.py ${edits[*]}"
+python3 -B tests/edits.py "${edits[@]}" 2>&1 | tee "$said/edits" || true
+beside="second_opinion tutorial must_be_spent edits_tests timeline failover terminals"
 for script in $beside; do
     python3 -B "tests/$script.py" > "$said/$script" 2>&1 &
 done

@@ -33,7 +33,7 @@ facts_of_log() {
         /^== / { crate = / its tests$/ ? "" : $2 }
         /^logic=proved / && crate && !proved { match($0, / functions=[0-9]+/); functions[crate] = substr($0, RSTART + 11, RLENGTH - 11) }
         /^rt: [a-z0-9_]+ proved$/ { crates++ }
-        /^rt: must-fail .*: refused, as it must be/ { edits++ }
+        /^(rt: must-fail )?[a-z0-9_]+\/[A-Za-z0-9_.-]+\.edit: refused/ { edits++ }
         /^rt: ok; / { proved = 1 }
         { last = $0 }
         END {
@@ -45,7 +45,7 @@ facts_of_log() {
             print "logic: " substr(kit, index(kit, "logic ") + 6)
             print "crates proved: " crates
             print "functions proved: " sum
-            print "must-fail edits refused: " edits + 0
+            print "edits refused: " edits + 0
             print "crates, edits and tests: " last
         }' "$log"
 }

@@ -45,17 +45,21 @@ rt: rubis_load: its tests passed
 rt: ok; handles allowed: Threads
 5 passed, 0 failed
 {sums}
+== tests/edits.py --since HEAD~1
+rubis_check/takes_any_reply.edit: refused: `search` did not prove `returns`
+rubis_load/draws_none.edit: refused, as it must be: note: src/main.rt:7:1: it is not proved (alone)
+2 passed, 0 failed
 == tests/documents.py
 1000 passed, 0 failed
-1005 passed, 0 failed
+1007 passed, 0 failed
 """
 TOLD = f"""gate: tests/all.sh, begun {AT}
 kit: rattle-kit-0 logic 0123abcd
 logic: 0123abcd
 crates proved: 2
 functions proved: 42
-must-fail edits refused: 3
-crates, edits and tests: 1005 passed, 0 failed
+edits refused: 5
+crates, edits and tests: 1007 passed, 0 failed
 """
 
 
@@ -221,8 +225,8 @@ def logs(tally: Tally, clone: Clone) -> None:
         (not_of_it, clone.git("rev-parse", "HEAD"), "0" * 40),
         (not_of_it, "no changes", "changes"),
         (not_well, "rt: ok", "rt: FAILED"),
-        (not_well, "1005 passed, 0", "1005 passed, 1"),
-        (not_well, "1005 passed, 0 failed\n", "== tests/joined.py\n"),
+        (not_well, "1007 passed, 0", "1007 passed, 1"),
+        (not_well, "1007 passed, 0 failed\n", "== tests/joined.py\n"),
         *((f"is not of this crates/{name}/out/{name}", sum_of(name), "0" * 64) for name in PROGRAMS),
     )
     for why, old, new in altered:

@@ -24,7 +24,7 @@ PRINTED = re.compile(r"(?m)^It prints,.*\n\n((?:    .*\n)+)")
 
 def copy_of_sources(folder: Path) -> None:
     """The crates as a clone has them, with nothing built."""
-    shutil.copytree(CRATES, folder / "crates", ignore=shutil.ignore_patterns("out", "must-fail", "proofs"))
+    shutil.copytree(CRATES, folder / "crates", ignore=shutil.ignore_patterns("out", "must-fail", "edits", "proofs"))
     shutil.copy(ROOT / "crates.txt", folder)
 
 

@@ -12,7 +12,7 @@ from pathlib import Path
 from subprocess import PIPE, Popen, TimeoutExpired, check_call
 from typing import Any, Callable, IO
 
-from command_line import executable, parser_of
+from command_line import end, executable, parser_of
 from lib.model import Outcome
 
 LIB = Path(__file__).resolve().parent
