@@ -4,6 +4,7 @@
 #     tests/all.sh                   all tests
 #     tests/all.sh --since COMMIT    and the edits (tests/edits.py) of crates that changed since, or above such crates
 #     tests/all.sh --built           only the scripts, on programs and tests that are built
+#     tests/all.sh --unproved        the same on programs and tests that it builds with no proof, and these tests
 #
 # A line tells the commit, whether the tree has changes, the kit, and when; the sums of the programs follow `rt ci`, for tests/package.sh.
 # Seven scripts run beside the others; what they said is printed after them.
@@ -16,12 +17,12 @@ refuse() {
 }
 
 must_be_built() {
-    [ -x "$1" ] || refuse "--built: there is no $1, which \`rt ci\` builds"
+    [ -x "$1" ] || refuse "--built: there is no $1, which \`rt ci\` builds; --unproved builds all with no proof"
 }
 
 how=${1:-} edits=(--read)
 case "$how $#" in
-    " 0") ;;
+    " 0" | "--unproved 1") ;;
     "--since 2")
         git rev-parse -q --verify "$2^{commit}" > /dev/null || refuse "git knows no commit $2"
         edits=(--since "$2")
@@ -33,17 +34,25 @@ case "$how $#" in
             ! grep -rqF '#[test]' "$crate/src" || must_be_built "$crate/out/${name}_tests"
         done
         ;;
-    *) refuse "takes no words but --since COMMIT or --built" ;;
+    *) refuse "takes no words but --since COMMIT, --built or --unproved" ;;
 esac
-said=$(mktemp -d)
-trap 'kill $(jobs -p) 2> /dev/null || true; rm -rf "$said"' EXIT
+room=$(mktemp -d)
+trap 'kill $(jobs -p) 2> /dev/null || true; rm -rf "$room"' EXIT
+said=$room/said
+mkdir "$said"
+unset UNPROVED
 
+[ "$how" != --unproved ] || echo "NOTHING IS PROVED HERE: programs and tests are built with no proof"
 tree="no changes"
 [ -z "$(git status --porcelain 2>&1)" ] || tree="changes"
 echo "commit $(git rev-parse HEAD 2> /dev/null || echo unknown), $tree, $(rt version 2> /dev/null || echo unknown), $(date -u +%FT%TZ)"
 RT_JOBS=$(PYTHONPATH=tests python3 -B -c 'from lib.kit import lanes; print(lanes())')
 export RT_JOBS
-if [ "$how" != --built ]; then
+if [ "$how" = --unproved ]; then
+    export UNPROVED=$room/programs
+    echo "== tests/unproved.py"
+    python3 -B tests/unproved.py "$UNPROVED" 2>&1 | tee "$said/unproved" || true
+elif [ "$how" != --built ]; then
     rt ci | tee "$said/rt_ci"
     sha256sum crates/{rubis_auction/out/rubis_auction,rubis_check/out/rubis_check,rubis_load/out/rubis_load}
 fi
@@ -63,6 +72,7 @@ for script in $beside; do
     cat "$said/$script"
 done
 
+[ "$how" != --unproved ] || echo "NOTHING WAS PROVED HERE: programs and tests were built with no proof"
 # A script that does not end with its count has failed, and so has a must-fail edit that `rt ci` lets pass though it shows little of a contract: one that
 # is refused only by a limit, or as a search gave up. `rt ci` prints the first 160 characters of each refusal: `search` gave up may end at its first
 # letters, and goals behind the first stay unseen.

@@ -19,7 +19,7 @@ from subprocess import SubprocessError
 
 from lib.checks import SEEN, VIEW, AuctionTester, each_output, main, with_shim
 from lib.model import Options, Outcome, expected
-from lib.program import become_nobody, fault, run
+from lib.program import UNPROVED, become_nobody, fault, run
 from lib.records import BYTE_ORDER_MARK
 
 UNREAD = fault(2, "input cannot be read")
@@ -276,6 +276,8 @@ def require_no_fork() -> None:
 
 def small_stacks(tester: AuctionTester) -> None:
     """a stack of 128 KB, also live with a log, and with that log again"""
+    if UNPROVED:
+        return tester.tally.skip(small_stacks.__doc__, "a build with no proof has larger frames")
     options, log = Options(workers=2, split=2), tester.folder / "small"
     answered, rows = expected(tester.example, options), expected(tester.example, replace(options, rows=True)).stdout
     logged = ("--live", "1", "--log", log)

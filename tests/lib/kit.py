@@ -1,4 +1,5 @@
-"""The kit's own functions, for what its commands do not do: checks over the libraries that `rt ci` left."""
+"""The kit's own functions, for what its commands do not do: checks over the libraries that `rt ci` left, and programs
+with no proof."""
 
 import os
 import re
