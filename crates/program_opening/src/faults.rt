@@ -4,7 +4,6 @@ ghost use Rattle.byte_texts.specs.declared.writing.WriteFault.{WriteFault};
 ghost use Rattle.program_opening.specs.Faults.{status, parser_words};
 
 use crate::log_file::LogFileFault;
-use auction_run::RunFault;
 use auction_text::ReadFault;
 use auction_window::MakeFault;
 use byte_texts::WriteFault;
@@ -12,6 +11,7 @@ use item_shards::ResumeFault;
 use part_log::{LogFault, TellFault};
 use phase_floor::AddFault;
 use program_options::UsageFault;
+use run_phases::RunFault;
 use std::io::Write;
 use thiserror::Error;
 

@@ -7,7 +7,6 @@ mod log_file;
 mod opening;
 mod options;
 
-pub use auction_run::RunFault;
 pub use auction_text::{Cause, ReadFault};
 pub use auction_window::MakeFault;
 pub use byte_texts::WriteFault;
@@ -20,3 +19,4 @@ pub use options::{Options, read_options};
 pub use part_log::{FileLog, LogFault, NamedFile};
 pub use phase_floor::{AddFault, Joined};
 pub use program_options::UsageFault;
+pub use run_phases::RunFault;

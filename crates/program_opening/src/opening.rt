@@ -5,8 +5,8 @@ ghost use Rattle.program_opening.specs.Options.{AreInRange, FitsOptions};
 
 use crate::faults::Fault;
 use crate::options::Options;
-use auction_run::RunFault;
 use phase_floor::Joined;
+use run_phases::RunFault;
 use std::alloc::Global;
 
 /// The auction that the options ask for, in which nothing is stored, and which lasts. It fails only

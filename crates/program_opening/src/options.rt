@@ -7,8 +7,7 @@ ghost use Rattle.program_options.specs.declared.words.UsageFault.{UsageFault};
 ghost use Rattle.program_opening.specs.Options.{AreInRange};
 ghost use Rattle.program_opening.specs.Words.{SayOptions, SaysEnd, is_fast, program};
 
-use auction_rows::{MOST_HOT, MOST_SHARDS, MOST_WORKERS, Opening};
-use auction_run::Policy;
+use auction_rows::{MOST_HOT, MOST_SHARDS, MOST_WORKERS, Opening, Policy};
 use clap::{Arg, ArgMatches, Command};
 use program_options::{
     Description, FROM_ONE, FROM_ZERO, NumberRange, UsageFault, described_file, described_flag,
