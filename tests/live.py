@@ -25,7 +25,7 @@ from contextlib import contextmanager, suppress
 from pathlib import Path
 from typing import Callable, Iterator
 
-from lib.checks import AuctionTester, make_all
+from lib.checks import AuctionTester, make_all, with_shim
 from lib.model import Outcome
 from lib.program import (
     BUILT,
@@ -40,6 +40,7 @@ from lib.program import (
     run,
     run_typed,
 )
+from lib.records import BYTE_ORDER_MARK
 from lib.sessions import (
     FIRST,
     ITEMS,
@@ -170,6 +171,19 @@ def faulty_lines(tester: LiveTester) -> None:
                 (got.status, got.stdout.decode(), got.stderr.decode()) == (2, first, told),
                 f"{line[:40]!r} with {ends}: {described(got)}",
             )
+
+
+@with_shim
+def cut_lines(tester: LiveTester) -> None:
+    """lines with a fault, behind a mark of byte order, of which each read gives few bytes: the same answers"""
+    for line, words, is_named in FAULTY:
+        data = BYTE_ORDER_MARK + f"0,viewuser,0\n{line}\n0,viewuser,0\n".encode()
+        answer = f"0,1,fault record 2: {words}\n" if is_named else ""
+        told = "" if is_named else f"rubis_auction: record 2: {words}\n"
+        wanted = Outcome(0, f"0,0,{SEEN}\n{answer}0,1,{SEEN}\n".encode(), told.encode())
+        for most in (1, 2, 7):
+            got = run([tester.program, "--live", "1"], data, env=tester.limited({"READ_AT_MOST": most}))
+            tester.same(f"{line[:40]!r}, {most} bytes a read", got, wanted)
 
 
 def ends_without_live(tester: LiveTester) -> None:
@@ -495,6 +509,7 @@ CHECKS = (
     terminals,
     clients,
     faulty_lines,
+    cut_lines,
     ends_without_live,
     faulty_rows,
     answered_faults,

@@ -36,7 +36,7 @@ LAYERS = {
     "programs": {
         "application_loads": 78, "example_ledger": 212, "program_progress": 490, "program_opening": 680,
         "window_speed": 830, "program_serving": 700, "auction_program": 680, "load_program": 985, "check_program": 336,
-        "rubis_auction": 640, "rubis_load": 985, "rubis_check": 336,
+        "rubis_auction": 640, "rubis_load": 985, "rubis_check": 336, "text_tests": 850,
     },
     "examples and tests": {
         "example_bank": 66, "example_likes": 182, "example_vase": 297, "example_phases": 410, "engine_tests": 525,

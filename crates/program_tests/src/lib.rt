@@ -1,11 +1,11 @@
-//! Tests of texts, of the log and of the program's library by their public calls.
+//! Tests of the program's library by its public calls.
 #![tactic(auto)]
 
 #[cfg(test)]
-mod logs;
+mod failing_tests;
 #[cfg(test)]
-mod program;
+mod limit_tests;
+#[cfg(test)]
+mod running_tests;
 #[cfg(test)]
 mod testing;
-#[cfg(test)]
-mod text;

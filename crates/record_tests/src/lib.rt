@@ -11,5 +11,3 @@ mod rule_tests;
 mod shard_tests;
 #[cfg(test)]
 mod split_tests;
-#[cfg(test)]
-mod value_tests;

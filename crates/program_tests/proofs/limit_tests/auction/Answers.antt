@@ -1,5 +1,5 @@
 use Rattle.std.proofs.{Common.{[], arith}, lemmas.Result.{IfOk-at_ok}}
-use Rattle.program_tests.proofs.program.limit_tests.auction.Goals as goal
+use Rattle.program_tests.proofs.limit_tests.auction.Goals as goal
 
 pub returns : goal.returns
 returns g c = record {

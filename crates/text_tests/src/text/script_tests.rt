@@ -1,6 +1,6 @@
 //! The rows and scripts of a whole input.
 use auction_rows::Request;
-use auction_text::{Cause, ReadFault, read_scripts};
+use auction_text::read_scripts;
 use test_values::{VIEW, VIEW_OF_BIDS, bid};
 
 // The requests of the two stand among one another.
@@ -26,19 +26,4 @@ fn each_worker_has_its_requests_in_their_order(rt: HostRuntime) {
     ];
     assert_eq!(rt; second.as_slice(), of_second.as_slice());
     assert_eq!(rt; input.rows.len(), 1);
-}
-
-#[test]
-fn an_input_with_a_fault_gives_no_scripts(rt: HostRuntime) {
-    let inputs: [(&[u8], ReadFault); 2] = [
-        (b"0,viewuser,4\n2,viewuser,4\n", ReadFault::Worker(2)),
-        (
-            b"0,viewuser,4\n\n1,viewuser\n",
-            ReadFault::Line(2, Cause::Fields),
-        ),
-    ];
-    for (text, fault) in inputs {
-        let got = read_scripts(rt.alloc(), text, 2).err();
-        assert_eq!(rt; got, Some(fault));
-    }
 }

@@ -1,6 +1,6 @@
 //! Faults to which the built program can't be brought. The others stand in tests/limits.py, ends.py
 //! and refused_memory.py.
-use crate::testing::{extend, line_of};
+use crate::testing::line_of;
 use auction_program::{AddFault, Fault, status, write_fault};
 use auction_rows::{Refusal, Reply};
 use auction_run::RunFault;
@@ -15,7 +15,7 @@ use std::process::Abort;
 fn assert_told(rt: &impl Abort, alloc: Global, fault: Fault, words: &[u8]) {
     let mut wanted = Vec::new(alloc);
     for part in [b"rubis_auction: ".as_slice(), words, b"\n"] {
-        extend(rt, &mut wanted, part);
+        wanted.extend_from_slice(part).expect(rt, "memory");
     }
     assert_eq!(rt; status(&fault), 3);
     let line = line_of(rt, alloc, &Err(fault));
@@ -56,7 +56,7 @@ fn a_refused_row_is_told_in_the_words_of_replies(rt: HostRuntime) {
         Refusal::NotEnough,
     ] {
         let mut words = Vec::new(rt.alloc());
-        extend(&rt, &mut words, b"row 3: ");
+        words.extend_from_slice(b"row 3: ").expect(&rt, "memory");
         push_reply(&mut words, &Reply::Refused(reason)).expect(&rt, "memory");
         let refused = Fault::Row(3, AddFault::Refused(reason));
         assert_told(&rt, rt.alloc(), refused, words.as_slice());

@@ -1,6 +1,6 @@
 use Rattle.std.proofs.Common.{[]}
-use Rattle.auction_program.proofs.StartLemmas.{new_start}
-use Rattle.program_tests.proofs.logs.opening_tests.auction.Goals as goal
+use Rattle.program_opening.proofs.StartLemmas.{new_start}
+use Rattle.text_tests.proofs.logs.opening_tests.auction.Goals as goal
 
 pub returns-in-Ok-clause-start : goal.returns-in-Ok-clause-start
 returns-in-Ok-clause-start c =
