@@ -1,40 +1,25 @@
-//! The examples of applications in plain Rust, with nothing proved: for `bench/applications` only.
+//! Users who like pages in plain Rust, with nothing proved: for `bench/applications` only.
 //!
-//!     applications likes|bank --mode=records|lock|alone [options of the example]
+//!     applications --mode=records|lock|alone|draw [--workers=N] [--requests=N] [--skew=N] ..
 //!
-//! It draws the same requests as the example with these options, and keeps each worker's replies.
-//! It keeps no history, so it has less to do and can give no account of its order.
+//! It draws likes and views, and keeps each worker's replies. It keeps no history, so it has less to
+//! do than `example_likes` and can give no account of its order.
 //!
 //! - `records`: a thread for each worker, and a lock for each record, in a cache line of its own.
 //!   A request takes those of its records in ascending order.
 //! - `lock`: a thread for each worker, one lock around all records.
 //! - `alone`: no lock; one thread performs 64 requests of each worker in turn.
+//! - `draw`: performs nothing, and writes the requests as `example_likes` reads them.
 //!
-//! Scripts are in memory, replies have room from the start, and records are found by their place.
+//! Scripts are in memory, replies have room from the start, and records are found by their place:
+//! first the users, then the pages.
+use std::io::{self, BufWriter, Write};
 use std::iter;
 use std::sync::Mutex;
 use std::thread;
 use std::time::{Duration, Instant};
 
-const USAGE: &str = "applications likes|bank --mode=records|lock|alone [--option=N ..]";
-
-/// An application: a request names one or two records.
-trait Application {
-    type Record: Copy + Send;
-    type Request: Copy + Sync;
-    type Reply: Send;
-
-    fn keys(request: Self::Request) -> (usize, usize);
-
-    /// Performs a request on its records. The second is none if it is the first.
-    fn perform(
-        request: Self::Request,
-        first: &mut Self::Record,
-        second: Option<&mut Self::Record>,
-    ) -> Self::Reply;
-}
-
-// ---- likes
+const USAGE: &str = "applications --mode=records|lock|alone|draw [--option=N ..]";
 
 #[derive(Clone, Copy)]
 struct Tally {
@@ -43,196 +28,102 @@ struct Tally {
 }
 
 #[derive(Clone, Copy)]
-enum LikeRequest {
-    Like { user: u32, page: u32, time: u64 },
-    View { user: u32, page: u32 },
+enum Kind {
+    Like { time: u64 },
+    View,
+}
+
+#[derive(Clone, Copy)]
+struct Request {
+    user: u32,
+    page: u32,
+    kind: Kind,
 }
 
 #[allow(dead_code)]
-enum LikeReply {
+enum Reply {
     Liked,
     Viewed { likes: u64, last: Option<u64> },
 }
 
-struct Likes;
-
-impl Application for Likes {
-    type Record = Tally;
-    type Request = LikeRequest;
-    type Reply = LikeReply;
-
-    fn keys(request: LikeRequest) -> (usize, usize) {
-        match request {
-            LikeRequest::Like { user, page, .. } | LikeRequest::View { user, page } => {
-                (user as usize, page as usize)
-            }
-        }
-    }
-
-    fn perform(request: LikeRequest, user: &mut Tally, page: Option<&mut Tally>) -> LikeReply {
-        let page = page.expect("no user is a page");
-        match request {
-            LikeRequest::Like { time, .. } => {
+impl Request {
+    fn perform(self, user: &mut Tally, page: &mut Tally) -> Reply {
+        match self.kind {
+            Kind::Like { time } => {
                 user.last = user.last.max(Some(time));
                 page.likes += 1;
-                LikeReply::Liked
+                Reply::Liked
             }
-            LikeRequest::View { .. } => LikeReply::Viewed {
+            Kind::View => Reply::Viewed {
                 likes: page.likes,
                 last: user.last,
             },
         }
     }
-}
 
-// ---- the bank
-
-#[derive(Clone, Copy)]
-struct Account {
-    held: u64,
-    is_open: bool,
-}
-
-#[derive(Clone, Copy)]
-enum BankRequest {
-    Deposit { to: u32, amount: u32 },
-    Transfer { from: u32, to: u32, amount: u32 },
-    Balance { of: u32 },
-}
-
-#[allow(dead_code)]
-enum BankReply {
-    Done,
-    Closed,
-    NotEnough,
-    Holds(u64),
-}
-
-struct Bank;
-
-impl Application for Bank {
-    type Record = Account;
-    type Request = BankRequest;
-    type Reply = BankReply;
-
-    fn keys(request: BankRequest) -> (usize, usize) {
-        match request {
-            BankRequest::Transfer { from, to, .. } => (from as usize, to as usize),
-            BankRequest::Deposit { to: of, .. } | BankRequest::Balance { of } => {
-                (of as usize, of as usize)
-            }
-        }
-    }
-
-    fn perform(request: BankRequest, first: &mut Account, to: Option<&mut Account>) -> BankReply {
-        match request {
-            BankRequest::Deposit { amount, .. } => {
-                if !first.is_open {
-                    return BankReply::Closed;
-                }
-                first.held += u64::from(amount);
-                BankReply::Done
-            }
-            BankRequest::Transfer { amount, .. } => {
-                let amount = u64::from(amount);
-                if !first.is_open || to.as_ref().is_some_and(|to| !to.is_open) {
-                    return BankReply::Closed;
-                }
-                if first.held < amount {
-                    return BankReply::NotEnough;
-                }
-                if let Some(to) = to {
-                    first.held -= amount;
-                    to.held += amount;
-                }
-                BankReply::Done
-            }
-            BankRequest::Balance { .. } => BankReply::Holds(first.held),
-        }
-    }
-}
-
-// ---- tables
-
-/// Performs a request on two places of a table.
-fn perform_at<A: Application>(table: &mut [A::Record], request: A::Request) -> A::Reply {
-    match A::keys(request) {
-        (first, second) if first == second => A::perform(request, &mut table[first], None),
-        (first, second) => {
-            let [first, second] = table
-                .get_disjoint_mut([first, second])
-                .expect("two keys of the table");
-            A::perform(request, first, Some(second))
-        }
+    fn perform_at(self, table: &mut [Tally]) -> Reply {
+        let [user, page] = table
+            .get_disjoint_mut([self.user as usize, self.page as usize])
+            .expect("no user is a page");
+        self.perform(user, page)
     }
 }
 
 /// What several threads perform requests on.
-trait Shared<A: Application>: Sync {
-    fn new(records: Vec<A::Record>) -> Self;
-    fn perform(&self, request: A::Request) -> A::Reply;
-    fn records(self) -> Vec<A::Record>;
+trait Shared: Sync {
+    fn new(records: Vec<Tally>) -> Self;
+    fn perform(&self, request: Request) -> Reply;
+    fn records(self) -> Vec<Tally>;
 }
 
-struct OneLock<T>(Mutex<Vec<T>>);
+struct OneLock(Mutex<Vec<Tally>>);
 
-impl<A: Application> Shared<A> for OneLock<A::Record> {
-    fn new(records: Vec<A::Record>) -> Self {
+impl Shared for OneLock {
+    fn new(records: Vec<Tally>) -> Self {
         OneLock(Mutex::new(records))
     }
 
-    fn perform(&self, request: A::Request) -> A::Reply {
-        perform_at::<A>(&mut self.0.lock().expect("no thread panics"), request)
+    fn perform(&self, request: Request) -> Reply {
+        request.perform_at(&mut self.0.lock().expect("no thread panics"))
     }
 
-    fn records(self) -> Vec<A::Record> {
+    fn records(self) -> Vec<Tally> {
         self.0.into_inner().expect("no thread panicked")
     }
 }
 
 /// A lock with no other in its cache line.
 #[repr(align(64))]
-struct RecordLock<T>(Mutex<T>);
+struct RecordLock(Mutex<Tally>);
 
-struct RecordLocks<T>(Vec<RecordLock<T>>);
+struct RecordLocks(Vec<RecordLock>);
 
-impl<A: Application> Shared<A> for RecordLocks<A::Record> {
-    fn new(records: Vec<A::Record>) -> Self {
+impl Shared for RecordLocks {
+    fn new(records: Vec<Tally>) -> Self {
         let locks = records.into_iter().map(Mutex::new).map(RecordLock);
         RecordLocks(locks.collect())
     }
 
-    fn perform(&self, request: A::Request) -> A::Reply {
-        let (first, second) = A::keys(request);
-        let lock = |key: usize| self.0[key].0.lock().expect("no thread panics");
-        if first == second {
-            return A::perform(request, &mut lock(first), None);
-        }
-        let (low, high) = (first.min(second), first.max(second));
-        let (mut low_held, mut high_held) = (lock(low), lock(high));
-        if first == low {
-            A::perform(request, &mut low_held, Some(&mut *high_held))
-        } else {
-            A::perform(request, &mut high_held, Some(&mut *low_held))
-        }
+    fn perform(&self, request: Request) -> Reply {
+        let lock = |key: u32| self.0[key as usize].0.lock().expect("no thread panics");
+        // Users have the lower keys.
+        let (mut user, mut page) = (lock(request.user), lock(request.page));
+        request.perform(&mut user, &mut page)
     }
 
-    fn records(self) -> Vec<A::Record> {
-        let taken = |lock: RecordLock<A::Record>| lock.0.into_inner().expect("no thread panicked");
+    fn records(self) -> Vec<Tally> {
+        let taken = |lock: RecordLock| lock.0.into_inner().expect("no thread panicked");
         self.0.into_iter().map(taken).collect()
     }
 }
 
 /// The records after all scripts, and how long these took, by a thread for each but the first, whose
 /// part the caller does.
-fn run_shared<A: Application, T: Shared<A>>(
-    records: Vec<A::Record>,
-    scripts: &[Vec<A::Request>],
-) -> (Vec<A::Record>, Duration) {
+fn run_shared<T: Shared>(records: Vec<Tally>, scripts: &[Vec<Request>]) -> (Vec<Tally>, Duration) {
     let table = T::new(records);
     let begun = Instant::now();
-    let replies: Vec<Vec<A::Reply>> = thread::scope(|scope| {
-        let work = |script: &[A::Request]| -> Vec<A::Reply> {
+    let replies: Vec<Vec<Reply>> = thread::scope(|scope| {
+        let work = |script: &[Request]| -> Vec<Reply> {
             script.iter().map(|one| table.perform(*one)).collect()
         };
         let (first, others) = scripts.split_first().expect("at least a worker");
@@ -253,12 +144,9 @@ fn run_shared<A: Application, T: Shared<A>>(
 const TURN: usize = 64;
 
 /// The same by one thread, without locks.
-fn run_alone<A: Application>(
-    mut records: Vec<A::Record>,
-    scripts: &[Vec<A::Request>],
-) -> (Vec<A::Record>, Duration) {
+fn run_alone(mut records: Vec<Tally>, scripts: &[Vec<Request>]) -> (Vec<Tally>, Duration) {
     let begun = Instant::now();
-    let mut replies: Vec<Vec<A::Reply>> = scripts
+    let mut replies: Vec<Vec<Reply>> = scripts
         .iter()
         .map(|script| Vec::with_capacity(script.len()))
         .collect();
@@ -266,7 +154,7 @@ fn run_alone<A: Application>(
     for begin in (0..longest).step_by(TURN) {
         for (script, own) in scripts.iter().zip(&mut replies) {
             let turn = script.iter().skip(begin).take(TURN);
-            own.extend(turn.map(|one| perform_at::<A>(&mut records, *one)));
+            own.extend(turn.map(|one| one.perform_at(&mut records)));
         }
     }
     let spent = begun.elapsed();
@@ -274,7 +162,7 @@ fn run_alone<A: Application>(
     (records, spent)
 }
 
-// ---- loads, drawn as the proved programs draw them
+// ---- loads
 
 struct Draws(u64);
 
@@ -367,8 +255,6 @@ struct Options {
     views: u32,
     users: u32,
     pages: u32,
-    accounts: u32,
-    transfers: u32,
 }
 
 impl Options {
@@ -381,15 +267,11 @@ impl Options {
             views: 10,
             users: 1000,
             pages: 1000,
-            accounts: 1000,
-            transfers: 0,
         };
         for word in words {
             let (name, value) = word.split_once('=')?;
             match name {
                 "--mode" => options.mode = value.to_string(),
-                // Of phases there are none.
-                "--joined" | "--split" | "--threshold" => {}
                 _ => *options.number_of(name)? = value.parse().ok()?,
             }
         }
@@ -404,86 +286,58 @@ impl Options {
             "--views" => Some(&mut self.views),
             "--users" => Some(&mut self.users),
             "--pages" => Some(&mut self.pages),
-            "--accounts" => Some(&mut self.accounts),
-            "--transfers" => Some(&mut self.transfers),
             _ => None,
         }
     }
 
     /// A script for each worker.
-    fn scripts<T>(&self, mut drawn: impl FnMut(&mut Draws, u64) -> T) -> Vec<Vec<T>> {
+    fn scripts(&self) -> Vec<Vec<Request>> {
+        let pages = Popularity::new(self.pages, self.skew);
         let each = u64::from(self.requests / self.workers);
         let mut draws = Draws(1);
-        let mut script = |_| (0..each).map(|time| drawn(&mut draws, time)).collect();
-        (0..self.workers).map(&mut script).collect()
-    }
-
-    fn like_scripts(&self) -> Vec<Vec<LikeRequest>> {
-        let pages = Popularity::new(self.pages, self.skew);
-        self.scripts(|draws, time| {
+        let mut drawn = |time| {
             let user = draws.below(self.users);
             let page = self.users + draws.rank(&pages);
-            if draws.below(100) < self.views {
-                return LikeRequest::View { user, page };
-            }
-            LikeRequest::Like { user, page, time }
-        })
+            let kind = if draws.below(100) < self.views {
+                Kind::View
+            } else {
+                Kind::Like { time }
+            };
+            Request { user, page, kind }
+        };
+        (0..self.workers)
+            .map(|_| (0..each).map(&mut drawn).collect())
+            .collect()
     }
 
-    fn bank_scripts(&self) -> Vec<Vec<BankRequest>> {
-        let accounts = Popularity::new(self.accounts, self.skew);
-        self.scripts(|draws, _| {
-            let to = draws.rank(&accounts);
-            let amount = draws.below(100);
-            let drawn = draws.below(100);
-            if drawn < self.views {
-                return BankRequest::Balance { of: to };
-            }
-            if drawn < self.views + self.transfers {
-                let from = draws.rank(&accounts);
-                return BankRequest::Transfer { from, to, amount };
-            }
-            BankRequest::Deposit { to, amount }
-        })
-    }
-
-    fn run<A: Application>(
-        &self,
-        record: A::Record,
-        count: u32,
-        scripts: &[Vec<A::Request>],
-    ) -> (Vec<A::Record>, Duration) {
-        let records = vec![record; count as usize];
-        match self.mode.as_str() {
-            "records" => run_shared::<A, RecordLocks<A::Record>>(records, scripts),
-            "lock" => run_shared::<A, OneLock<A::Record>>(records, scripts),
-            "alone" => run_alone::<A>(records, scripts),
-            _ => stop(),
-        }
-    }
-
-    /// How long likes took, and the likes of each page times its number.
-    fn likes(&self) -> (Duration, u64) {
+    /// The records after all scripts, and how long these took.
+    fn run(&self, scripts: &[Vec<Request>]) -> (Vec<Tally>, Duration) {
         let none = Tally {
             likes: 0,
             last: None,
         };
-        let scripts = self.like_scripts();
-        let (tallies, spent) = self.run::<Likes>(none, self.users + self.pages, &scripts);
-        let pages = tallies.iter().skip(self.users as usize).zip(1..);
-        (spent, pages.map(|(page, number)| page.likes * number).sum())
+        let records = vec![none; (self.users + self.pages) as usize];
+        match self.mode.as_str() {
+            "records" => run_shared::<RecordLocks>(records, scripts),
+            "lock" => run_shared::<OneLock>(records, scripts),
+            "alone" => run_alone(records, scripts),
+            _ => stop(),
+        }
     }
+}
 
-    /// How long the bank took, and what all accounts hold.
-    fn bank(&self) -> (Duration, u64) {
-        let funded = Account {
-            held: 1_000_000,
-            is_open: true,
-        };
-        let scripts = self.bank_scripts();
-        let (accounts, spent) = self.run::<Bank>(funded, self.accounts, &scripts);
-        (spent, accounts.iter().map(|account| account.held).sum())
+/// Writes one script after the other.
+fn draw(scripts: &[Vec<Request>]) -> io::Result<()> {
+    let mut output = BufWriter::new(io::stdout().lock());
+    for (worker, script) in scripts.iter().enumerate() {
+        for Request { user, page, kind } in script {
+            match kind {
+                Kind::Like { time } => writeln!(output, "{worker},like,{user},{page},{time}")?,
+                Kind::View => writeln!(output, "{worker},view,{user},{page}")?,
+            }
+        }
     }
+    output.flush()
 }
 
 fn stop() -> ! {
@@ -491,15 +345,18 @@ fn stop() -> ! {
     std::process::exit(1)
 }
 
-fn main() {
-    let mut words = std::env::args().skip(1);
-    let name = words.next().unwrap_or_else(|| stop());
-    let options = Options::of_words(words).unwrap_or_else(|| stop());
-    let (spent, sum) = match name.as_str() {
-        "likes" => options.likes(),
-        "bank" => options.bank(),
-        _ => stop(),
-    };
-    let requests = options.requests / options.workers * options.workers;
+fn main() -> io::Result<()> {
+    let options = Options::of_words(std::env::args().skip(1)).unwrap_or_else(|| stop());
+    let scripts = options.scripts();
+    if options.mode == "draw" {
+        return draw(&scripts);
+    }
+    let (tallies, spent) = options.run(&scripts);
+    let requests: usize = scripts.iter().map(Vec::len).sum();
+    let sum: u64 = (0..)
+        .zip(&tallies)
+        .map(|(number, page)| number * page.likes)
+        .sum();
     println!("{requests} requests: {spent:?}, sum {sum}");
+    Ok(())
 }

@@ -1,6 +1,6 @@
 #!/usr/bin/env python3
 """Shows that the tools do as they say: bench/tune, whose command has to run, bench/starts, the help of example_watch
-and window_speed, loads of applications, man pages, bench/applications, the sentences of bench/claims.py, and what each
+and window_speed, likes, man pages, bench/applications, the sentences of bench/claims.py, and what each
 script says of wrong words, of what is not there, and of an interruption.
 
     tests/tools.py [PROGRAM]
@@ -305,55 +305,53 @@ def lines_of_help(said: str) -> list[str]:
     return [" ".join(line.split()) for line in words.splitlines() if line]
 
 
-# Loads of applications, of 4,000 requests, and what they leave by any number of workers and any policy: likes of page
-# 1, or what 100 accounts hold at first.
-LEFT = {
-    "example_likes": (
-        ("--pages=1 --views=0", 4000),
-        ("--pages=1 --views=100", 0),
-        ("--pages=1 --views=0 --threshold=8 --users=1", 4000),
-    ),
-    "example_bank": (
-        ("--accounts=100 --views=100", 100_000_000),
-        ("--accounts=100 --views=0 --transfers=100", 100_000_000),
-    ),
-}
+# Inputs of example_likes of 4,000 requests, and what they leave by any number of workers and any policy: the likes of
+# each page times its number.
+LIKES = (
+    ("like,{user},1000,{at}", "--threshold=0", 4_000_000),
+    ("view,{user},1000", "--threshold=0", 0),
+    ("like,0,1000,{at}", "--threshold=8", 4_000_000),
+)
 
 
 def loads_of_applications(tally: Tally, _program: Path) -> None:
-    """loads of applications, and their help"""
-    for name, loads in LEFT.items():
-        program = built(name)
-        helps.help_and_version(tally, program, name, None)
-        for words, sum_left in loads:
-            for workers in (1, 4):
-                got = run([program, "--requests=4000", f"--workers={workers}", *words.split()])
-                right = re.fullmatch(rf"4000 requests: [0-9.]+(s|ms|µs|ns), sum {sum_left}\n", got.stdout.decode())
-                tally.check(got.status == 0 and bool(right), f"{name} {words}, {workers} workers: {described(got)}")
+    """likes, the help of their program, and lines that are none"""
+    program = built("example_likes")
+    helps.help_and_version(tally, program, "example_likes", None)
+    for line, word, sum_left in LIKES:
+        for workers in (1, 4):
+            lines = (f"{at % workers},{line.format(user=at % 1000, at=at)}\n" for at in range(4000))
+            got = run([program, "--time", word], "".join(lines).encode())
+            right = re.fullmatch(rf"4000 requests: [0-9.]+(s|ms|µs|ns), sum {sum_left}\n", got.stdout.decode())
+            tally.check(got.status == 0 and bool(right), f"{line} {word}, {workers} workers: {described(got)}")
+    for line in ("0,like,0,1", "0,view,0,x", "0,share,0,1", "64,view,0,1", "", "0,view,0,2000"):
+        got = run([program], f"0,view,0,1\n{line}\n".encode())
+        is_told = got.status == 1 and not got.stdout and is_line(got.stderr, Path("example_likes"))
+        tally.check(is_told, f"{line}: {described(got)}")
 
 
 def figures_of_applications(tally: Tally, _program: Path) -> None:
     """figures, plot and page of bench/applications, also drawn again; and a program that prints none"""
     if shutil.which("rustc") is None:
         return tally.skip("bench/applications", "rustc is not installed")
-    words = [*PYTHON, APPLICATIONS, "--likes", built("example_likes"), "--bank"]
+    words = [*PYTHON, APPLICATIONS, "--program"]
     with TemporaryDirectory() as folder:
         written = [
             Path(folder) / "docs" / name
             for name in ("APPLICATIONS.md", "performance/applications.csv", "performance/applications.svg")
         ]
-        got = run([*words, built("example_bank"), "--requests", "4000", "--tries", "2", "--out", folder])
+        got = run([*words, built("example_likes"), "--requests", "4000", "--tries", "2", "--out", folder])
         tally.check(got.status == 0 and all(path.exists() for path in written), f"bench/applications: {described(got)}")
         first = [path.read_bytes() for path in written]
-        # Two lines of heads, and of each of six loads three systems by four counts of workers, and one without locks.
-        tally.check(first[1].count(b"\n") == 2 + 6 * (3 * 4 + 1), f"lines of applications.csv: {first[1]!r}")
+        # Two lines of heads, and of each of four loads three systems by four counts of workers, and one without locks.
+        tally.check(first[1].count(b"\n") == 2 + 4 * (3 * 4 + 1), f"lines of applications.csv: {first[1]!r}")
         got = run([*PYTHON, APPLICATIONS, "--draw", "--out", folder])
         tally.same("bench/applications --draw", got, Outcome(0, b"", b""))
         tally.check([path.read_bytes() for path in written] == first, "bench/applications --draw writes the same")
     got = run([*words, "/bin/true", "--requests", "4000", "--tries", "1", "--fast"])
     tally.check(
-        got.status == 1 and b"/bin/true --workers=1 --requests=4000" in got.stderr.splitlines()[-1],
-        f"bench/applications of no bank: {described(got)}",
+        got.status == 1 and b"/bin/true --time" in got.stderr.splitlines()[-1],
+        f"bench/applications of no likes: {described(got)}",
     )
 
 

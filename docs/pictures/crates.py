@@ -24,7 +24,7 @@ LAYERS = {
     },
     "engine": {
         "job_threads": 320, "split_engine": 180, "application_check": 245, "application_tests": 325,
-        "application_window": 85, "example_window": 85, "ruled_cell": 800, "shard_boxes": 690, "auction_shards": 770,
+        "application_window": 85, "ruled_cell": 800, "shard_boxes": 690, "auction_shards": 770,
         "worker_slices": 600, "phase_transactions": 600, "phase_permits": 600, "closing_laws": 640, "phase_floor": 630,
         "phase_workers": 420, "run_phases": 560, "auction_run": 560,
     },
@@ -34,7 +34,7 @@ LAYERS = {
         "history_check": 230,
     },
     "programs": {
-        "application_loads": 78, "example_ledger": 212, "program_progress": 490, "program_opening": 680,
+        "example_ledger": 212, "program_progress": 490, "program_opening": 680,
         "window_speed": 830, "program_serving": 700, "auction_program": 680, "load_program": 985, "check_program": 336,
         "rubis_auction": 640, "rubis_load": 985, "rubis_check": 336, "text_tests": 850,
     },

@@ -1,22 +1,20 @@
-//! A bank: three workers perform requests over three accounts, each on a thread, and a referee
-//! judges two histories; or a load, by its options.
+//! A bank: three workers perform requests over three accounts, each on a thread. A window shows an
+//! account as the history is published, and a referee judges two histories.
 #![tactic(auto)]
 
 mod bank;
-mod load;
+mod watching;
 
 use crate::bank::BankRequest::{Balance, Close, Deposit, Transfer};
 use crate::bank::{Account, Bank, BankReply};
-use crate::load::{FUNDED, Mix};
+use crate::watching::watch_history;
 use anyhow::Result;
 use application_check::{Line, check_history};
-use application_loads::measure;
-use program_options::program_words;
+use application_window::Opening;
 use split_engine::{Outcome, Policy, check_scripts, run};
 use std::alloc::Global;
 use std::io;
 use std::process::ExitCode;
-use std::rt::{Clock, Env};
 use std::sync::Wait;
 use std::thread::Threads;
 
@@ -43,28 +41,8 @@ const POLICY: Policy = Policy {
     threshold: 1,
 };
 
-fn main(rt: HostRuntime) -> ExitCode {
-    match perform(&rt) {
-        Ok(status) => status,
-        Err(fault) => {
-            // What can't be written still has its status.
-            let _ = eprintln!(rt; "{fault}");
-            ExitCode::FAILURE
-        }
-    }
-}
-
-// Performs a load if the program has words, and else the example.
-fn perform<R>(rt: &R) -> Result<ExitCode>
-where
-    R: Env + Threads + Wait + Sync + Clock + Print + Eprint + Alloc<A = Global>,
-{
-    let words = program_words(rt)?;
-    if words.len() > 1 {
-        return measure::<Bank, Mix, R>(rt, FUNDED, &words);
-    }
-    show(rt)?;
-    Ok(ExitCode::SUCCESS)
+fn main(rt: HostRuntime) -> Result<()> {
+    show(&rt)
 }
 
 // Three scripts over three accounts.
@@ -98,6 +76,12 @@ fn show<R: Threads + Wait + Sync + Print + Alloc<A = Global>>(rt: &R) -> Result<
     check_scripts::<Bank>(&scripts, accounts.len())?;
     let outcome = run::<Bank, R>(rt, alloc, accounts, &scripts, POLICY)?;
     print_outcome(rt, &outcome)?;
+    let opening = Opening {
+        table: vec![in alloc; FULL, EMPTY, CLOSED]?,
+        copy: vec![in alloc; FULL, EMPTY, CLOSED]?,
+        acts: 1,
+    };
+    watch_history(rt, alloc, opening, outcome.history)?;
     judge_two(rt, alloc)
 }
 

@@ -1,7 +1,6 @@
 //! Users who like pages. Each record is of a user or of a page; requests know which key is whose.
 ghost use Rattle.std.specs.Prelude.{◌≡◌, ◌≤◌};
 
-use application_check::Checkable;
 use split_engine::{Application, Decision, Few};
 
 /// What is asked.
@@ -123,11 +122,5 @@ impl Application for Likes {
     fn merge(held: &mut Tally, slice: Tally) {
         held.likes += slice.likes;
         held.last = held.last.max(slice.last);
-    }
-}
-
-impl Checkable for Likes {
-    fn is_same_reply(told: &LikeReply, given: &LikeReply) -> bool {
-        *told == *given
     }
 }

@@ -1,3 +1,0 @@
--- What no contract of a public function names.
-pub mod Plans
-pub mod Scripts
