@@ -29,13 +29,13 @@ LAYERS = {
         "phase_workers": 420, "run_phases": 560, "auction_run": 560,
     },
     "texts": {
-        "program_options": 420, "zipf_draws": 560, "byte_texts": 700, "record_reading": 880, "auction_reading": 810,
+        "program_options": 420, "byte_texts": 700, "record_reading": 880, "auction_reading": 810,
         "live_reading": 960, "auction_text": 880, "part_log": 640, "application_log": 150, "log_opening": 700,
         "history_check": 230,
     },
     "programs": {
         "example_ledger": 212, "program_progress": 490, "program_opening": 680,
-        "window_speed": 830, "program_serving": 700, "auction_program": 680, "load_program": 985, "check_program": 336,
+        "window_speed": 830, "program_serving": 700, "auction_program": 680, "check_program": 336,
         "rubis_auction": 640, "rubis_load": 985, "rubis_check": 336, "text_tests": 850,
     },
     "examples and tests": {

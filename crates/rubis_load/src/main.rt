@@ -1,7 +1,17 @@
 //! A generator of loads for the auction: the rows of items, and then requests in a given mix.
+//!
+//! Nothing is proved of a load but that the program is safe and ends: `tests/loads.py` compares its
+//! bytes with those of a model.
 #![tactic(auto)]
 
-use load_program::{Fault, PlanFault, read_plan, status, write_fault, write_load};
+mod faults;
+mod load;
+mod options;
+mod popularity;
+
+use crate::faults::{Fault, status, write_fault};
+use crate::load::write_load;
+use crate::options::read_plan;
 use program_options::program_words;
 use program_progress::{NotedWriter, Progress, Terminals};
 use std::alloc::Global;
@@ -35,11 +45,11 @@ where
     R: Env + Print + Eprint + Clock + Alloc<A = Global>,
 {
     let alloc = rt.alloc();
-    let words = program_words(rt).map_err(|fault| Fault::Plan(PlanFault::Usage(fault)))?;
-    let plan = read_plan(alloc, words.as_slice()).map_err(Fault::Plan)?;
+    let words = program_words(rt).map_err(Fault::Usage)?;
+    let plan = read_plan(alloc, words.as_slice())?;
     let progress = Progress::of(rt, PROGRAM, terminals);
     let mut writer = NotedWriter::of(&progress, io::writer(rt));
-    let written = write_load(alloc, &mut writer, &plan);
+    let written = write_load(alloc, &mut writer, plan);
     progress.end();
     written
 }

@@ -1,3 +1,0 @@
-pub mod Ranks
-pub mod Shares
-pub mod inner
