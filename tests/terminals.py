@@ -1,8 +1,8 @@
 #!/usr/bin/env python3
-"""Shows what the built programs say on a terminal beside their output, as docs/FORMATS.md says: what they
-wait for, and how far they are.
+"""Shows what the built programs say on a terminal beside their output, as docs/FORMATS.md says: what they wait for, and
+how much the auction has read.
 
-    tests/terminals.py [PROGRAM [CHECKER [GENERATOR]]] [--only CHECK]
+    tests/terminals.py [PROGRAM [CHECKER]] [--only CHECK]
 
 Each end of a program is a pseudo terminal or a pipe. What a terminal is told is kept with the times.
 """
@@ -24,20 +24,14 @@ from subprocess import PIPE, Popen
 from typing import Any, Iterable, Iterator
 
 from lib.checks import SEEN, VIEW, Tester, make_all
-from lib.load_model import Plan
 from lib.model import Options, expected
 from lib.program import SECONDS, Tally, build_shim, built, executable, parser_of, run
 
 END_OF_INPUT = b"\x04"
-EMPTY_LINE = b"\r\x1b[K"
 AWAITS = "{}: reads rows and scripts from the terminal until Ctrl-D; --help lists the options\n"
-NOTE = re.compile(rb"(\w+): (\d+) (KB|MB) (.*)")
-OF_READING = (b"read", b"read, performing")
-UNITS = {b"KB": 1_000, b"MB": 1_000_000}
+NOTE = re.compile(rb"rubis_auction: (\d+) KB (read(?:, performing)?)\n")
 # So many parts, so far apart, take more than three seconds.
 PARTS, PAUSE = 14, 0.25
-# What a pipe has room for, and more: a slow reader holds its writer up.
-PIPE_ROOM = 1 << 16
 
 
 @dataclass
@@ -50,28 +44,27 @@ class Screen:
     def text(self) -> bytes:
         return b"".join(text for _, text in self.writes)
 
-    def notes(self) -> list[tuple[float, bytes]]:
-        """The notes, each with the time at which it was there."""
-        return [(at, note) for at, text in self.writes for note in text.split(EMPTY_LINE) if NOTE.fullmatch(note)]
+    def notes(self) -> list[tuple[float, int, bytes]]:
+        """The notes, each with the time at which it was there, its count and its words."""
+        lines = ((at, NOTE.fullmatch(line)) for at, text in self.writes for line in text.splitlines(keepends=True))
+        return [(at, int(note[1]), note[2]) for at, note in lines if note]
 
 
 @dataclass
 class Ended:
-    """A program that has ended: its status, its output if that was no terminal, after how many seconds
-    that began, and the screen."""
+    """A program that has ended: its status, its output if that was no terminal, and the screen."""
 
     status: int
     output: bytes
-    output_began: float
     screen: Screen
 
 
 class TerminalTester(Tester):
-    """Judges what the three programs say on a terminal."""
+    """Judges what the programs say on a terminal."""
 
     def __init__(self, asked: Namespace, folder: Path, tally: Tally) -> None:
         super().__init__(folder, tally)
-        self.auction, self.checker, self.generator = asked.program, asked.checker, asked.generator
+        self.auction, self.checker = asked.program, asked.checker
         self.history = folder / "history"
         self.history.write_bytes(b"0 0 0 0 " + SEEN)
 
@@ -83,28 +76,17 @@ class TerminalTester(Tester):
         got = (ended.status, ended.output, ended.screen.text())
         self.tally.check(got == (status, output, screen), f"{what}: got {got}")
 
-    def notes_are_due(self, what: str, ended: Ended, wanted: list[bytes]) -> None:
-        """Notes end in these words, in this order, and of those before the end of an input
-        the nth came after n seconds."""
-        notes = ended.screen.notes()
-        said = [NOTE.fullmatch(note)[4] for _, note in notes]
-        # A busy machine may take a second to read a short input: then notes of that are due, too.
-        also = OF_READING if ended.output_began >= 1 else ()
+    def notes_are_due(self, what: str, screen: Screen, size: int) -> None:
+        """Notes are there after one second, two, four and so on, and one is of the end of so many bytes."""
+        *regular, (_, last, words) = screen.notes()
+        times, counts = [at for at, _, _ in regular], [count for _, count, _ in regular]
         self.tally.check(
-            [words for words in dict.fromkeys(said) if words in wanted or words not in also] == wanted,
-            f"{what}: notes {said}",
+            len(times) >= 2 and all(at >= 2**count for count, at in enumerate(times)), f"{what}: notes at {times}"
         )
-        regular = [at for (at, _), words in zip(notes, said) if words != b"read, performing"]
-        self.tally.check(all(at >= count for count, at in enumerate(regular, 1)), f"{what}: notes at {regular}")
-        self.tally.check(len(regular) >= 2, f"{what}: notes at {regular}")
-
-    def counts_rise(self, what: str, screen: Screen, words: bytes, most: int) -> None:
-        """The counts of notes that end in these words rise, up to so many bytes."""
-        parsed = [NOTE.fullmatch(note) for _, note in screen.notes()]
-        counts = [int(note[2]) * UNITS[note[3]] for note in parsed if note[4].startswith(words)]
         self.tally.check(
-            counts == sorted(counts) and 0 < len(counts) and counts[-1] <= most, f"{what}: counts {counts} of {most}"
+            counts == sorted(counts) and {words for _, _, words in regular} == {b"read"}, f"{what}: notes {regular}"
         )
+        self.tally.check((last, words) == (size // 1000, b"read, performing"), f"{what}: {last} KB {words} of {size}")
 
 
 # A program whose ends are terminals or pipes.
@@ -130,7 +112,6 @@ def perform(
     parts: Iterable[bytes],
     typed: bool = False,
     shared: bool = False,
-    slow_reader: bool = False,
     screen: Screen | None = None,
     **how: Any,
 ) -> Ended:
@@ -141,10 +122,10 @@ def perform(
         ends = {"stdin": program if typed else PIPE, "stdout": program if shared else PIPE, "stderr": program} | how
         with Popen([os.fspath(word) for word in command], start_new_session=True, **ends) as process:
             os.close(program)
-            output: list[tuple[float, bytes]] = []
+            output: list[bytes] = []
             threads = [threading.Thread(target=watch, args=(user, screen))]
             if not shared:
-                threads.append(threading.Thread(target=take, args=(process.stdout.fileno(), output, slow_reader)))
+                threads.append(threading.Thread(target=lambda: output.append(process.stdout.read())))
             for thread in threads:
                 thread.start()
             give(user if typed else process.stdin.fileno(), parts)
@@ -152,8 +133,7 @@ def perform(
                 process.stdin.close()
             for thread in threads:
                 thread.join()
-            began = output[0][0] - screen.begun if output else 0
-            return Ended(process.wait(), b"".join(text for _, text in output), began, screen)
+            return Ended(process.wait(), b"".join(output), screen)
 
 
 def watch(user: int, screen: Screen) -> None:
@@ -166,14 +146,6 @@ def watch(user: int, screen: Screen) -> None:
         if not text:
             return
         screen.writes.append((time.monotonic() - screen.begun, text))
-
-
-def take(file: int, output: list[tuple[float, bytes]], is_slow: bool) -> None:
-    """Reads a pipe to its end, and notes when."""
-    while text := os.read(file, PIPE_ROOM):
-        output.append((time.monotonic(), text))
-        if is_slow:
-            time.sleep(PAUSE)
 
 
 def give(file: int, parts: Iterable[bytes]) -> None:
@@ -268,106 +240,35 @@ def unawaited(tester: TerminalTester) -> None:
     tester.shows("no log", perform([tester.auction, "--log", log], [], typed=True), 5, b"", wanted.stderr)
 
 
-# How far they are.
+# How far the auction is.
 
 
 def slow_inputs(tester: TerminalTester) -> None:
-    """slow input: notes of the bytes read, at most once a second, and none is left; a short input has none"""
+    """slow input: notes of the bytes read; a short input has none"""
     data = VIEW * 100
     replies = expected(data * PARTS, Options()).stdout
     log = tester.folder / "slow"
     for words in ([], ["--log", log]):
         ended = perform([tester.auction, *words], slowly([data] * PARTS))
         tester.tally.check((ended.status, ended.output) == (0, replies), f"{words}: the replies to a slow input")
-        tester.notes_are_due(f"{words}, slow input", ended, [b"read", b"read, performing"])
-        tester.counts_rise(f"{words}, slow input", ended.screen, b"read", len(data) * PARTS)
-        tester.tally.check(ended.screen.text().endswith(EMPTY_LINE), f"{words}: a note is left")
-    last = ended.screen.notes()[-1][1]
-    tester.tally.check(
-        last == b"rubis_auction: %d KB read, performing" % (len(data) * PARTS // 1000), f"the last note: {last}"
-    )
+        tester.notes_are_due(f"{words}, slow input", ended.screen, len(data) * PARTS)
     tester.shows("a short input", perform([tester.auction], [data]), 0, expected(data, Options()).stdout, b"")
 
 
-def slow_histories(tester: TerminalTester) -> None:
-    """a slow input and a slow history of rubis_check: notes of both, and the verdict on the same terminal after them"""
-    views = PARTS * 100
-    scripts = [VIEW * 100] * PARTS
-    history = [b"".join(b"0 0 0 %d %s" % (part * 100 + at, SEEN) for at in range(100)) for part in range(PARTS)]
-    fifo = tester.folder / "fifo"
-    os.mkfifo(fifo)
-    for shared in (False, True):
-        given = threading.Event()
-        giver = threading.Thread(target=give_slowly, args=(fifo, history, given))
-        giver.start()
-        ended = perform(tester.checking(fifo), then(slowly(scripts), given), shared=shared)
-        giver.join()
-        what, text = f"a slow check, shared {shared}", b"the history replays\n"
-        tester.tally.check(
-            ended.status == 0 and ended.screen.text().endswith(EMPTY_LINE + text if shared else EMPTY_LINE),
-            f"{what}: {ended}",
-        )
-        tester.tally.check(ended.output == (b"" if shared else text), f"{what}: {ended.output}")
-        tester.notes_are_due(what, ended, [b"of the input read", b"of the history read"])
-        tester.counts_rise(what, ended.screen, b"of the input read", len(VIEW) * views)
-        tester.counts_rise(what, ended.screen, b"of the history read", len(b"".join(history)))
-
-
-def then(parts: Iterable[bytes], given: threading.Event) -> Iterator[bytes]:
-    yield from parts
-    given.set()
-
-
-def give_slowly(path: Path, parts: list[bytes], first: threading.Event) -> None:
-    """Writes parts to a file after something else was given."""
-    file = os.open(path, os.O_WRONLY)
-    first.wait()
-    give(file, slowly(parts))
-    os.close(file)
-
-
-def slow_readers(tester: TerminalTester) -> None:
-    """output that is read slowly: notes of the bytes written, and the same bytes, also where a long text
-    is made before it is written"""
-    plan = Plan(requests=60_000)
-    load = run([tester.generator, *plan.words()]).stdout
-    ended = perform([tester.generator, *plan.words()], [], slow_reader=True)
-    tester.tally.check((ended.status, ended.output) == (0, load), "a load that is read slowly")
-    tester.notes_are_due("a load", ended, [b"written"])
-    tester.counts_rise("a load", ended.screen, b"written", len(load))
-    rows = b"".join(b"0,+item,0,0,Vase,10,100,%d\n" % at for at in range(30_000))
-    for options, data in (
-        (Options(), VIEW * 30_000),
-        (Options(workers=2), (VIEW + b"1,viewuser,0\n") * 15_000),
-        (Options(rows=True), rows),
-    ):
-        wanted = run([tester.auction, *options.words()], data).stdout
-        ended = perform([tester.auction, *options.words()], [data], slow_reader=True)
-        tester.tally.check(
-            (ended.status, ended.output) == (0, wanted), f"{options.words()}: output that is read slowly"
-        )
-        tester.notes_are_due(f"{options.words()}, a slow reader", ended, [b"written"])
-        tester.counts_rise(f"{options.words()}, a slow reader", ended.screen, b"written", len(wanted))
-        tester.tally.check(ended.screen.text().endswith(EMPTY_LINE), f"{options.words()}: a note is left")
-
-
 def shared_terminals(tester: TerminalTester) -> None:
-    """output on the terminal of the notes: they end before its first byte, and so does the note before a fault"""
+    """output on the terminal of the notes comes after them, and so does a fault"""
     data = VIEW * PARTS
     ended = perform([tester.auction], slowly([VIEW] * PARTS), shared=True)
     shown = ended.screen.text()
     tester.tally.check(
-        len(ended.screen.notes()) > 1 and shown.endswith(EMPTY_LINE + expected(data, Options()).stdout),
+        len(ended.screen.notes()) > 1 and shown.endswith(b", performing\n" + expected(data, Options()).stdout),
         f"replies on the terminal: {shown}",
     )
     ended = perform([tester.auction], slowly([*[VIEW] * PARTS, b"0,jump,1\n"]))
     shown, fault = ended.screen.text(), b"rubis_auction: record %d: unknown kind\n" % (PARTS + 1)
     tester.tally.check(
-        (ended.status, ended.output) == (2, b"") and shown.endswith(EMPTY_LINE + fault), f"a fault after notes: {ended}"
+        (ended.status, ended.output) == (2, b"") and shown.endswith(b" read\n" + fault), f"a fault after notes: {ended}"
     )
-    plan = Plan(requests=200_000)
-    ended = perform([tester.generator, *plan.words()], [], shared=True)
-    tester.tally.check(EMPTY_LINE not in ended.screen.text(), "notes between the lines of a load")
 
 
 def live_replies(tester: TerminalTester) -> None:
@@ -384,19 +285,18 @@ def clocks(tester: TerminalTester) -> None:
     environment = os.environ | {"LD_PRELOAD": str(shim)}
     ended = perform([tester.auction], slowly([VIEW] * PARTS), env=environment | {"CLOCK_FAILS": "1"})
     tester.shows("no clock", ended, 0, expected(VIEW * PARTS, Options()).stdout, b"")
-    for command, data in (([tester.auction], VIEW), (tester.checking(), VIEW), ([tester.generator], b"")):
-        got = run(command, data, env=environment | {"CLOCK_ENDS": "1"})
-        tester.tally.same(f"{command[0].name} without a terminal", got, run(command, data))
-        ended = perform(command, [data], env=environment | {"CLOCK_ENDS": "1"})
-        tester.tally.check(ended.status != 0, f"the clock is seen to be read: {command[0].name} on a terminal")
+    got = run([tester.auction], VIEW, env=environment | {"CLOCK_ENDS": "1"})
+    tester.tally.same("rubis_auction without a terminal", got, run([tester.auction], VIEW))
+    ended = perform([tester.auction], [VIEW], env=environment | {"CLOCK_ENDS": "1"})
+    tester.tally.check(ended.status != 0, "the clock is seen to be read: rubis_auction on a terminal")
 
 
-CHECKS = (awaited, unawaited, slow_inputs, slow_histories, slow_readers, shared_terminals, live_replies, clocks)
+CHECKS = (awaited, unawaited, slow_inputs, shared_terminals, live_replies, clocks)
 
 
 def main() -> None:
     words = parser_of(__doc__)
-    for word, name in (("program", "rubis_auction"), ("checker", "rubis_check"), ("generator", "rubis_load")):
+    for word, name in (("program", "rubis_auction"), ("checker", "rubis_check")):
         words.add_argument(word, nargs="?", type=executable, default=str(built(name)))
     make_all(words, CHECKS, TerminalTester)
 

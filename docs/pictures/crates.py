@@ -34,7 +34,7 @@ LAYERS = {
         "history_check": 230,
     },
     "programs": {
-        "example_ledger": 212, "program_progress": 490, "program_opening": 680,
+        "example_ledger": 212, "program_opening": 680,
         "window_speed": 830, "program_serving": 700, "auction_program": 680, "check_program": 336,
         "rubis_auction": 640, "rubis_load": 985, "rubis_check": 336, "text_tests": 850,
     },

@@ -2,31 +2,35 @@
 //! the replies.
 #![tactic(auto)]
 
+mod progress;
+
 ghost use Rattle.std.specs.Prelude.{[]};
 ghost use Rattle.phase_floor.specs.Adding.{HasBook, IsStartOf};
-ghost use Rattle.program_opening.specs.Options.{AreInRange};
 
+use crate::progress::Noted;
 use auction_program::{
     Fault, Joined, LiveTeller, Log, LogCause, LogFileFault, LoggedInput, NoLog, OpenedLog, Options,
     Teller, UntilEnd, execute, new_auction, open_log, read_options, serve, status, write_fault,
 };
 use program_options::program_words;
-use program_progress::{NotedReader, NotedWriter, Progress, Source, Terminals};
 use std::alloc::Global;
 use std::fs::File;
 use std::io;
-use std::io::{Eprint, Printer, Read, Write};
+use std::io::{Eprint, IsTerminal, Read, Write};
 use std::process::ExitCode;
 use std::rt::{Clock, Env, Files};
 use std::sync::Wait;
 use std::thread::Threads;
 
-// The name that a user calls it by.
-const PROGRAM: &str = "rubis_auction";
-
 fn main(rt: HostRuntime) -> ExitCode {
-    let terminals = Terminals::of(&rt.stdin(), &rt.stdout(), &rt.stderr());
-    match perform(&rt, &mut rt.stderr(), terminals) {
+    let user = if !rt.stderr().is_terminal() {
+        User::Away
+    } else if rt.stdin().is_terminal() {
+        User::Types
+    } else {
+        User::Watches
+    };
+    match perform(&rt, &mut rt.stderr(), user) {
         Ok(()) => ExitCode::SUCCESS,
         Err(fault) => {
             // A fault that can't be written still has its status.
@@ -36,8 +40,19 @@ fn main(rt: HostRuntime) -> ExitCode {
     }
 }
 
+// What the user does.
+#[derive(Clone, Copy)]
+enum User {
+    // Does not see standard error.
+    Away,
+    // Types standard input, and is asked for it.
+    Types,
+    // Is told how much is read.
+    Watches,
+}
+
 // Performs standard input as the program's words say.
-fn perform<R, E>(rt: &R, errors: &mut E, terminals: Terminals) -> Result<(), Fault>
+fn perform<R, E>(rt: &R, errors: &mut E, user: User) -> Result<(), Fault>
 where
     E: Write,
     R: Env + Files<File = File> + Input + Print + Alloc<A = Global> + Threads + Wait + Sync,
@@ -48,79 +63,58 @@ where
         Ok(options) => options,
         Err(fault) => return Err(Fault::Usage(fault)),
     };
-    let progress = Progress::of(rt, PROGRAM, terminals);
-    if options.live > 0 {
-        // Its replies show how far it is.
-        progress.end();
-    }
-    let performed = perform_as_asked(&progress, errors, &options);
-    progress.end();
-    performed
-}
-
-// Performs standard input as the options say.
-fn perform_as_asked<R, E>(
-    progress: &Progress<'_, R>,
-    errors: &mut E,
-    options: &Options,
-) -> Result<(), Fault>
-where
-    E: Write,
-    R: Files<File = File> + Input + Print + Alloc<A = Global> + Threads + Wait + Sync,
-    R: Clock + Eprint,
-    requires { AreInRange options.now }
-{
-    let rt = progress.rt;
-    let alloc = rt.alloc();
     if options.live == 0 && options.log.is_none() {
-        return perform_input(progress, &mut rt.reader(), options);
+        return perform_input(rt, &mut rt.reader(), user, &options);
     }
     if options.report {
         return Err(Fault::Report);
     }
-    let auction = new_auction(alloc, options)?;
+    let auction = new_auction(rt.alloc(), &options)?;
     match &options.log {
-        Some(path) => serve_logged(progress, errors, auction, path.as_str(), options),
-        None => serve_unlogged(progress, errors, auction, options),
+        Some(path) => serve_logged(rt, errors, auction, path.as_str(), user, &options),
+        None => serve_unlogged(rt, errors, auction, user, &options),
     }
 }
 
 // Standard input, of which a user who types it is told.
-fn input<'a, R, I>(progress: &'a Progress<'a, R>, stdin: I) -> UntilEnd<NotedReader<'a, R, I>>
+fn input<'a, R, I>(rt: &'a R, stdin: I, user: User) -> UntilEnd<Noted<'a, R, I>>
 where
     I: Read,
     R: Clock + Eprint,
 {
-    progress.await_user();
-    UntilEnd::of(NotedReader::of(progress, Source::Scripts, stdin))
+    if matches!(user, User::Types) {
+        ask_user(rt);
+    }
+    UntilEnd::of(Noted::of(rt, stdin, matches!(user, User::Watches)))
 }
 
-// Standard output.
-fn output<'a, R>(progress: &'a Progress<'a, R>) -> NotedWriter<'a, R, Printer<'a, R>>
-where
-    R: Print + Clock + Eprint,
-{
-    NotedWriter::of(progress, io::writer(progress.rt))
+// Its buffers are not on the stack of the others.
+#[inline(never)]
+fn ask_user<R: Eprint>(rt: &R) {
+    // What can't be written changes nothing.
+    let _ = eprintln!(rt;
+        "rubis_auction: reads rows and scripts from the terminal until Ctrl-D; --help lists the options"
+    );
 }
 
 // Performs an input that is read first. Its buffers are not on the stack of the others.
 #[inline(never)]
-fn perform_input<R, I>(progress: &Progress<'_, R>, stdin: I, options: &Options) -> Result<(), Fault>
+fn perform_input<R, I>(rt: &R, stdin: I, user: User, options: &Options) -> Result<(), Fault>
 where
     I: Read + Drop,
     R: Print + Alloc<A = Global> + Threads + Wait + Sync + Clock + Eprint,
 {
-    let rt = progress.rt;
-    let reader = input(progress, stdin);
-    execute(rt, rt.alloc(), reader, &mut output(progress), options)
+    let reader = input(rt, stdin, user);
+    execute(rt, rt.alloc(), reader, &mut io::writer(rt), options)
 }
 
 // Serves an input.
 fn serve_input<R, E, I, L>(
-    progress: &Progress<'_, R>,
+    rt: &R,
     errors: &mut E,
     source: LoggedInput<I>,
     log: L,
+    user: User,
     options: &Options,
 ) -> Result<(), Fault>
 where
@@ -130,15 +124,19 @@ where
     R: Print + Alloc<A = Global> + Threads + Wait + Sync + Clock + Eprint,
     requires { HasBook source.auction }
 {
-    let rt = progress.rt;
     let teller = Teller {
         log,
-        writer: output(progress),
+        writer: io::writer(rt),
+    };
+    let user = match user {
+        // Its replies show how far it is.
+        User::Watches if options.live > 0 => User::Away,
+        user => user,
     };
     let LoggedInput { auction, reader } = source;
     let source = LoggedInput {
         auction,
-        reader: input(progress, reader),
+        reader: input(rt, reader, user),
     };
     let alloc = rt.alloc();
     let mut teller = LiveTeller::of(alloc, teller, errors);
@@ -148,9 +146,10 @@ where
 // Serves standard input, and keeps no log. Its buffers are not on the stack of the others.
 #[inline(never)]
 fn serve_unlogged<R, E>(
-    progress: &Progress<'_, R>,
+    rt: &R,
     errors: &mut E,
     auction: Joined,
+    user: User,
     options: &Options,
 ) -> Result<(), Fault>
 where
@@ -159,12 +158,12 @@ where
     requires { HasBook auction }
 {
     // The reader is large, and what is left of the input moves from part to part.
-    let mut reader = progress.rt.reader();
+    let mut reader = rt.reader();
     let source = LoggedInput {
         auction,
         reader: &mut reader,
     };
-    serve_input(progress, errors, source, NoLog, options)
+    serve_input(rt, errors, source, NoLog, user, options)
 }
 
 // Files that are open to the end. If standard input, output or error is closed, the first have its
@@ -178,10 +177,11 @@ fn held_places<R: Files<File = File>>(rt: &R) -> io::Result<(File, File, File)> 
 
 // Serves standard input after the rows of the log at a path, and logs those that are added.
 fn serve_logged<R, E>(
-    progress: &Progress<'_, R>,
+    rt: &R,
     errors: &mut E,
     auction: Joined,
     path: &str,
+    user: User,
     options: &Options,
 ) -> Result<(), Fault>
 where
@@ -190,7 +190,6 @@ where
     R: Clock + Eprint,
     requires { IsStartOf auction [] }
 {
-    let rt = progress.rt;
     let alloc = rt.alloc();
     let _places = match held_places(rt) {
         Ok(places) => places,
@@ -214,7 +213,7 @@ where
         auction,
         reader: &mut reader,
     };
-    match serve_input(progress, errors, source, log, options) {
+    match serve_input(rt, errors, source, log, user, options) {
         Err(Fault::Log(why)) => Err(LogFileFault::at(alloc, path, LogCause::Log(why)).into()),
         served => served,
     }

@@ -9,23 +9,19 @@ use check_program::{
 };
 use history_check::{CheckFault, Verdict};
 use program_options::program_words;
-use program_progress::{NotedReader, NotedWriter, Progress, Source, Terminals};
 use std::alloc::Global;
 use std::fs::File;
 use std::io;
-use std::io::{BufReader, Eprint};
+use std::io::{BufReader, Eprint, IsTerminal};
 use std::process::ExitCode;
-use std::rt::{Clock, Env, Files};
+use std::rt::{Env, Files};
 
 // How many bytes of the history are read at once.
 const HISTORY_ROOM: usize = 1 << 16;
 
-// The name that a user calls it by.
-const PROGRAM: &str = "rubis_check";
-
 fn main(rt: HostRuntime) -> ExitCode {
-    let terminals = Terminals::of(&rt.stdin(), &rt.stdout(), &rt.stderr());
-    match perform(&rt, terminals) {
+    let is_asked = rt.stderr().is_terminal() && rt.stdin().is_terminal();
+    match perform(&rt, is_asked) {
         Ok(verdict) => ExitCode::from(verdict_status(&verdict)),
         Err(fault) => {
             // A fault that can't be written still has its status.
@@ -35,41 +31,41 @@ fn main(rt: HostRuntime) -> ExitCode {
     }
 }
 
-// Checks the history that the program's words name, with the scripts of standard input.
-fn perform<R>(rt: &R, terminals: Terminals) -> Result<Verdict, Fault>
+// Checks the history that the program's words name, with the scripts of standard input. A user who
+// types these is asked for them.
+fn perform<R>(rt: &R, is_asked: bool) -> Result<Verdict, Fault>
 where
-    R: Env + Files + Input + Print + Eprint + Clock + Alloc<A = Global>,
+    R: Env + Files + Input + Print + Eprint + Alloc<A = Global>,
 {
     let words = program_words(rt).map_err(Fault::Usage)?;
-    let options = match read_options(rt.alloc(), words.as_slice()) {
-        Ok(options) => options,
-        Err(fault) => return Err(Fault::Usage(fault)),
-    };
-    let progress = Progress::of(rt, PROGRAM, terminals);
-    let checked = check(&progress, options);
-    progress.end();
-    checked
+    match read_options(rt.alloc(), words.as_slice()) {
+        Ok(options) => check(rt, options, is_asked),
+        Err(fault) => Err(Fault::Usage(fault)),
+    }
 }
 
 // Checks the history that the options name.
-fn check<R>(progress: &Progress<'_, R>, options: Options) -> Result<Verdict, Fault>
+fn check<R>(rt: &R, options: Options, is_asked: bool) -> Result<Verdict, Fault>
 where
-    R: Files + Input + Print + Eprint + Clock + Alloc<A = Global>,
+    R: Files + Input + Print + Eprint + Alloc<A = Global>,
     requires { options.workers ≤ 16 }
 {
-    let rt = progress.rt;
     let alloc = rt.alloc();
     let file = match File::open(rt, options.history.as_str()) {
-        Ok(file) => NotedReader::of(progress, Source::History, file),
+        Ok(file) => file,
         Err(why) => return Err(Fault::History(options.history, why)),
     };
     let Ok(mut history) = BufReader::with_capacity(alloc, HISTORY_ROOM, file) else {
         return Err(Fault::Check(CheckFault::Memory));
     };
-    progress.await_user();
-    let input = UntilEnd::of(NotedReader::of(progress, Source::Input, rt.reader()));
-    let mut writer = NotedWriter::of(progress, io::writer(rt));
-    match execute(alloc, input, &mut history, &mut writer, &options) {
+    if is_asked {
+        // What can't be written changes nothing.
+        let _ = eprintln!(rt;
+            "rubis_check: reads rows and scripts from the terminal until Ctrl-D; --help lists the options"
+        );
+    }
+    let input = UntilEnd::of(rt.reader());
+    match execute(alloc, input, &mut history, &mut io::writer(rt), &options) {
         Err(Fault::Check(CheckFault::Read(why))) => Err(Fault::History(options.history, why)),
         checked => checked,
     }
