@@ -43,7 +43,7 @@ WHOLE_RATE, EXECUTING = "requests a second, whole command", "requests a second, 
 # Of a whole command: of processors, for the user and the system, and page faults.
 PROCESSORS, FAULTS = "nanoseconds of processors a request", "page faults of 1,000 requests"
 SECONDS, MEMORY = "seconds, whole command", "megabytes at most"
-RUN, PUBLISHING, VIEW = "seconds of a run", "seconds of publishing", "nanoseconds a view"
+RUN, VIEW = "seconds of a run", "nanoseconds a view"
 DELAY, LATEST = "requests until a deferred reply, median", "requests until a deferred reply, 99th percentile"
 # Of replies while requests come, with a log that is synced and without: systems, and what is measured.
 AT_ONCE, REDIS, REDIS_LOGGED = "all read first", "Redis, no log", "Redis, log synced"
@@ -433,25 +433,33 @@ def at_once(ways: list[tuple], count: Callable[..., list[float]]) -> list[list[f
         return list(pool.map(lambda way: count(*way), ways))
 
 
+# How many windows are measured, with thousands of views of each and bids of each worker. Beside a run there are as many
+# views as it leaves time for.
+OF_WINDOWS = (
+    *((count, 1_000, 0) for count in (1, 4, 16)),
+    *((count, 0, 250_000) for count in (0, 1)),
+    *((count, 1_000_000, 250_000) for count in (1, 4, 16)),
+)
+
+
 def windows(systems: Systems, asked: Namespace) -> Iterator[Figure]:
-    """What `window_speed` tells: views of windows alone, and beside a run."""
+    """What `example_watch` measures: views of windows alone, and beside a run."""
     if "windows" not in systems.built:
         return
     say("windows")
-    said = subprocess.run([systems.built["windows"]], capture_output=True, text=True, check=True).stdout
-    beside = "alone"
-    for line in said.splitlines():
-        if found := re.match(r"shown to (nobody|(\d+) windows): ([^,]+)(?:, (\S+) of it to publish)?", line):
-            count, beside = int(found.group(2) or 0), "beside a run"
-            yield window_figure(beside, count, RUN, in_seconds(found.group(3)))
-            if found.group(4):
-                yield window_figure(beside, count, PUBLISHING, in_seconds(found.group(4)))
-        elif found := re.match(r"  windows=(\d+) nanoseconds_a_view=(\d+)", line):
-            yield window_figure(beside, int(found.group(1)), VIEW, float(found.group(2)))
+    for count, views, bids in OF_WINDOWS:
+        where = "beside a run" if bids else "alone"
+        words = [systems.built["windows"], f"--windows={count}", f"--views={views}", f"--bids={bids}"]
+        said = subprocess.run(words, capture_output=True, text=True, check=True).stdout
+        run, seen, spent = re.fullmatch(r"run (\S+), (\d+) views(?: in (\S+))?\n", said).groups()
+        if bids:
+            yield window_figure(where, count, RUN, in_seconds(run))
+        if int(seen):
+            yield window_figure(where, count, VIEW, round(in_seconds(spent) * count * 1e9 / int(seen)))
 
 
-def window_figure(beside: str, count: int, measure: str, value: float) -> Figure:
-    return row_of("windows", Load(f"windows {beside}"), Policy(shards=4), measure, value, count, 1_000_000)
+def window_figure(where: str, count: int, measure: str, value: float) -> Figure:
+    return row_of("windows", Load(f"windows {where}"), Policy(shards=4), measure, value, count, 1_000_000)
 
 
 def live_words(most: int, is_logged: bool) -> str:

@@ -16,7 +16,7 @@ sys.path.append(f"{ROOT}/examples")
 from command_line import end, executable, parser_of
 
 # What the options call the crates' programs.
-CRATES = {"program": "rubis_auction", "load": "rubis_load", "referee": "rubis_check", "windows": "window_speed"}
+CRATES = {"program": "rubis_auction", "load": "rubis_load", "referee": "rubis_check", "windows": "example_watch"}
 
 # The programs that are not needed where a part is left out.
 OF_PARTS = {"referee": "checking", "windows": "windows"}

@@ -19,7 +19,7 @@ import redis_server
 from cells import count, figure, heads_of, in_workers, loads_of, millions, ranged, table, times, times_if_apart, two
 from cells import value, values
 from figures import ALL_THREADS, CLIENT_WAITS, CLIENTS_RATE, DELAY, EXECUTING, FAULTS, INSTRUCTIONS, LATEST
-from figures import LONGEST_THREAD, MEMORY, OPENING, PROCESSORS, PUBLISHING, RUN, SECONDS, VIEW, WAITS, WHOLE_RATE
+from figures import LONGEST_THREAD, MEMORY, OPENING, PROCESSORS, RUN, SECONDS, VIEW, WAITS, WHOLE_RATE
 from figures import AUCTION, SYSTEMS, UNSPLIT, Figure, live_words
 from measures import BIDDING, ONE_ITEM, UNIFORM, Policy
 from programs import ROOT
@@ -229,9 +229,9 @@ def windows(rows: list[Figure]) -> str:
         shown = (
             f"{row.workers} window{'s' * (row.workers > 1)}{'' if view else ', no views'}" if row.workers else "nobody"
         )
-        lines.append([shown, two(row.value), two(value(own, measure=PUBLISHING)), two(view)])
+        lines.append([shown, two(row.value), two(view)])
     of_run = "1,000,000 bids by 4 workers on one item, published to"
-    return text + "\n" + table([of_run, "Seconds", "Publishing, s", "Nanoseconds per view meanwhile"], lines)
+    return text + "\n" + table([of_run, "Seconds", "Nanoseconds per view meanwhile"], lines)
 
 
 def work(rows: list[Figure]) -> str:
@@ -378,7 +378,7 @@ def heading(asked: Namespace, systems: measures.Systems, when: str, seconds: flo
         words = " ".join(measures.auction_words(most))
         lines.append(f"    rubis_check {words} --order --history=HISTORY < LOAD")
     if "windows" in systems.built:
-        lines.append("    window_speed")
+        lines.append("    example_watch --windows=W --views=V --bids=B")
     lines.append("")
     if systems.server:
         part = f"as many of the first {systems.few():,} requests of a load as it can in about {asked.seconds:g} s"

@@ -1,6 +1,6 @@
 #!/usr/bin/env python3
-"""Shows that the tools do as they say: bench/tune, whose command has to run, bench/starts, the help of example_watch
-and window_speed, likes, man pages, bench/applications, the sentences of bench/claims.py, and what each
+"""Shows that the tools do as they say: bench/tune, whose command has to run, bench/starts, the help of example_watch,
+likes, man pages, bench/applications, the sentences of bench/claims.py, and what each
 script says of wrong words, of what is not there, and of an interruption.
 
     tests/tools.py [PROGRAM]
@@ -166,14 +166,23 @@ def starts(tally: Tally, program: Path) -> None:
     tally.check(got.status == 0 and len(lines) == 2 and all(lines), f"bench/starts: {described(got)}")
 
 
-def helps_of_windows(tally: Tally, program: Path) -> None:
-    """help and version of example_watch and window_speed, and the word that they refuse"""
-    for name in ("example_watch", "window_speed"):
-        helps.help_and_version(tally, built(name), name, None)
-        for words in (["x"], ["watch", "x"], [""], ["--measure"]):
-            got = run([built(name), *words])
-            is_named = got.status == 1 and not got.stdout and f"'{words[0]}'" in got.stderr.decode()
-            tally.check(is_named, f"{name} {words}: {described(got)}")
+def windows(tally: Tally, program: Path) -> None:
+    """help of example_watch, words that it refuses, and what it measures: views stop with the run"""
+    watch = built("example_watch")
+    helps.help_and_version(tally, watch, "example_watch", None)
+    for words in (["x"], ["watch", "x"], [""], ["--measure"]):
+        got = run([watch, *words])
+        is_named = got.status == 1 and not got.stdout and f"'{words[0]}'" in got.stderr.decode()
+        tally.check(is_named, f"example_watch {words}: {described(got)}")
+    for count, thousands, bids, views in (
+        (0, 5, 300, "0 views"),
+        (3, 2, 0, "6000 views in"),
+        (2, 0, 300, "0 views in"),
+        (1, 1_000_000, 300, r"\d+ views in"),
+    ):
+        got = run([watch, f"--windows={count}", f"--views={thousands}", f"--bids={bids}"])
+        right = re.match(rf"run [0-9.]+(s|ms|µs|ns), {views}", got.stdout.decode())
+        tally.check(got.status == 0 and bool(right), f"{count} windows, {bids} bids: {described(got)}")
 
 
 def answers(tally: Tally, program: Path) -> None:
@@ -398,7 +407,7 @@ def main() -> None:
     parser.add_argument("program", type=executable, nargs="?", default=str(BUILT))
     program = parser.parse_args().program
     tally = Tally()
-    of_programs = (tuned, starts, helps_of_windows, loads_of_applications, man_pages)
+    of_programs = (tuned, starts, windows, loads_of_applications, man_pages)
     for check in (*of_programs, figures_of_applications, claims_of_figures, answers, interruptions, builds):
         tally.tell(check, tally, program)
     tally.finish()

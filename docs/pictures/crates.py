@@ -35,7 +35,7 @@ LAYERS = {
     },
     "programs": {
         "example_ledger": 212, "program_opening": 680,
-        "window_speed": 830, "program_serving": 700, "auction_program": 680, "check_program": 336,
+        "program_serving": 700, "auction_program": 680, "check_program": 336,
         "rubis_auction": 640, "rubis_load": 985, "rubis_check": 336, "text_tests": 850,
     },
     "examples and tests": {

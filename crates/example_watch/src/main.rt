@@ -1,17 +1,23 @@
 //! Two workers bid on a vase while a thread watches it through a window.
 #![tactic(auto)]
 
+mod measuring;
 mod watching;
 
+use crate::measuring::{WatchPlan, measure};
 use crate::watching::watched_run;
 use anyhow::{Result, bail};
-use auction_rows::{Refusal, Reply};
+use auction_rows::{MOST_WORKERS, Refusal, Reply};
 use auction_window::Seen;
-use program_options::{Description, UsageFault, described_program, parse_words, program_words};
-use std::alloc::Global;
+use clap::{ArgMatches, Command};
+use program_options::{
+    Description, FROM_ZERO, NumberRange, UsageFault, described_number, described_program,
+    number_of, parse_words, program_words,
+};
+use std::alloc::{AllocError, Global};
 use std::io;
 use std::process::ExitCode;
-use std::rt::Env;
+use std::rt::{Clock, Env};
 use std::sync::Wait;
 use std::thread::Threads;
 
@@ -22,9 +28,15 @@ const DESCRIPTION: Description<'static> = Description {
     about: "Shows an auction to a thread through a window, while two workers bid on a vase.",
     usage: "example_watch [OPTIONS]",
     after: "\
-Reads nothing. Writes a line per view to standard output.
+With windows or bids, measures how fast windows are while four workers bid: on an idle machine.
+Reads nothing. Writes a line per view to standard output, or what was measured.
 Faults, this help and the version go to standard error.
 Status: 0 all done, 1 words, help or a fault.",
+};
+
+const WINDOWS: NumberRange = NumberRange {
+    least: 0,
+    greatest: MOST_WORKERS as u32,
 };
 
 fn main(rt: HostRuntime) -> ExitCode {
@@ -41,13 +53,12 @@ fn main(rt: HostRuntime) -> ExitCode {
 // Shows the auction, unless the program's words ask for something else.
 fn perform<R>(rt: &R) -> Result<ExitCode>
 where
-    R: Env + Print + Eprint + Alloc<A = Global> + Threads + Wait + Sync,
+    R: Env + Print + Eprint + Alloc<A = Global> + Threads + Wait + Sync + Clock,
 {
     let alloc = rt.alloc();
     let words = program_words(rt)?;
-    let command = described_program(alloc, "example_watch", DESCRIPTION);
-    match parse_words(alloc, command, &words) {
-        Ok(_) => watch(rt, alloc)?,
+    match parse_words(alloc, command(alloc)?, &words) {
+        Ok(matches) => watch_as_asked(rt, alloc, plan_of(&matches))?,
         Err(UsageFault::Text(text)) => {
             eprint!(rt; "{text}")?;
             return Ok(ExitCode::FAILURE);
@@ -55,6 +66,49 @@ where
         Err(fault) => return Err(fault.into()),
     }
     Ok(ExitCode::SUCCESS)
+}
+
+fn command<'a>(alloc: Global) -> Result<Command<'a>, AllocError> {
+    let options = vec![in alloc;
+        described_number(
+            alloc,
+            "windows",
+            WINDOWS,
+            "0",
+            "Windows, each in a thread, 0 to 16"
+        ),
+        described_number(alloc, "views", FROM_ZERO, "0", VIEWS_HELP),
+        described_number(
+            alloc,
+            "bids",
+            FROM_ZERO,
+            "0",
+            "Bids of each worker, 0 to 1000000"
+        ),
+    ]?;
+    described_program(alloc, "example_watch", DESCRIPTION).args(options)
+}
+
+const VIEWS_HELP: &str =
+    "Thousands of views of each window, if the run does not end before, 0 to 1000000";
+
+fn plan_of(matches: &ArgMatches<'_>) -> WatchPlan {
+    WatchPlan {
+        windows: number_of(matches, "windows", WINDOWS),
+        views: number_of(matches, "views", FROM_ZERO),
+        bids: number_of(matches, "bids", FROM_ZERO),
+    }
+}
+
+// Measures, if there are windows or bids, and else shows the example.
+fn watch_as_asked<R>(rt: &R, alloc: Global, plan: WatchPlan) -> Result<()>
+where
+    R: Threads + Wait + Sync + Clock + Print,
+{
+    if plan.windows > 0 || plan.bids > 0 {
+        return measure(rt, alloc, plan);
+    }
+    watch(rt, alloc)
 }
 
 // Watches a run that waits for its watcher, and then runs that don't.

@@ -30,7 +30,8 @@ const SCRIPTS: &[u8] = b"\
 
 const PHASES: u64 = 3;
 
-const OPENING: Opening = Opening {
+/// The auction before the run.
+pub const OPENING: Opening = Opening {
     users: 10,
     categories: 2,
 };
@@ -43,8 +44,8 @@ const POLICY: Policy = Policy {
     hot_max: 8,
 };
 
-// What the window is asked: the vase.
-const VIEW: Request = Request::ViewItem {
+/// What windows are asked: the vase.
+pub const VIEW: Request = Request::ViewItem {
     item: ItemId {
         worker: 0,
         serial: 0,
