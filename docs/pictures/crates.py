@@ -39,7 +39,7 @@ LAYERS = {
         "rubis_auction": 640, "rubis_load": 985, "rubis_check": 336, "text_tests": 850,
     },
     "examples and tests": {
-        "example_bank": 66, "example_likes": 182, "example_vase": 297, "example_phases": 410, "engine_tests": 525,
+        "example_bank": 66, "example_likes": 182, "example_vase": 297, "engine_tests": 525,
         "phase_tests": 630, "floor_tests": 735, "program_tests": 845, "example_watch": 965,
     },
 }
