@@ -20,7 +20,7 @@ LAYERS = {
     "model and records": {
         "auction_rows": 420, "split_records": 670, "top_records": 670, "item_shards": 690, "request_scripts": 540,
         "worker_journals": 420, "run_laws": 210, "published_parts": 120, "phase_boards": 350, "auction_window": 350,
-        "hot_choice": 510, "example_mean": 880, "test_values": 340, "record_tests": 790,
+        "hot_choice": 510, "example_mean": 880, "test_values": 340,
     },
     "engine": {
         "job_threads": 320, "split_engine": 180, "application_check": 245, "application_tests": 325,
@@ -29,18 +29,17 @@ LAYERS = {
         "phase_workers": 420, "run_phases": 560, "auction_run": 560,
     },
     "texts": {
-        "program_options": 420, "byte_texts": 700, "record_reading": 880, "auction_reading": 810,
-        "live_reading": 960, "auction_text": 880, "part_log": 640, "application_log": 150, "log_opening": 700,
-        "history_check": 230,
+        "program_options": 420, "byte_texts": 700, "record_reading": 880, "auction_reading": 810, "live_reading": 960,
+        "auction_text": 880, "part_log": 640, "application_log": 150, "log_opening": 700, "history_check": 230,
     },
     "programs": {
-        "example_ledger": 212, "program_opening": 680,
-        "program_serving": 700, "auction_program": 680, "check_program": 336,
-        "rubis_auction": 640, "rubis_load": 985, "rubis_check": 336, "text_tests": 850,
+        "example_ledger": 212, "program_opening": 680, "program_serving": 700, "auction_program": 680,
+        "check_program": 336, "rubis_auction": 640, "rubis_load": 985, "rubis_check": 336,
+        "text_tests": 850,
     },
     "examples and tests": {
-        "example_bank": 66, "example_likes": 182, "example_vase": 297, "engine_tests": 525,
-        "phase_tests": 630, "floor_tests": 735, "program_tests": 845, "example_watch": 965,
+        "example_bank": 66, "example_likes": 182, "example_vase": 297, "engine_tests": 525, "phase_tests": 630,
+        "state_tests": 735, "program_tests": 845, "example_watch": 965,
     },
 }
 # fmt: on

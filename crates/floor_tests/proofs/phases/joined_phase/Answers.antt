@@ -1,5 +1,0 @@
-use Rattle.phase_floor.proofs.Receipts.{begun_receipts}
-use Rattle.floor_tests.proofs.phases.joined_phase.Goals as goal
-
-pub perform_begun-requires : goal.perform_begun-requires
-perform_begun-requires g c = begun_receipts c.in-Ok.begun.0 _ _ c.in-Ok.begun.1.items c.in-Ok.ensures.begun.opens.permits
