@@ -34,8 +34,7 @@ LAYERS = {
     },
     "programs": {
         "example_ledger": 212, "program_opening": 680, "program_serving": 700, "auction_program": 680,
-        "check_program": 336, "rubis_auction": 640, "rubis_load": 985, "rubis_check": 336,
-        "text_tests": 850,
+        "rubis_auction": 640, "rubis_load": 985, "rubis_check": 336, "text_tests": 850,
     },
     "examples and tests": {
         "example_bank": 66, "example_likes": 182, "example_vase": 297, "engine_tests": 525, "phase_tests": 630,

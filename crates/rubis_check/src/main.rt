@@ -2,11 +2,16 @@
 //! as a line.
 #![tactic(auto)]
 
+mod execution;
+mod faults;
+mod options;
+
 ghost use Rattle.std.specs.Prelude.{◌≤◌};
 
-use check_program::{
-    Fault, Options, UntilEnd, execute, read_options, status, verdict_status, write_fault,
-};
+use crate::execution::{execute, verdict_status};
+use crate::faults::{Fault, status, write_fault};
+use crate::options::{Options, read_options};
+use byte_texts::UntilEnd;
 use history_check::{CheckFault, Verdict};
 use program_options::program_words;
 use std::alloc::Global;

@@ -3,8 +3,8 @@ use Rattle.std.{proofs.lemmas.Result.{IfOk-weaker}, specs.{List.{AllByRecursion}
 use Rattle.clap.specs.{Built.{AddsArg, AddsInTurn}, Simple.{with_rule}, Words.{app_of, rule_of}}
 use Rattle.clap.specs.declared.builder.arg.Arg.{Arg}
 use Rattle.program_options.proofs.AddedRules.{rules_added}
-use Rattle.check_program.specs.Words.{option_rules, program}
-use Rattle.check_program.proofs.options.command.Goals as goal
+use Rattle.rubis_check.specs.Words.{option_rules, program}
+use Rattle.rubis_check.proofs.options.command.Goals as goal
 
 pub returns : goal.returns
 returns c =

@@ -4,8 +4,8 @@ ghost use Rattle.std.specs.Io.KnownBytes.{Appends};
 ghost use Rattle.std.specs.Prelude.{◌≡◌, ◌≤◌, ◌++◌, Err, IfErr, IfOk, OnOk};
 ghost use Rattle.byte_texts.specs.Writing.{IsPartWritten};
 ghost use Rattle.byte_texts.specs.declared.writing.WriteFault.{WriteFault};
-ghost use Rattle.check_program.specs.{Faults.{verdict_status}, Finding.{Tells, TellsSome}};
-ghost use Rattle.check_program.specs.VerdictLines.{place_text, reason_text, Says, SaysWrong};
+ghost use Rattle.rubis_check.specs.{Faults.{verdict_status}, Finding.{Tells, TellsSome}};
+ghost use Rattle.rubis_check.specs.VerdictLines.{place_text, reason_text, Says, SaysWrong};
 
 use crate::faults::Fault;
 use crate::options::Options;

@@ -6,8 +6,8 @@ use Rattle.auction_text.specs.Scripts.{input_of}
 use Rattle.item_shards.specs.OpeningRows.{AreRows, opening_rows}
 use Rattle.history_check.specs.{Checking.{IsAccepted, IsVerdict}, declared.lines.Verdict.{Verdict}}
 use Rattle.history_check.specs.declared.lines.Verdict.TheVariants.{Replays}
-use Rattle.check_program.specs.{Finding.{IsFound, Tells}, VerdictLines.{Says}}
-use Rattle.check_program.specs.declared.options.Options.{Options}
+use Rattle.rubis_check.specs.{Finding.{IsFound, Tells}, VerdictLines.{Says}}
+use Rattle.rubis_check.specs.declared.options.Options.{Options}
 
 module _ (options : Options) (rows : List Opened) (scripts : List (List Request)) (opening : Opening) (start : Book) (line : List ℕ) (verdict : Verdict)
     (opening_is : opening ≡ options.opening) (start_is : start ≡ opening_rows options.opening rows) (are_rows : AreRows options.opening rows) where

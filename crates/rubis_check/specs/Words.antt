@@ -6,7 +6,7 @@ use Rattle.clap.specs.declared.builder.action.ArgAction.TheVariants.{Set}
 use Rattle.history_check.specs.declared.lines.Order.{TheVariants.{Any, StoresFirst, Strict}, Order}
 use Rattle.program_options.specs.Options.{flag_rule, is_set, named_rule, number_of, versioned_program}
 use Rattle.program_options.specs.declared.options.TheConstants.{MOST_ASKED}
-use Rattle.check_program.specs.declared.options.Options.{Options}
+use Rattle.rubis_check.specs.declared.options.Options.{Options}
 
 -- `--history FILE`, which has to be there
 abbrev pub plain_history_rule : Rule

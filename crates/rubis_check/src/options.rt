@@ -3,7 +3,7 @@ ghost use Rattle.std.specs.Prelude.{◌≡◌, ◌≤◌, IfOk, IfErr, OnOk, fal
 ghost use Rattle.clap.specs.Words.{app_of, first_value, found_of, one_text, rule_of};
 ghost use Rattle.program_options.specs.Words.{AreTaken, HaveNumbers, text_in, value_in};
 ghost use Rattle.program_options.specs.declared.words.UsageFault.{UsageFault};
-ghost use Rattle.check_program.specs.Words.{SayOptions, order_of, history_rule, plain_history_rule, program};
+ghost use Rattle.rubis_check.specs.Words.{SayOptions, order_of, history_rule, plain_history_rule, program};
 
 use auction_rows::{MOST_WORKERS, Opening};
 use clap::{Arg, ArgAction, ArgMatches, Command};

@@ -3,8 +3,8 @@ use Rattle.auction_rows.specs.declared.limits.TheConstants.{MOST_WORKERS}
 use Rattle.clap.specs.Matches.{found_of, one_text}
 use Rattle.program_options.proofs.NumberOptions.{number_is}
 use Rattle.program_options.specs.declared.options.TheConstants.{MOST_ASKED}
-use Rattle.check_program.{proofs.OptionLemmas.{name_found}, specs.Words.{order_of, program}}
-use Rattle.check_program.proofs.options.options_of.Goals as goal
+use Rattle.rubis_check.{proofs.OptionLemmas.{name_found}, specs.Words.{order_of, program}}
+use Rattle.rubis_check.proofs.options.options_of.Goals as goal
 
 pub returns-clause-given : goal.returns-clause-given
 returns-clause-given c = λ numbers. let text = one_text (found_of c.args.matches.now) in record {

@@ -1,7 +1,7 @@
 //! Why the program finds nothing, its exit statuses and its words.
 ghost use Rattle.std.specs.{Io.KnownBytes.{Appends}, Prelude.{◌≡◌, IfErr, IfSome, OnOk}};
 ghost use Rattle.byte_texts.specs.declared.writing.WriteFault.{WriteFault};
-ghost use Rattle.check_program.specs.Faults.{status, parser_words};
+ghost use Rattle.rubis_check.specs.Faults.{status, parser_words};
 
 use auction_text::ReadFault;
 use byte_texts::WriteFault;
@@ -36,7 +36,7 @@ pub enum Fault {
 }
 
 impl From<ReadFault> for Fault {
-    ghost use Rattle.check_program.specs.declared.faults.Fault.TheVariants.{Read};
+    ghost use Rattle.rubis_check.specs.declared.faults.Fault.TheVariants.{Read};
 
     ghost from_gives = { λ cause fault. fault ≡ Read cause };
 
@@ -46,7 +46,7 @@ impl From<ReadFault> for Fault {
 }
 
 impl From<ResumeFault> for Fault {
-    ghost use Rattle.check_program.specs.declared.faults.Fault.TheVariants.{Resume};
+    ghost use Rattle.rubis_check.specs.declared.faults.Fault.TheVariants.{Resume};
 
     ghost from_gives = { λ cause fault. fault ≡ Resume cause };
 
@@ -56,7 +56,7 @@ impl From<ResumeFault> for Fault {
 }
 
 impl From<CheckFault> for Fault {
-    ghost use Rattle.check_program.specs.declared.faults.Fault.TheVariants.{Check};
+    ghost use Rattle.rubis_check.specs.declared.faults.Fault.TheVariants.{Check};
 
     ghost from_gives = { λ cause fault. fault ≡ Check cause };
 
@@ -66,7 +66,7 @@ impl From<CheckFault> for Fault {
 }
 
 impl From<WriteFault> for Fault {
-    ghost use Rattle.check_program.specs.declared.faults.Fault.TheVariants.{Write};
+    ghost use Rattle.rubis_check.specs.declared.faults.Fault.TheVariants.{Write};
 
     ghost from_gives = { λ cause fault. fault ≡ Write cause };
 

@@ -6,8 +6,8 @@ use Rattle.history_check.specs.declared.lines.Wrong.{Wrong}
 use Rattle.history_check.specs.declared.lines.Wrong.TheVariants.{Unreadable, NoRequest, Again, Late, Due}
 use Rattle.history_check.specs.declared.lines.CheckFault.TheVariants as checking
 use Rattle.program_options.specs.Words.{usage_words}
-use Rattle.check_program.specs.declared.faults.Fault.{Fault}
-use Rattle.check_program.specs.declared.faults.Fault.TheVariants.{Usage, Read, Resume, Check, History, Write}
+use Rattle.rubis_check.specs.declared.faults.Fault.{Fault}
+use Rattle.rubis_check.specs.declared.faults.Fault.TheVariants.{Usage, Read, Resume, Check, History, Write}
 
 abbrev pub check_status : CheckFault → ℕ
 check_status checking.TooLong = 3

@@ -2,7 +2,7 @@
 use Rattle.std.proofs.Common.{◌≡◌, ◌∙◌, List, ℕ, [], Option, Some, None, true, refl, ap}
 use Rattle.std.specs.{Borrow.{Bor}, Prelude.{option_map, unwrap_or}}
 use Rattle.clap.specs.{Faults.{is_simple_and_free}, Simple.{App}}
-use Rattle.check_program.specs.Words.{program}
+use Rattle.rubis_check.specs.Words.{program}
 
 free : is_simple_and_free program ≡ true
 free = refl

@@ -5,7 +5,7 @@ use Rattle.auction_text.specs.Scripts.{input_of}
 use Rattle.item_shards.specs.OpeningRows.{AreRows, opening_rows}
 use Rattle.history_check.specs.{Checking.{IsAccepted, IsVerdict}, declared.lines.Verdict.{Verdict}}
 use Rattle.history_check.specs.declared.lines.Verdict.TheVariants.{Replays}
-use Rattle.check_program.specs.{VerdictLines.{Says}, declared.options.Options.{Options}}
+use Rattle.rubis_check.specs.{VerdictLines.{Says}, declared.options.Options.{Options}}
 
 -- The input has no fault and asks for rows, each a row at its place, and for scripts; and this is
 -- found of a text of theirs, with this line as its first wrong one if a line is wrong.

@@ -1,7 +1,7 @@
 use Rattle.std.proofs.Common.{◌≡◌, ◌++◌, ◌∙◌, List, ℕ, Some, ap, append_assoc}
 use Rattle.std.proofs.lemmas.Result.{on_ok_weaker}
-use Rattle.check_program.specs.VerdictLines.{place_text, reason_text, SaysWrong}
-use Rattle.check_program.proofs.execution.push_wrong.Goals as goal
+use Rattle.rubis_check.specs.VerdictLines.{place_text, reason_text, SaysWrong}
+use Rattle.rubis_check.proofs.execution.push_wrong.Goals as goal
 
 pub returns-in_ok-push_place-in-Some : goal.returns-in_ok-push_place-in-Some
 returns-in_ok-push_place-in-Some c =

@@ -3,7 +3,7 @@ use Rattle.std.proofs.Common.{◌≡◌, refl, sym, ◌∙◌}
 use Rattle.std.specs.Prelude.{Result, Ok, Err, IfErr, IsErr, IsErrAnd}
 use Rattle.byte_texts.specs.declared.writing.WriteFault.{WriteFault}
 use Rattle.byte_texts.specs.declared.writing.WriteFault.TheVariants as writing
-use Rattle.check_program.specs.declared.faults.Fault.{TheVariants.{Write}, Fault}
+use Rattle.rubis_check.specs.declared.faults.Fault.{TheVariants.{Write}, Fault}
 
 module _ {T : Type 0} where
   -- it is the fault of a result

@@ -4,8 +4,8 @@ use Rattle.std.specs.Prelude.{IfErr}
 use Rattle.clap.specs.{Matches.{found_of, one_text}, Simple.{App, app_of}}
 use Rattle.program_options.specs.Words.{AreTaken, FindsSaid, text_in, value_in}
 use Rattle.program_options.specs.declared.words.UsageFault.TheVariants.{Memory}
-use Rattle.check_program.{proofs.OptionLemmas.{is_free}, specs.Words.{SayOptions, program}}
-use Rattle.check_program.proofs.options.read_options.Goals as goal
+use Rattle.rubis_check.{proofs.OptionLemmas.{is_free}, specs.Words.{SayOptions, program}}
+use Rattle.rubis_check.proofs.options.read_options.Goals as goal
 
 pub returns : goal.returns
 returns c =

@@ -1,8 +1,8 @@
 use Rattle.std.{proofs.Common.{◌≡◌, ap}, specs.{Io.KnownBytes.{Appends}, Prelude.{Err}}}
 use Rattle.byte_texts.specs.Writing.{IsPartWritten}
 use Rattle.item_shards.specs.OpeningBooks as book
-use Rattle.check_program.proofs.{FaultLemmas.{unless_failed, write_is}, FindingLemmas.{tells}}
-use Rattle.check_program.proofs.execution.execute.Goals as goal
+use Rattle.rubis_check.proofs.{FaultLemmas.{unless_failed, write_is}, FindingLemmas.{tells}}
+use Rattle.rubis_check.proofs.execution.execute.Goals as goal
 
 pub returns-clause-tells : goal.returns-clause-tells
 returns-clause-tells g c =

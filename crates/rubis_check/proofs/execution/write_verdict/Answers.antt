@@ -2,8 +2,8 @@ use Rattle.std.proofs.{Common.{◌++◌, ◌∙◌, ℕ, List, ap, subst}, lemma
 use Rattle.std.specs.Io.KnownBytes.{Appends}
 use Rattle.byte_texts.specs.Writing.{IsPartWritten}
 use Rattle.history_check.specs.declared.lines.Verdict.{TheVariants.{WrongAt}, Verdict}
-use Rattle.check_program.specs.VerdictLines.{Says}
-use Rattle.check_program.proofs.execution.write_verdict.Goals as goal
+use Rattle.rubis_check.specs.VerdictLines.{Says}
+use Rattle.rubis_check.proofs.execution.write_verdict.Goals as goal
 
 -- what holds of all that a text may be holds of what it says
 says_so : (line : List ℕ) (verdict : Verdict) (P Q : List ℕ → Type 0) → ((said : List ℕ) → P said → Q said) → Says line verdict P → Says line verdict Q
