@@ -6,7 +6,7 @@ use Rattle.std.proofs.lemmas.{List.Sums.{fold-append}, Option.{none-some, same_S
 use Rattle.std.specs.{List.{AllByRecursion}, Option.{option_map}, Prelude.{slice_get, ◌&&◌, ◌||◌}}
 use Rattle.split_engine.specs.{Rules.{Rules}, Serving.{request_at}}
 use Rattle.application_check.specs.Checking.{has_line, IsRightLine, after_line, after_lines, LinesReplay}
-use Rattle.application_check.specs.{declared.referee.Line.{Line}, inner.Marking.{no_marks, AreMarks}}
+use Rattle.application_check.specs.{declared.referee.HistoryLine.{HistoryLine}, inner.Marking.{no_marks, AreMarks}}
 use Rattle.phase_laws.proofs.ListLemmas.{all_at}
 
 -- ---- requests
@@ -35,12 +35,12 @@ pub marks_at_first : {Q : Type 0} (scripts : List (List Q)) (marks : List (List 
 marks_at_first scripts marks is w i = ap (λ ms. request_at ms w i) is ∙ none_marked scripts w i
 
 -- a request that is there has a mark
-pub mark_there : {Q R : Type 0} (scripts : List (List Q)) (before : List (Line R)) (marks : List (List Bool)) (w i : ℕ) (q : Q) →
+pub mark_there : {Q R : Type 0} (scripts : List (List Q)) (before : List (HistoryLine R)) (marks : List (List Bool)) (w i : ℕ) (q : Q) →
     AreMarks scripts before marks → request_at scripts w i ≡ Some q → request_at marks w i ≡ Some (has_line before w i)
 mark_there scripts before marks w i q are there = are w i ∙ ap (option_map (λ p. has_line before w i)) there
 
 -- if each request is marked, each has a line
-pub all_had : {Q R : Type 0} (scripts : List (List Q)) (lines : List (Line R)) (marks : List (List Bool)) → AreMarks scripts lines marks →
+pub all_had : {Q R : Type 0} (scripts : List (List Q)) (lines : List (HistoryLine R)) (marks : List (List Bool)) → AreMarks scripts lines marks →
     ((w i : ℕ) → request_at marks w i ≡ Some false → ⊥) → (w i : ℕ) (q : Q) → request_at scripts w i ≡ Some q → has_line lines w i ≡ true
 all_had scripts lines marks are none w i q there = here (has_line lines w i) (mark_there scripts lines marks w i q are there) where
   here : (b : Bool) → request_at marks w i ≡ Some b → b ≡ true
@@ -74,7 +74,7 @@ row_others rows w i row old v j at is ne = refl
 
 -- ---- a line more
 
-has-append : {R : Type 0} (before : List (Line R)) (line : Line R) (w i : ℕ) → has_line (before ++ line ∷ []) w i ≡ (has_line before w i || ((line.worker == w) && (line.index == i)))
+has-append : {R : Type 0} (before : List (HistoryLine R)) (line : HistoryLine R) (w i : ℕ) → has_line (before ++ line ∷ []) w i ≡ (has_line before w i || ((line.worker == w) && (line.index == i)))
 has-append [] line w i = or-false ((line.worker == w) && (line.index == i))
 has-append (l ∷ before) line w i = here ((l.worker == w) && (l.index == i)) (has-append before line w i) where
   here : (b : Bool) → has_line (before ++ line ∷ []) w i ≡ (has_line before w i || ((line.worker == w) && (line.index == i))) →
@@ -83,7 +83,7 @@ has-append (l ∷ before) line w i = here ((l.worker == w) && (l.index == i)) (h
   here false again = again
 
 -- the line's own request
-pub has_own : {R : Type 0} (before : List (Line R)) (line : Line R) → has_line (before ++ line ∷ []) line.worker line.index ≡ true
+pub has_own : {R : Type 0} (before : List (HistoryLine R)) (line : HistoryLine R) → has_line (before ++ line ∷ []) line.worker line.index ≡ true
 has_own before line =
     has-append before line line.worker line.index
     ∙ or_right (has_line before line.worker line.index) _
@@ -96,14 +96,14 @@ other_false a w b i ne = here (a == w) refl where
   here false is = refl
 
 -- and another
-has_other : {R : Type 0} (before : List (Line R)) (line : Line R) (w i : ℕ) → (w ≡ line.worker → i ≡ line.index → ⊥) → has_line (before ++ line ∷ []) w i ≡ has_line before w i
+has_other : {R : Type 0} (before : List (HistoryLine R)) (line : HistoryLine R) (w i : ℕ) → (w ≡ line.worker → i ≡ line.index → ⊥) → has_line (before ++ line ∷ []) w i ≡ has_line before w i
 has_other before line w i ne =
     has-append before line w i
     ∙ ap (λ c. has_line before w i || c) (other_false line.worker w line.index i ne)
     ∙ or-false (has_line before w i)
 
 -- marks with the line's request marked are those of the lines with it
-module _ {Q R : Type 0} (scripts : List (List Q)) (before : List (Line R)) (old new : List (List Bool)) (line : Line R) (q : Q) (are : AreMarks scripts before old)
+module _ {Q R : Type 0} (scripts : List (List Q)) (before : List (HistoryLine R)) (old new : List (List Bool)) (line : HistoryLine R) (q : Q) (are : AreMarks scripts before old)
     (there : request_at scripts line.worker line.index ≡ Some q) (marked : request_at new line.worker line.index ≡ Some true)
     (others : (w i : ℕ) → (w ≡ line.worker → i ≡ line.index → ⊥) → request_at new w i ≡ request_at old w i) where
   more_own : request_at new line.worker line.index ≡ option_map (λ p. has_line (before ++ line ∷ []) line.worker line.index) (request_at scripts line.worker line.index)
@@ -126,7 +126,7 @@ module _ {Q R : Type 0} (scripts : List (List Q)) (before : List (Line R)) (old 
   marks_more w i = more_if w i (w == line.worker) (i == line.index) refl refl
 
 module _ {Record Slice Look Request Reply Act : Type 0} (rules : Rules Record Slice Look Request Reply Act) (scripts : List (List Request)) where
-  pub lines_push : (before : List (Line Reply)) (t : List Record) (lines : List (Line Reply)) (line : Line Reply) → LinesReplay rules scripts before t lines →
+  pub lines_push : (before : List (HistoryLine Reply)) (t : List Record) (lines : List (HistoryLine Reply)) (line : HistoryLine Reply) → LinesReplay rules scripts before t lines →
       IsRightLine rules scripts (before ++ lines) (after_lines rules scripts t lines) line → LinesReplay rules scripts before t (lines ++ line ∷ [])
   lines_push before t [] line h right = (subst (λ b. IsRightLine rules scripts b t line) (append-nil before) right, tt)
   lines_push before t (l ∷ lines) line h right = (
@@ -135,6 +135,6 @@ module _ {Record Slice Look Request Reply Act : Type 0} (rules : Rules Record Sl
         (subst (λ b. IsRightLine rules scripts b (after_lines rules scripts (after_line rules scripts t l) lines) line) (sym (append_assoc before (l ∷ []) lines)) right),
   )
 
-  pub after_push : (t : List Record) (lines : List (Line Reply)) (line : Line Reply) →
+  pub after_push : (t : List Record) (lines : List (HistoryLine Reply)) (line : HistoryLine Reply) →
       after_lines rules scripts t (lines ++ line ∷ []) ≡ after_line rules scripts (after_lines rules scripts t lines) line
   after_push t lines line = fold-append (after_line rules scripts) t lines (line ∷ [])

@@ -7,4 +7,4 @@
 mod marks;
 mod referee;
 
-pub use referee::{Checkable, HistoryFault, Line, check_history};
+pub use referee::{Checkable, HistoryFault, HistoryLine, check_history};

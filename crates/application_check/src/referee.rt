@@ -4,7 +4,7 @@ ghost use Rattle.std.specs.Prelude.{◌≡◌, ◌↔◌, ℕ, Some, None, Match
 ghost use Rattle.split_engine.specs.{Rules.{most_acts}, Serial.{IsWithin}, Serving.{lists, request_at}};
 ghost use Rattle.application_check.specs.Checking.{IsRightLine, after_line, after_lines, IsHistory, IsHistoryFault};
 ghost use Rattle.application_check.specs.inner.Marking.{AreMarks};
-ghost use Rattle.application_check.specs.declared.referee.Line.{Line as LineValue};
+ghost use Rattle.application_check.specs.declared.referee.HistoryLine.{HistoryLine as LineValue};
 
 use crate::marks::{mark, new_marks, unmarked};
 use split_engine::{Application, MOST_KEYS, perform};
@@ -13,7 +13,7 @@ use thiserror::Error;
 
 /// A line of a history: the request with this index of a worker's script was answered so.
 #[derive(Clone, Copy)]
-pub struct Line<R> {
+pub struct HistoryLine<R> {
     /// Whose script the request is of.
     pub worker: u32,
     /// Its place in the script, from 0.
@@ -55,7 +55,7 @@ impl From<AllocError> for HistoryFault {
 }
 
 // The request that a line names.
-fn asked<'a, Q: Copy, R>(scripts: &'a [Vec<Q>], line: &Line<R>) -> Option<&'a Q>
+fn asked<'a, Q: Copy, R>(scripts: &'a [Vec<Q>], line: &HistoryLine<R>) -> Option<&'a Q>
     ensures { MatchOption result
         (request_at (lists scripts.now) line.now.worker line.now.index ≡ None)
         (λ request.
@@ -70,7 +70,7 @@ fn check_line<A: Checkable>(
     table: &mut Vec<A::Record>,
     marks: &mut Vec<Vec<bool>>,
     scripts: &[Vec<A::Request>],
-    line: &Line<A::Reply>,
+    line: &HistoryLine<A::Reply>,
 ) -> bool
     requires scripts { AllByRecursion (AllByRecursion (IsWithin A.rules (length table.old.items)))
         (lists scripts.now) }
@@ -109,7 +109,7 @@ pub fn check_history<A: Checkable>(
     alloc: Global,
     table: &mut Vec<A::Record>,
     scripts: &[Vec<A::Request>],
-    lines: &[Line<A::Reply>],
+    lines: &[HistoryLine<A::Reply>],
 ) -> Result<(), HistoryFault>
     requires scripts { AllByRecursion (AllByRecursion (IsWithin A.rules (length table.old.items)))
         (lists scripts.now) }

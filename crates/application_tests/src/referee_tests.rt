@@ -4,14 +4,14 @@ ghost use Rattle.std.specs.Prelude.{◌<◌, length};
 use crate::counters::CounterRequest::{Add, Read};
 use crate::counters::{CounterReply, Counters};
 use application_check::HistoryFault::{Lacking, Wrong};
-use application_check::{HistoryFault, Line, check_history};
+use application_check::{HistoryFault, HistoryLine, check_history};
 use split_engine::perform;
 use std::alloc::{AllocError, Global};
 use std::test::Fail;
 
 /// A line of a history.
-pub(crate) fn line(worker: u32, index: u32, reply: CounterReply) -> Line<CounterReply> {
-    Line {
+pub(crate) fn line(worker: u32, index: u32, reply: CounterReply) -> HistoryLine<CounterReply> {
+    HistoryLine {
         worker,
         index,
         reply,
@@ -21,7 +21,7 @@ pub(crate) fn line(worker: u32, index: u32, reply: CounterReply) -> Line<Counter
 // What the referee finds of lines for two scripts over counters that show 1 and 2.
 fn verdict(
     alloc: Global,
-    lines: &[Line<CounterReply>],
+    lines: &[HistoryLine<CounterReply>],
 ) -> Result<Result<(), HistoryFault>, AllocError>
     requires { length lines.now < 1000 }
 {

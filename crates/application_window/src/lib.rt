@@ -12,5 +12,5 @@ mod window;
 
 pub use parts::{PartLog, WindowName};
 pub use published_parts::{MakeFault, NoGuard};
-pub use publisher::{Opening, PublishFault, Publisher};
+pub use publisher::{OpeningTable, PublishFault, Publisher};
 pub use window::{Seen, Told, Window};

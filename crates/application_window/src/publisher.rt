@@ -32,7 +32,7 @@ pub enum PublishFault {
 
 /// The table before the first part.
 #[derive(Drop)]
-pub struct Opening<A: Application> {
+pub struct OpeningTable<A: Application> {
     /// The records, each at its key.
     pub table: Vec<A::Record>,
     /// The same table again.
@@ -73,7 +73,7 @@ impl<A: Application, J: WindowName<A::Record>> Publisher<A, J> {
         rt: &R,
         alloc: Global,
         log: PartLog<A>,
-        opening: Opening<A>,
+        opening: OpeningTable<A>,
         windows: u32,
     ) -> Result<(Publisher<A, J>, Vec<Window<A, J>>), MakeFault>
         requires log { log ≡ J.log }
@@ -86,7 +86,7 @@ impl<A: Application, J: WindowName<A::Record>> Publisher<A, J> {
         ensures windows { IfOk result (λ made. length made.1.items ≡ windows) }
         ensures nothing { IfOk result (λ made. All (λ window. window ≡ []) made.1.items) }
     {
-        let Opening { table, copy, acts } = opening;
+        let OpeningTable { table, copy, acts } = opening;
         let records = table.len();
         let (count, parts) = log.named::<J>();
         let first = TableCopy::new(table, acts, parts.again());

@@ -9,8 +9,8 @@ use crate::bank::BankRequest::{Balance, Close, Deposit, Transfer};
 use crate::bank::{Account, Bank, BankReply};
 use crate::watching::watch_history;
 use anyhow::Result;
-use application_check::{Line, check_history};
-use application_window::Opening;
+use application_check::{HistoryLine, check_history};
+use application_window::OpeningTable;
 use split_engine::{Outcome, Policy, check_scripts, run};
 use std::alloc::Global;
 use std::io;
@@ -76,7 +76,7 @@ fn show<R: Threads + Wait + Sync + Print + Alloc<A = Global>>(rt: &R) -> Result<
     check_scripts::<Bank>(&scripts, accounts.len())?;
     let outcome = run::<Bank, R>(rt, alloc, accounts, &scripts, POLICY)?;
     print_outcome(rt, &outcome)?;
-    let opening = Opening {
+    let opening = OpeningTable {
         table: vec![in alloc; FULL, EMPTY, CLOSED]?,
         copy: vec![in alloc; FULL, EMPTY, CLOSED]?,
         acts: 1,
@@ -117,8 +117,8 @@ fn judge_two(rt: &impl Print, alloc: Global) -> Result<()> {
 }
 
 // A line of worker 0.
-fn line(index: u32, reply: BankReply) -> Line<BankReply> {
-    Line {
+fn line(index: u32, reply: BankReply) -> HistoryLine<BankReply> {
+    HistoryLine {
         worker: 0,
         index,
         reply,

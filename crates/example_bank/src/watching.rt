@@ -6,7 +6,7 @@ ghost use Rattle.std.specs.List.{AllByRecursion};
 use crate::bank::BankRequest::Balance;
 use crate::bank::{Account, Bank, BankReply, BankRequest};
 use anyhow::Result;
-use application_window::{Opening, PartLog, Publisher, Seen, Window, WindowName};
+use application_window::{OpeningTable, PartLog, Publisher, Seen, Window, WindowName};
 use split_engine::History;
 use std::alloc::Global;
 use std::io;
@@ -22,7 +22,7 @@ const MOST_LOOKS: u64 = 1_000_000_000;
 pub fn watch_history<R>(
     rt: &R,
     alloc: Global,
-    opening: Opening<Bank>,
+    opening: OpeningTable<Bank>,
     history: History<BankRequest, BankReply>,
 ) -> Result<()>
 where
@@ -37,7 +37,7 @@ fn publish<J, R>(
     rt: &R,
     alloc: Global,
     log: PartLog<Bank>,
-    opening: Opening<Bank>,
+    opening: OpeningTable<Bank>,
     history: History<BankRequest, BankReply>,
 ) -> Result<()>
 where
