@@ -57,7 +57,13 @@ class Owned:
 
 
 OWNED = [
-    Owned("held", "Held<N>", "N: PhaseName", "boxes.put(key, held, None);", "boxes: &Boxes<N>, key: &mut Key<N>, "),
+    Owned(
+        "held",
+        "Held<N>",
+        "N: PhaseName, R: Wait",
+        "boxes.put(rt, key, held, None);",
+        "rt: &R, boxes: &Boxes<N>, key: &mut Key<N>, ",
+    ),
     Owned("permit", "Permit<N, JoinedPhase>", "N: PhaseName", "let _ = permit.finish();"),
     Owned("permit", "Permit<N, SplitPhase>", "N: PhaseName", "let _ = permit.finish();"),
     Owned("publisher", "Publisher<J>", "J: WindowName, R: Wait", "publisher.end(rt);", "rt: &R, "),

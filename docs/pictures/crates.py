@@ -24,7 +24,7 @@ LAYERS = {
     },
     "engine": {
         "job_threads": 320, "split_engine": 180, "application_check": 245, "application_tests": 325,
-        "application_window": 85, "ruled_cell": 800, "shard_boxes": 690, "auction_shards": 770,
+        "application_window": 85, "shard_boxes": 690, "auction_shards": 770,
         "worker_slices": 600, "phase_transactions": 600, "phase_permits": 600, "closing_laws": 640, "phase_floor": 630,
         "phase_workers": 420, "run_phases": 560, "auction_run": 560,
     },

@@ -10,6 +10,7 @@ use indexmap::IndexSet;
 use phase_permits::{JoinedPermit, SplitPermit, Stash};
 use shard_boxes::PhaseName;
 use std::alloc::{AllocError, Global};
+use std::sync::Wait;
 
 impl Joined {
     ghost use Rattle.std.specs.List.{AllByRecursion};
@@ -21,8 +22,9 @@ impl Joined {
     /// quota. The phase is of this state's shards and workers, and its number is below 2^64 - 1. If
     /// it does not begin, the state and the stashes come back unchanged: `TooLong` if some worker's
     /// commits, stash and quota are more than the state's limit together, `Memory` if none is left.
-    pub fn begin_joined<N: PhaseName>(
+    pub fn begin_joined<N: PhaseName, R: Wait>(
         self,
+        rt: &R,
         alloc: Global,
         quotas: &[u32],
         stashes: Vec<Stash>,
@@ -37,7 +39,7 @@ impl Joined {
         if is_too_long(self.limit, &self.counters, &stashes, quotas) {
             return Err((self, stashes, BeginFault::TooLong));
         }
-        match self.begin(alloc, Vec::new(alloc), quotas, stashes) {
+        match self.begin(rt, alloc, Vec::new(alloc), quotas, stashes) {
             Ok(begun) => Ok(begun),
             Err((state, stashes)) => Err((state, stashes, BeginFault::Memory)),
         }
@@ -48,8 +50,9 @@ impl Joined {
     /// 1. If it does not begin, the state comes back unchanged: `UnknownHot` if a hot object does
     /// not exist, then `TooLong` if some worker's commits and quota are more than the state's limit
     /// together, then `Memory` if none is left.
-    pub fn begin_split<N: PhaseName>(
+    pub fn begin_split<N: PhaseName, R: Wait>(
         self,
+        rt: &R,
         alloc: Global,
         quotas: &[u32],
         hot: &IndexSet<Object>,
@@ -60,12 +63,13 @@ impl Joined {
         ensures refused { IfErr result (λ refused.
             HasRefusedSplit self quotas.now hot.now.keys refused.0 refused.1) }
     {
-        self.begin_split_in(alloc, quotas, hot, Vec::new(alloc))
+        self.begin_split_in(rt, alloc, quotas, hot, Vec::new(alloc))
     }
 
     /// As `begin_split`, in the memory of stashes that are needed no more.
-    pub fn begin_split_in<N: PhaseName>(
+    pub fn begin_split_in<N: PhaseName, R: Wait>(
         self,
+        rt: &R,
         alloc: Global,
         quotas: &[u32],
         hot: &IndexSet<Object>,
@@ -90,7 +94,7 @@ impl Joined {
         let Ok(stashes) = new_stashes(alloc, quotas, spent) else {
             return Err((self, BeginFault::Memory));
         };
-        match self.begin(alloc, stocks, quotas, stashes) {
+        match self.begin(rt, alloc, stocks, quotas, stashes) {
             Ok(begun) => Ok(begun),
             Err((state, _)) => Err((state, BeginFault::Memory)),
         }

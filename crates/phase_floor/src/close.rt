@@ -19,6 +19,7 @@ use item_shards::Shard;
 use phase_permits::{Counters, Kind, Receipt, Slices, Stash};
 use shard_boxes::{Key, PhaseName};
 use std::alloc::{AllocError, Global};
+use std::sync::Wait;
 use worker_journals::{History, Journal, SharedScripts};
 
 /// The journals, stashes, keys, counters and slices of a phase's workers, each in the order of the
@@ -142,8 +143,9 @@ impl<N: PhaseName, K: Kind> Floor<N, K> {
     /// all slices are merged, and of each stash what was not performed. The phase's journals go to
     /// the history: their entries, by number and then worker, are at its end. All memory is asked
     /// for first; if it is refused, the history is as it was, and the run is over.
-    pub fn close(
+    pub fn close<R: Wait>(
         self,
+        rt: &R,
         alloc: Global,
         history: &mut History,
         receipts: Vec<Receipt<N, K>>,
@@ -164,13 +166,14 @@ impl<N: PhaseName, K: Kind> Floor<N, K> {
             Leaves N.initial self receipts.items (added history.old.entries history.new.entries)
             closed.0 closed.1.items) }
     {
-        self.close_on(alloc, history, receipts, None)
+        self.close_on(rt, alloc, history, receipts, None)
     }
 
     /// As `close`. If each entry's request is the one of its worker's script at its index, the
     /// scripts may be given: then the history reads the requests there, and keeps no copy of them.
-    pub fn close_on(
+    pub fn close_on<R: Wait>(
         self,
+        rt: &R,
         alloc: Global,
         history: &mut History,
         receipts: Vec<Receipt<N, K>>,
@@ -211,7 +214,7 @@ impl<N: PhaseName, K: Kind> Floor<N, K> {
         } = Parts::of(alloc, receipts, counters)?;
         memory.spent.reserve(slices.len())?;
         history.add_phase_on(journals, scripts, &mut memory.lists)?;
-        let (given, spare) = boxes.close_kept(keys);
+        let (given, spare) = boxes.close_kept(rt, keys);
         let shards = reconciled(given, slices, &mut memory);
         let state = Joined {
             opening,

@@ -19,6 +19,7 @@ use phase_permits::{Counters, Kind, Permit, Slices, Stash, WorkerStart};
 use shard_boxes::{Boxes, Key, MOST_COMMITS, PhaseName, Spare};
 use std::alloc::{AllocError, Global};
 use std::marker::PhantomData;
+use std::sync::Wait;
 use worker_journals::Journal;
 
 // Whether these are more than a limit together.
@@ -117,8 +118,9 @@ fn new_stash(alloc: Global, room: usize, spent: Option<Stash>) -> Result<Stash, 
 impl Joined {
     // Begins a phase of either kind. All memory is asked for before anything is moved; if it is
     // refused, the state and the stashes come back unchanged.
-    pub(crate) fn begin<N: PhaseName, K: Kind>(
+    pub(crate) fn begin<N: PhaseName, K: Kind, R: Wait>(
         self,
+        rt: &R,
         alloc: Global,
         stocks: Stocks,
         quotas: &[u32],
@@ -143,7 +145,7 @@ impl Joined {
             return Err((state, stashes));
         };
         let shards = self.shards.into_vec();
-        match Boxes::open(alloc, shards, quotas.len() as u32, self.spare) {
+        match Boxes::open(rt, alloc, shards, quotas.len() as u32, self.spare) {
             Ok((boxes, keys)) => {
                 let floor = Floor {
                     opening: self.opening,

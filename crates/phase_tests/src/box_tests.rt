@@ -65,7 +65,7 @@ fn put_by_hand<N: PhaseName, R: Wait + Abort>(
     requires { BeginsWith N.initial N.workers 1 shards.items }
 {
     let room = Vec::with_capacity(alloc, 1)?;
-    let (boxes, mut key) = boxes_of_one::<N>(alloc, shards)?;
+    let (boxes, mut key) = boxes_of_one::<N, R>(rt, alloc, shards)?;
     assert_eq!(rt; [boxes.shards(), key.shards()], [4, 4]);
     let mut held = boxes.take(rt, &mut key, 0);
     let clock = held.shard().clock();
@@ -73,8 +73,8 @@ fn put_by_hand<N: PhaseName, R: Wait + Abort>(
     let line = list(held.shard_mut(), clock + 1);
     assert_eq!(rt; [line.before, line.number], [0, 1]);
     assert_eq!(rt; held.shard().clock(), 1);
-    boxes.put(&mut key, held, Some(line));
-    let shards = close_one(boxes, key, room);
+    boxes.put(rt, &mut key, held, Some(line));
+    let shards = close_one(rt, boxes, key, room);
     assert_listed(rt, &shards);
     assert_clocks(rt, &shards, [1, 0, 0, 0]);
     Ok(())

@@ -11,6 +11,7 @@ use phase_permits::Stash;
 use shard_boxes::{Boxes, Key, PhaseName};
 use std::alloc::{AllocError, Global};
 use std::process::Abort;
+use std::sync::Wait;
 use test_values::{OPENING, both, only};
 use worker_journals::Journal;
 
@@ -44,7 +45,8 @@ pub(crate) fn four(alloc: Global) -> Result<Vec<Shard>, AllocError>
 }
 
 /// The boxes of these shards, and the key of their one worker.
-pub(crate) fn boxes_of_one<N: PhaseName>(
+pub(crate) fn boxes_of_one<N: PhaseName, R: Wait>(
+    rt: &R,
     alloc: Global,
     shards: Vec<Shard>,
 ) -> Result<(Boxes<N>, Key<N>), AllocError>
@@ -53,7 +55,7 @@ pub(crate) fn boxes_of_one<N: PhaseName>(
     ensures worker { IfOk result (λ made. made.1.worker ≡ 0) }
     ensures unused { IfOk result (λ made. IsUnused made.1) }
 {
-    let Ok((boxes, keys)) = Boxes::<N>::new(alloc, shards, 1) else {
+    let Ok((boxes, keys)) = Boxes::<N>::new(rt, alloc, shards, 1) else {
         return Err(AllocError);
     };
     let key = only(keys);
@@ -61,7 +63,8 @@ pub(crate) fn boxes_of_one<N: PhaseName>(
 }
 
 /// The boxes of these shards, and the keys of their two workers.
-pub(crate) fn boxes_of_two<N: PhaseName>(
+pub(crate) fn boxes_of_two<N: PhaseName, R: Wait>(
+    rt: &R,
     alloc: Global,
     shards: Vec<Shard>,
 ) -> Result<(Boxes<N>, Key<N>, Key<N>), AllocError>
@@ -69,7 +72,7 @@ pub(crate) fn boxes_of_two<N: PhaseName>(
     ensures first { IfOk result (λ made. IsNewKey made.0 0 made.1) }
     ensures second { IfOk result (λ made. IsNewKey made.0 1 made.2) }
 {
-    let Ok((boxes, keys)) = Boxes::<N>::new(alloc, shards, 2) else {
+    let Ok((boxes, keys)) = Boxes::<N>::new(rt, alloc, shards, 2) else {
         return Err(AllocError);
     };
     let (first, second) = both(keys);

@@ -52,7 +52,7 @@ where
     R: Threads + Wait + Sync + Abort,
     requires { BeginsWith N.initial N.workers 1 shards.items }
 {
-    let (boxes, key) = boxes_of_one::<N>(alloc, shards)?;
+    let (boxes, key) = boxes_of_one::<N, R>(rt, alloc, shards)?;
     let stash = waiting(alloc, 0, 0)?;
     let permit = joined_permit(alloc, key, stash, 0, u64::MAX)?;
     let scripts = [Script::new(alloc)];

@@ -140,23 +140,29 @@ pub(crate) fn make_room<N: PhaseName>(taken: &mut Taken<N>, item: ItemId) -> Res
 }
 
 /// Puts the shards back as they were taken.
-pub(crate) fn put_back<N: PhaseName>(boxes: &Boxes<N>, key: &mut Key<N>, taken: Taken<N>)
+pub(crate) fn put_back<N: PhaseName, R: Wait>(
+    rt: &R,
+    boxes: &Boxes<N>,
+    key: &mut Key<N>,
+    taken: Taken<N>,
+)
     requires { AreHeldAll N.initial N.workers boxes.now key.old (held_in taken) }
     ensures { AreBack key.old key.new }
 {
     match taken {
         Taken::Nothing => {}
-        Taken::One(one) => boxes.put(key, one, None),
+        Taken::One(one) => boxes.put(rt, key, one, None),
         Taken::Two(item, other) => {
-            boxes.put(key, item, None);
-            boxes.put(key, other, None);
+            boxes.put(rt, key, item, None);
+            boxes.put(rt, key, other, None);
         }
     }
 }
 
 /// Does two acts on the one shard, or one on each of two, and puts them back with their lines.
 #[inline(always)]
-pub(crate) fn put_all<N: PhaseName>(
+pub(crate) fn put_all<N: PhaseName, R: Wait>(
+    rt: &R,
     boxes: &Boxes<N>,
     key: &mut Key<N>,
     taken: Taken<N>,
@@ -172,10 +178,10 @@ pub(crate) fn put_all<N: PhaseName>(
     let (first, second) = acts;
     match taken {
         Taken::Nothing => {}
-        Taken::One(one) => boxes.put_acts(key, one, at, &[first, second]),
+        Taken::One(one) => boxes.put_acts(rt, key, one, at, &[first, second]),
         Taken::Two(item, other) => {
-            boxes.put_acts(key, item, at, &[first, Act::Look(Look::Nothing)]);
-            boxes.put_acts(key, other, at, &[second, Act::Look(Look::Nothing)]);
+            boxes.put_acts(rt, key, item, at, &[first, Act::Look(Look::Nothing)]);
+            boxes.put_acts(rt, key, other, at, &[second, Act::Look(Look::Nothing)]);
         }
     }
 }

@@ -94,7 +94,7 @@ impl<N: PhaseName> Worker<N> {
         };
         let at = Numbered { number, index };
         let item = bid.item;
-        let refused = boxes.put_bid(&mut self.key, held, at, ItemBid { item, entry });
+        let refused = boxes.put_bid(rt, &mut self.key, held, at, ItemBid { item, entry });
         // The item is in a shard, so no slice is written.
         let answer = Answer {
             form: ReplyForm::Store(reply_unless(refused, StoreReply::BidStored(id))),
@@ -132,7 +132,7 @@ impl<N: PhaseName> Worker<N> {
         let mut begun = self.begin(rt, boxes, &homes)?;
         if self.prepare(&mut begun, request).is_err() {
             let Begun { taken, number: _ } = begun;
-            put_back(boxes, &mut self.key, taken);
+            put_back(rt, boxes, &mut self.key, taken);
             return Err(PermitFault::Memory);
         }
 
@@ -143,7 +143,7 @@ impl<N: PhaseName> Worker<N> {
             homes: &homes,
             reply,
         };
-        self.put_store(boxes, begun, &store, stored);
+        self.put_store(rt, boxes, begun, &store, stored);
         Ok(())
     }
 
@@ -170,7 +170,7 @@ impl<N: PhaseName> Worker<N> {
         match number_on(&taken, self.clock) {
             Some(number) => Ok(Begun { taken, number }),
             None => {
-                put_back(boxes, &mut self.key, taken);
+                put_back(rt, boxes, &mut self.key, taken);
                 Err(PermitFault::NumberFull)
             }
         }
@@ -199,7 +199,7 @@ impl<N: PhaseName> Worker<N> {
         match number_with(&held, self.clock) {
             Some(number) => Ok(BegunOne { held, number }),
             None => {
-                put_back(boxes, &mut self.key, Taken::One(held));
+                put_back(rt, boxes, &mut self.key, Taken::One(held));
                 Err(PermitFault::NumberFull)
             }
         }
@@ -222,8 +222,9 @@ impl<N: PhaseName> Worker<N> {
 
     // Does a store's acts on the shards that were taken, puts these back, and commits it.
     #[inline]
-    fn put_store(
+    fn put_store<R: Wait>(
         &mut self,
+        rt: &R,
         boxes: &Boxes<N>,
         begun: Begun<N>,
         store: &Store<'_>,
@@ -247,7 +248,7 @@ impl<N: PhaseName> Worker<N> {
         let acts = deeds.dealt();
         let index = store.call.index;
         let at = Numbered { number, index };
-        put_all(boxes, &mut self.key, taken, at, acts);
+        put_all(rt, boxes, &mut self.key, taken, at, acts);
         self.add_store(number, store);
     }
 
@@ -391,17 +392,24 @@ impl<N: PhaseName> Worker<N> {
                 look: Look::Item(item),
                 answer: Answer::of_item(&seen),
             };
-            self.put_view(boxes, one, &view);
+            self.put_view(rt, boxes, one, &view);
             return Ok(());
         }
-        self.show_whole(boxes, one, call, viewed);
+        self.show_whole(rt, boxes, one, call, viewed);
         Ok(())
     }
 
     // Shows what a view asks for on the shard that it took, by a whole reply. Not inlined: the view
     // of an item needs no room for one on the stack.
     #[inline(never)]
-    fn show_whole(&mut self, boxes: &Boxes<N>, one: BegunOne<N>, call: Call<'_>, viewed: Viewed)
+    fn show_whole<R: Wait>(
+        &mut self,
+        rt: &R,
+        boxes: &Boxes<N>,
+        one: BegunOne<N>,
+        call: Call<'_>,
+        viewed: Viewed,
+    )
         requires view { call.request.now ≡ view_request viewed }
         requires can { CanView one.held.shard call.request.now }
         requires begun { (key : KeyState) × HasBegunSome N.initial N.workers boxes.now key
@@ -416,12 +424,12 @@ impl<N: PhaseName> Worker<N> {
             look: viewed.look(),
             answer: Answer::of(&reply),
         };
-        self.put_view(boxes, one, &view);
+        self.put_view(rt, boxes, one, &view);
     }
 
     // Puts the shard of a view back with its line, and commits it.
     #[inline(always)]
-    fn put_view(&mut self, boxes: &Boxes<N>, one: BegunOne<N>, view: &View<'_>)
+    fn put_view<R: Wait>(&mut self, rt: &R, boxes: &Boxes<N>, one: BegunOne<N>, view: &View<'_>)
         requires view { is_view view.now.call.request.now ≡ true }
         requires begun { (key : KeyState) × HasBegunSome N.initial N.workers boxes.now key
             self.old view.now.call.request.now (begun_of one) }
@@ -435,7 +443,7 @@ impl<N: PhaseName> Worker<N> {
         let acts = [Act::Look(view.look), Act::Look(Look::Nothing)];
         let index = view.call.index;
         let at = Numbered { number, index };
-        boxes.put_acts(&mut self.key, held, at, &acts);
+        boxes.put_acts(rt, &mut self.key, held, at, &acts);
         self.add_entry(number, view.call, &view.answer);
     }
 }

@@ -108,7 +108,8 @@ pub(crate) trait BeginKind: Kind {
     ghost use Rattle.run_phases.specs.inner.{Plans.{MayPerform}, Serving.{HasBegunPhase}};
 
     /// Begins it: each worker is given its quota, and what waits in its stash.
-    fn begin<N: PhaseName, G>(
+    fn begin<N: PhaseName, R: Wait, G>(
+        rt: &R,
         alloc: Global,
         before: (Joined, Vec<Stash>),
         hot: &IndexSet<Object>,
@@ -127,7 +128,8 @@ pub(crate) trait BeginKind: Kind {
 }
 
 impl BeginKind for JoinedPhase {
-    fn begin<N: PhaseName, G>(
+    fn begin<N: PhaseName, R: Wait, G>(
+        rt: &R,
         alloc: Global,
         before: (Joined, Vec<Stash>),
         _hot: &IndexSet<Object>,
@@ -140,7 +142,7 @@ impl BeginKind for JoinedPhase {
             plan.round.first,
         )?;
         let (state, stashes) = before;
-        match state.begin_joined::<N>(alloc, &quotas, stashes) {
+        match state.begin_joined::<N, R>(rt, alloc, &quotas, stashes) {
             Ok(begun) => Ok(begun),
             Err((_state, _stashes, fault)) => Err(begin_fault(fault)),
         }
@@ -149,7 +151,8 @@ impl BeginKind for JoinedPhase {
 
 // Nothing waits before a split phase, so the stashes are memory alone.
 impl BeginKind for SplitPhase {
-    fn begin<N: PhaseName, G>(
+    fn begin<N: PhaseName, R: Wait, G>(
+        rt: &R,
         alloc: Global,
         before: (Joined, Vec<Stash>),
         hot: &IndexSet<Object>,
@@ -162,7 +165,7 @@ impl BeginKind for SplitPhase {
             plan.round.first,
         )?;
         let (state, stashes) = before;
-        match state.begin_split_in::<N>(alloc, &quotas, hot, stashes) {
+        match state.begin_split_in::<N, R>(rt, alloc, &quotas, hot, stashes) {
             Ok(begun) => Ok(begun),
             Err((_state, fault)) => Err(begin_fault(fault)),
         }
@@ -198,7 +201,7 @@ where
         hot: hot_before,
         stashes,
     } = running;
-    let begun = K::begin::<N, G>(alloc, (state, stashes), hot, &plan)?;
+    let begun = K::begin::<N, R, G>(rt, alloc, (state, stashes), hot, &plan)?;
     let (state, stashes) = perform_begun(rt, alloc, &mut history, begun, plan)?;
     Ok(Running {
         state,
@@ -234,6 +237,6 @@ where
 {
     let (floor, permits) = begun;
     let receipts = serve_all(rt, alloc, floor.boxes(), permits, plan.round)?;
-    let ended = floor.close_on(alloc, history, receipts, Some(plan.scripts))?;
+    let ended = floor.close_on(rt, alloc, history, receipts, Some(plan.scripts))?;
     Ok(ended)
 }

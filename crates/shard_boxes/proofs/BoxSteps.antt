@@ -125,6 +125,10 @@ learns_full pass v all f items views h at none =
     both_ways v.holds (ap (λ (y : Knowledge). y.holds) (sym (some-injective _ _ is)) ∙ x.holds) f)
     h.place
 
+-- a pass that holds the shard finds the box empty
+pub learns_empty : (pass : ℕ) (v : Knowledge) → v.holds ≡ true → Learns BoxRule pass v (λ items. items ≡ [])
+learns_empty pass v t items views h at = out items views h pass v at t
+
 last_of_two : (x y : Shard) (xs : List Shard) → x ∷ xs ≡ y ∷ [] → (x ≡ y) × (xs ≡ [])
 last_of_two x y xs e = (cc, cc)
 

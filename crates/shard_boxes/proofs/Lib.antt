@@ -6,7 +6,6 @@ pub mod SeatLemmas
 pub mod BoxSteps
 pub mod PassSteps
 pub mod PutLemmas
-pub mod Carried
 pub mod KeySteps
 pub mod Each
 pub mod Sweeps

@@ -94,7 +94,7 @@ impl<N: PhaseName> Boxes<N> {
     /// Puts a shard back: as it was taken, or after a line that the caller made. It takes no
     /// memory.
     #[inline(always)]
-    pub fn put(&self, key: &mut Key<N>, held: Held<N>, line: Option<Line>)
+    pub fn put<R: Wait>(&self, rt: &R, key: &mut Key<N>, held: Held<N>, line: Option<Line>)
         requires of { key.old.boxes ≡ self.now }
         requires holder { holds_at key.old held.number ≡ true }
         requires may { MayGoBack (taken_at N.initial key.old held.number) (state_of held.shard)
@@ -103,14 +103,21 @@ impl<N: PhaseName> Boxes<N> {
             (option_map (seen_line (taken_at N.initial key.old held.number)) line) }
     {
         let shard_box = &self.boxes[held.number() as usize];
-        key.put_made::<Brand>(shard_box, held, line);
+        key.put_made::<Brand, R>(rt, shard_box, held, line);
     }
 
     /// Does two acts on a shard that is as it was taken, one after the other, and puts it back
     /// after their line. The number is after the shard's clock, and at most `LAST_NUMBER`. It takes
     /// no memory.
     #[inline(always)]
-    pub fn put_acts(&self, key: &mut Key<N>, held: Held<N>, at: Numbered, acts: &[Act; 2])
+    pub fn put_acts<R: Wait>(
+        &self,
+        rt: &R,
+        key: &mut Key<N>,
+        held: Held<N>,
+        at: Numbered,
+        acts: &[Act; 2],
+    )
         requires of { key.old.boxes ≡ self.now }
         requires held { IsHeldFor N.initial key.old held at.number }
         requires can { CanDo held.shard acts.now }
@@ -118,7 +125,7 @@ impl<N: PhaseName> Boxes<N> {
             (line_of at.number at.index acts.now held.shard) }
     {
         let shard_box = &self.boxes[held.number() as usize];
-        key.put_acts::<Brand>(shard_box, held, at, acts);
+        key.put_acts::<Brand, R>(rt, shard_box, held, at, acts);
     }
 
     /// Bids on an item of a shard that is as it was taken, by one look-up, and puts the shard back
@@ -126,8 +133,9 @@ impl<N: PhaseName> Boxes<N> {
     /// for a refusal. The number is after the shard's clock, and at most `LAST_NUMBER`. It takes
     /// no memory.
     #[inline(always)]
-    pub fn put_bid(
+    pub fn put_bid<R: Wait>(
         &self,
+        rt: &R,
         key: &mut Key<N>,
         held: Held<N>,
         at: Numbered,
@@ -141,6 +149,6 @@ impl<N: PhaseName> Boxes<N> {
             (line_of_bid at.number at.index bid held.shard) }
     {
         let shard_box = &self.boxes[held.number() as usize];
-        key.put_bid::<Brand>(shard_box, held, at, bid)
+        key.put_bid::<Brand, R>(rt, shard_box, held, at, bid)
     }
 }

@@ -15,12 +15,14 @@ use auction_rows::{MOST_SHARDS, MOST_WORKERS};
 use item_shards::Shard;
 use std::alloc::{AllocError, Global};
 use std::marker::PhantomData;
+use std::sync::Wait;
 
 impl<N: PhaseName> Boxes<N> {
     /// A box for each of 1 to 64 shards, and a key for each of 1 to 16 workers. The shards are
     /// numbered from 0, each of as many as there are, at clock 0. Without memory they come back as
     /// they were. No other call asks for memory.
-    pub fn new(
+    pub fn new<R: Wait>(
+        rt: &R,
         alloc: Global,
         shards: Vec<Shard>,
         workers: u32,
@@ -34,11 +36,12 @@ impl<N: PhaseName> Boxes<N> {
         ensures keys { IfOk result (λ r. AreNewKeys r.0 N.workers r.1.items) }
         ensures err { IfErr result (λ e. e.0 ≡ shards) }
     {
-        Boxes::open(alloc, shards, workers, Spare::none(alloc))
+        Boxes::open(rt, alloc, shards, workers, Spare::none(alloc))
     }
 
     /// As `new`, in the boxes of a phase before if they are as many as the shards.
-    pub fn open(
+    pub fn open<R: Wait>(
+        rt: &R,
         alloc: Global,
         shards: Vec<Shard>,
         workers: u32,
@@ -66,7 +69,7 @@ impl<N: PhaseName> Boxes<N> {
         let Ok(closed_shards) = Vec::with_capacity(alloc, count) else {
             return Err((shards, AllocError));
         };
-        let grants = open_all::<N>(&boxes, grants, shards);
+        let grants = open_all::<N, R>(rt, &boxes, grants, shards);
         let keys = deal_all(&boxes, grants, rooms, keys);
         Ok((
             Boxes {
@@ -94,7 +97,8 @@ fn make_rooms(alloc: Global, count: usize, workers: u32) -> Result<Vec<Vec<Grant
 }
 
 // Puts each shard into its box.
-fn open_all<N: PhaseName>(
+fn open_all<N: PhaseName, R: Wait>(
+    rt: &R,
     boxes: &[ShardBox],
     mut grants: Vec<Grant>,
     shards: Vec<Shard>,
@@ -107,7 +111,7 @@ fn open_all<N: PhaseName>(
 {
     let mut s = 0;
     for shard in shards {
-        boxes[s].open::<N>(&mut grants[s], shard);
+        boxes[s].open::<N, R>(rt, &mut grants[s], shard);
         s += 1;
     }
     grants
@@ -169,16 +173,16 @@ fn deal<N: PhaseName>(
 impl<N: PhaseName> Boxes<N> {
     /// Ends the phase, and gives the shards, in order. It takes the keys of all workers, none of
     /// which holds a shard, and no memory.
-    pub fn close(self, keys: Vec<Key<N>>) -> Vec<Shard>
+    pub fn close<R: Wait>(self, rt: &R, keys: Vec<Key<N>>) -> Vec<Shard>
         requires { AreSpent self N.workers keys.items }
         ensures { AreClosed N.initial N.workers keys.items (map state_of result.items) }
     {
-        let (shards, _) = self.close_kept(keys);
+        let (shards, _) = self.close_kept(rt, keys);
         shards
     }
 
     /// As `close`, and gives the empty boxes too, in which another phase can open.
-    pub fn close_kept(self, keys: Vec<Key<N>>) -> (Vec<Shard>, Spare)
+    pub fn close_kept<R: Wait>(self, rt: &R, keys: Vec<Key<N>>) -> (Vec<Shard>, Spare)
         requires { AreSpent self N.workers keys.items }
         ensures closed { AreClosed N.initial N.workers keys.items (map state_of result.0.items) }
         ensures spare { result.1 ≡ length N.initial }
@@ -189,7 +193,7 @@ impl<N: PhaseName> Boxes<N> {
             of: _,
         } = self;
         let grants = collect_all(&boxes, keys);
-        let (shards, grants) = take_all::<N>(&boxes, grants, closed_shards);
+        let (shards, grants) = take_all::<N, R>(rt, &boxes, grants, closed_shards);
         (shards, Spare { boxes, grants })
     }
 }
@@ -233,7 +237,8 @@ fn collect<N: PhaseName>(boxes: &[ShardBox], key: Key<N>, others: Vec<Grant>) ->
 }
 
 // Takes each shard out of its box, which then can open again.
-fn take_all<N: PhaseName>(
+fn take_all<N: PhaseName, R: Wait>(
+    rt: &R,
     boxes: &[ShardBox],
     mut grants: Vec<Grant>,
     mut closed_shards: Vec<Shard>,
@@ -252,7 +257,7 @@ fn take_all<N: PhaseName>(
     ensures spare { AreSpare boxes.now result.1.items }
 {
     for s in 0..boxes.len() {
-        let shard = boxes[s].take_last(&mut grants[s]);
+        let shard = boxes[s].take_last(rt, &mut grants[s]);
         closed_shards.push_reserved(shard);
     }
     (closed_shards, grants)

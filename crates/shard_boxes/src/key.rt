@@ -91,8 +91,9 @@ impl<N: PhaseName> Key<N> {
 
     // Does two acts on a shard, and puts it back after their line.
     #[inline(always)]
-    pub(crate) fn put_acts<L: LineName>(
+    pub(crate) fn put_acts<L: LineName, R: Wait>(
         &mut self,
+        rt: &R,
         shard_box: &ShardBox,
         held: Held<N>,
         at: Numbered,
@@ -107,13 +108,14 @@ impl<N: PhaseName> Key<N> {
     {
         let (number, mut shard) = held.open();
         shard.apply_acts(at.number, acts);
-        self.put::<L>(shard_box, number, shard);
+        self.put::<L, R>(rt, shard_box, number, shard);
     }
 
     // Bids on a shard, unless the item refuses the bid, and puts it back after the line of that.
     #[inline(always)]
-    pub(crate) fn put_bid<L: LineName>(
+    pub(crate) fn put_bid<L: LineName, R: Wait>(
         &mut self,
+        rt: &R,
         shard_box: &ShardBox,
         held: Held<N>,
         at: Numbered,
@@ -130,14 +132,15 @@ impl<N: PhaseName> Key<N> {
         let (number, mut shard) = held.open();
         let refused = shard.try_bid(bid.item, bid.entry);
         shard.set_clock(at.number);
-        self.put::<L>(shard_box, number, shard);
+        self.put::<L, R>(rt, shard_box, number, shard);
         refused
     }
 
     // Puts a shard back, as it was taken or after the line that the caller made.
     #[inline(always)]
-    pub(crate) fn put_made<L: LineName>(
+    pub(crate) fn put_made<L: LineName, R: Wait>(
         &mut self,
+        rt: &R,
         shard_box: &ShardBox,
         held: Held<N>,
         made: Option<Line>,
@@ -154,12 +157,12 @@ impl<N: PhaseName> Key<N> {
         // At run time a line has no use.
         drop(made);
         let (number, shard) = held.open();
-        self.put::<L>(shard_box, number, shard);
+        self.put::<L, R>(rt, shard_box, number, shard);
     }
 
     // Puts a shard back, after the line that `L` names, if there is one.
     #[inline(always)]
-    fn put<L: LineName>(&mut self, shard_box: &ShardBox, number: u32, shard: Shard)
+    fn put<L: LineName, R: Wait>(&mut self, rt: &R, shard_box: &ShardBox, number: u32, shard: Shard)
         requires known { number < length N.initial }
         requires place { IsBoxAt self.old.boxes number shard_box.now }
         requires holds { holds_at self.old number ≡ true }
@@ -167,7 +170,7 @@ impl<N: PhaseName> Key<N> {
         ensures { self.new ≡ putting self.old number L.line }
     {
         let grant = &mut self.grants[number as usize];
-        shard_box.put::<L>(grant, shard);
+        shard_box.put::<L, R>(rt, grant, shard);
     }
 
     // The grants, one for each box.

@@ -1,7 +1,7 @@
 //! Boxes that hold the shards of one phase, and the keys by which its workers take them, without
 //! locks.
 //!
-//! A box is a cell for one shard. What happened to the shard is no data: the rule of the cell
+//! A box is a queue for one shard. What happened to the shard is no data: the rule of the queue
 //! says it, and contracts see of each key which lines its worker has put and which list of lines it
 //! has seen.
 #![tactic(auto)]

@@ -1,6 +1,6 @@
 //! One box, the passes to it, its rule, and what each step of a pass tells.
-ghost use Rattle.std.specs.Prelude.{◌≡◌, ◌≢◌, [], true, false, IfOk, MatchOption};
-ghost use Rattle.ruled_cell.specs.Passes.{view, IsPassOf, IsSamePass, Carries, IsAtRest, KeepsSlot};
+ghost use Rattle.std.specs.Prelude.{◌≡◌, ◌≢◌, [], true, false, IfOk};
+ghost use Rattle.crossbeam_queue.specs.Passes.{view, IsPassOf, IsSamePass, ruled_capacity};
 ghost use Rattle.shard_boxes.specs.{Lines.{after_lines}, Passes.{start_of}};
 ghost use Rattle.shard_boxes.specs.{States.{state_of, IsWithin}, inner.Grants.{CanUnite}};
 ghost use Rattle.shard_boxes.specs.inner.Passing.{MayPut, Speaks, SpeaksForAll, IsSpare};
@@ -9,9 +9,9 @@ ghost use Rattle.shard_boxes.specs.inner.Steps.{TakenBy, maker, opened, put, fir
 use crate::boxes::PhaseName;
 use crate::line::{KnownLine, LineName};
 use crossbeam_queue::protocol::{Join, Lesson, Outcome, Protocol, Split};
+use crossbeam_queue::{Pass, RuledArrayQueue};
 use crossbeam_utils::Backoff;
 use item_shards::Shard;
-use ruled_cell::{Pass, RuledCell};
 use std::alloc::{AllocError, Global};
 use std::collections::LinkedList;
 use std::marker::{Model, PhantomData};
@@ -48,6 +48,10 @@ impl<N: PhaseName> Outcome<Shard, Knowledge> for OpenStep<N> {
     ghost then = { λ v shard w. w ≡ opened N.workers shard };
 }
 
+impl<N: PhaseName> Lesson<Shard, Knowledge> for OpenStep<N> {
+    ghost fact = { λ v items. items ≡ [] };
+}
+
 /// A pass takes the shard, if it is there.
 pub struct TakeStep;
 
@@ -55,10 +59,6 @@ impl Outcome<Shard, Knowledge> for TakeStep {
     ghost use Rattle.shard_boxes.specs.inner.Steps.{TakenBy};
 
     ghost then = { TakenBy };
-}
-
-impl Lesson<Shard, Knowledge> for TakeStep {
-    ghost fact = { λ v items. Unit {0} };
 }
 
 /// A pass that speaks for all workers takes the shard: it is there.
@@ -74,13 +74,17 @@ impl Lesson<Shard, Knowledge> for TakeLastStep {
     ghost fact = { λ v items. items ≢ [] };
 }
 
-/// The holder puts the shard back, after the line named, if there is one.
+/// The holder puts the shard back, after the line named, if there is one: the box is empty.
 pub struct PutStep<L>(PhantomData<L>);
 
 impl<L: LineName> Outcome<Shard, Knowledge> for PutStep<L> {
     ghost use Rattle.shard_boxes.specs.inner.Steps.{put};
 
     ghost then = { λ v shard w. w ≡ put v L.line };
+}
+
+impl<L: LineName> Lesson<Shard, Knowledge> for PutStep<L> {
+    ghost fact = { λ v items. items ≡ [] };
 }
 
 /// The new pass speaks for the first worker.
@@ -107,23 +111,27 @@ impl Join<Knowledge> for CollectStep {
 
 /// A box for one shard.
 pub struct ShardBox {
-    cell: RuledCell<Shard, Knowledge, OneShard>,
+    queue: RuledArrayQueue<Shard, Knowledge, OneShard>,
 }
 
 // Not derived: a derived drop is made and proved anew in each crate that lets one go.
 impl Drop for ShardBox {
     fn drop(self) {
-        let Self { cell } = self;
-        drop(cell);
+        let Self { queue } = self;
+        drop(queue);
     }
 }
 
 impl Model for ShardBox {
+    ghost use Rattle.std.specs.Prelude.{◌≡◌};
     ghost use Rattle.atomic_table.specs.Seated.{TableId};
+    ghost use Rattle.crossbeam_queue.specs.Passes.{ruled_capacity};
 
     ghost Value = { TableId };
 
-    ghost view = { λ p. p.cell.table.shared.table_id };
+    ghost view = { λ p. p.queue.table.shared.table_id };
+
+    ghost invariant = { λ p. ruled_capacity p.queue ≡ 1 };
 }
 
 /// A right to a box. It has no bytes.
@@ -133,9 +141,8 @@ pub struct Grant {
 }
 
 impl Model for Grant {
-    ghost use Rattle.std.specs.Coded.{codes};
+    ghost use Rattle.std.specs.{Coded.{codes}, Prelude.{◌≡◌, []}};
     ghost use Rattle.item_shards.specs.contracts.shard.Shard as shard;
-    ghost use Rattle.ruled_cell.specs.Passes.{Carries};
     ghost use Rattle.shard_boxes.specs.{Passes.{GrantState}, inner.GrantViews.{grant_of}};
 
     ghost Value = { GrantState };
@@ -144,7 +151,7 @@ impl Model for Grant {
 
     ghost view = { λ l. grant_of l.pass };
 
-    ghost invariant = { λ l. Carries l.pass (grant_of l.pass).knows.holds };
+    ghost invariant = { λ l. l.pass.me.1 ≡ [] };
 }
 
 impl ShardBox {
@@ -152,18 +159,24 @@ impl ShardBox {
     pub fn new(alloc: Global) -> Result<(ShardBox, Grant), AllocError>
         ensures { IfOk result (λ r. (r.1.box_id ≡ r.0) × (r.1.knows ≡ maker)) }
     {
-        let (cell, pass) = RuledCell::ruled(alloc)?;
-        Ok((ShardBox { cell }, Grant { pass }))
+        let (queue, pass) = RuledArrayQueue::<Shard, Knowledge, OneShard>::ruled(alloc, 1)?;
+        Ok((ShardBox { queue }, Grant { pass }))
     }
 
     /// A phase opens: its shard goes into the box.
-    pub fn open<N: PhaseName>(&self, grant: &mut Grant, shard: Shard)
+    pub fn open<N: PhaseName, R: Wait>(&self, rt: &R, grant: &mut Grant, shard: Shard)
         requires place { grant.old.box_id ≡ self.now }
         requires spare { IsSpare grant.old.knows }
         requires within { IsWithin (state_of shard) }
         ensures { grant.new ≡ record grant.old { knows = opened N.workers shard } }
     {
-        self.cell.put_as::<OpenStep<N>>(&mut grant.pass, shard);
+        match self
+            .queue
+            .push_as::<OpenStep<N>, R>(rt, &mut grant.pass, shard)
+        {
+            Ok(()) => (),
+            Err(_) => unreachable!(),
+        }
     }
 
     /// Takes the shard: at the first attempt, or once it is in the box.
@@ -174,22 +187,24 @@ impl ShardBox {
         ensures place { grant.new.box_id ≡ grant.old.box_id }
         ensures taken { TakenBy grant.old.knows result grant.new.knows }
     {
-        match self.cell.take_as::<TakeStep>(&mut grant.pass) {
+        match self.queue.try_pop_as::<TakeStep>(&mut grant.pass) {
             Some(shard) => shard,
-            None => take_from(rt, &self.cell, &mut grant.pass),
+            None => take_from(rt, &self.queue, &mut grant.pass),
         }
     }
 
     /// The holder puts the shard back, after the line that `L` names, if there is one.
     #[inline(always)]
-    pub fn put<L: LineName>(&self, grant: &mut Grant, shard: Shard)
+    pub fn put<L: LineName, R: Wait>(&self, rt: &R, grant: &mut Grant, shard: Shard)
         requires place { grant.old.box_id ≡ self.now }
         requires holds { grant.old.knows.holds ≡ true }
         requires may { MayPut (after_lines (start_of grant.old.knows) grant.old.knows.seen)
             (state_of shard) L.line }
         ensures { grant.new ≡ record grant.old { knows = put grant.old.knows L.line } }
     {
-        self.cell.put_as::<PutStep<L>>(&mut grant.pass, shard);
+        if let Err(shard) = self.queue.try_push_as::<PutStep<L>>(&mut grant.pass, shard) {
+            put_into::<L, R>(rt, &self.queue, &mut grant.pass, shard);
+        }
     }
 
     /// A grant for the first worker for which this one speaks.
@@ -201,7 +216,7 @@ impl ShardBox {
         ensures right { result ≡ record grant.old { knows = first_of grant.old.knows } }
     {
         Grant {
-            pass: self.cell.another::<DealStep>(&mut grant.pass),
+            pass: self.queue.another::<DealStep>(&mut grant.pass),
         }
     }
 
@@ -211,43 +226,22 @@ impl ShardBox {
         ensures { grant.new ≡ record grant.old { knows = joined grant.old.knows other.knows } }
     {
         let Grant { pass } = other;
-        self.cell.absorb::<CollectStep>(&mut grant.pass, pass);
+        self.queue.absorb::<CollectStep>(&mut grant.pass, pass);
     }
 
     /// Takes the shard by a grant that speaks for all workers.
-    pub fn take_last(&self, grant: &mut Grant) -> Shard
+    pub fn take_last<R: Wait>(&self, rt: &R, grant: &mut Grant) -> Shard
         requires place { grant.old.box_id ≡ self.now }
         requires all { SpeaksForAll grant.old.knows }
         requires free { grant.old.knows.holds ≡ false }
         ensures place { grant.new.box_id ≡ grant.old.box_id }
         ensures taken { TakenBy grant.old.knows result grant.new.knows }
     {
-        match self.cell.take_as::<TakeLastStep>(&mut grant.pass) {
+        match self.queue.pop_as::<TakeLastStep, R>(rt, &mut grant.pass) {
             Some(shard) => shard,
             None => unreachable!(),
         }
     }
-}
-
-// An attempt after a look, which leaves the cell's cache line with the others until there is a
-// shard.
-fn take_if_full(
-    cell: &RuledCell<Shard, Knowledge, OneShard>,
-    pass: &mut Pass<Shard, Knowledge>,
-) -> Option<Shard>
-    requires cell { IsPassOf cell.now pass.old }
-    requires rest { IsAtRest pass.old }
-    requires speaks { Speaks (view pass.old) }
-    ensures cell { IsSamePass pass.old pass.new }
-    ensures slot { MatchOption result (KeepsSlot pass.old pass.new)
-        (λ shard. Carries pass.new true) }
-    ensures taken { MatchOption result (view pass.new ≡ view pass.old)
-        (λ shard. TakenBy (view pass.old) shard (view pass.new)) }
-{
-    if !cell.is_full() {
-        return None;
-    }
-    cell.take_as::<TakeStep>(pass)
 }
 
 // Tries until the shard is in the box.
@@ -255,22 +249,43 @@ fn take_if_full(
 #[inline(never)]
 fn take_from<R: Wait>(
     rt: &R,
-    cell: &RuledCell<Shard, Knowledge, OneShard>,
+    queue: &RuledArrayQueue<Shard, Knowledge, OneShard>,
     pass: &mut Pass<Shard, Knowledge>,
 ) -> Shard
-    requires cell { IsPassOf cell.now pass.old }
-    requires rest { IsAtRest pass.old }
+    requires queue { IsPassOf queue.now pass.old }
     requires speaks { Speaks (view pass.old) }
-    ensures cell { IsSamePass pass.old pass.new }
-    ensures slot { Carries pass.new true }
+    ensures queue { IsSamePass pass.old pass.new }
     ensures taken { TakenBy (view pass.old) result (view pass.new) }
 {
     let backoff = Backoff::new();
     for _ in rt.forever() {
-        if let Some(shard) = take_if_full(cell, pass) {
+        if let Some(shard) = queue.try_pop_as::<TakeStep>(pass) {
             return shard;
         }
         backoff.snooze();
     }
     unreachable!()
+}
+
+// Puts the shard into the box, which is empty: an attempt that fails does not tell so.
+#[cold]
+#[inline(never)]
+fn put_into<L: LineName, R: Wait>(
+    rt: &R,
+    queue: &RuledArrayQueue<Shard, Knowledge, OneShard>,
+    pass: &mut Pass<Shard, Knowledge>,
+    shard: Shard,
+)
+    requires queue { IsPassOf queue.now pass.old }
+    requires one { ruled_capacity queue.now ≡ 1 }
+    requires holds { (view pass.old).holds ≡ true }
+    requires may { MayPut (after_lines (start_of (view pass.old)) (view pass.old).seen)
+        (state_of shard) L.line }
+    ensures queue { IsSamePass pass.old pass.new }
+    ensures put { view pass.new ≡ put (view pass.old) L.line }
+{
+    match queue.push_as::<PutStep<L>, R>(rt, pass, shard) {
+        Ok(()) => (),
+        Err(_) => unreachable!(),
+    }
 }

@@ -8,6 +8,7 @@ use phase_floor::{BeginFault, Joined};
 use phase_permits::{Kind, Permit, Stash};
 use shard_boxes::PhaseName;
 use std::alloc::Global;
+use std::sync::Wait;
 use test_values::only;
 
 // The quota of the one worker, whose permit is spent.
@@ -21,7 +22,8 @@ fn quota_of<N: PhaseName, K: Kind>(permits: Vec<Permit<N, K>>) -> u32
 }
 
 /// The quota with which a joined phase begins, or what came back.
-pub(crate) fn begin_joined<N: PhaseName>(
+pub(crate) fn begin_joined<N: PhaseName, R: Wait>(
+    rt: &R,
     alloc: Global,
     state: Joined,
     quota: u32,
@@ -35,14 +37,15 @@ pub(crate) fn begin_joined<N: PhaseName>(
     ensures state { IfErr result (λ refused. refused.0 ≡ state) }
     ensures stashes { IfErr result (λ refused. refused.1 ≡ stashes) }
 {
-    match state.begin_joined::<N>(alloc, &[quota], stashes) {
+    match state.begin_joined::<N, R>(rt, alloc, &[quota], stashes) {
         Ok((_floor, permits)) => Ok(quota_of(permits)),
         Err(refused) => Err(refused),
     }
 }
 
 /// The quota with which a split phase begins, or what came back.
-pub(crate) fn begin_split<N: PhaseName>(
+pub(crate) fn begin_split<N: PhaseName, R: Wait>(
+    rt: &R,
     alloc: Global,
     state: Joined,
     quota: u32,
@@ -54,7 +57,7 @@ pub(crate) fn begin_split<N: PhaseName>(
     requires phase { state.phase ≡ 0 }
     ensures state { IfErr result (λ refused. refused.0 ≡ state) }
 {
-    match state.begin_split::<N>(alloc, &[quota], hot) {
+    match state.begin_split::<N, R>(rt, alloc, &[quota], hot) {
         Ok((_floor, permits)) => Ok(quota_of(permits)),
         Err(refused) => Err(refused),
     }

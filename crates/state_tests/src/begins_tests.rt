@@ -30,14 +30,19 @@ fn are_of_the_first(rows: &[Row]) -> bool
 }
 
 // A joined phase that is too long: the state and the stashes come back.
-fn refuses_joined(rt: &impl Abort, alloc: Global, state: Joined, quota: u32) -> (Joined, Vec<Stash>)
+fn refuses_joined<R: Wait + Abort>(
+    rt: &R,
+    alloc: Global,
+    state: Joined,
+    quota: u32,
+) -> (Joined, Vec<Stash>)
     requires one { length state.counters ≡ 1 }
     requires phase { state.phase ≤ 1 }
     ensures state { result.0 ≡ state }
     ensures stashes { vec_len result.1 ≡ 1 }
 {
     let stashes = nothing_waits(alloc, 1).expect(rt, "memory");
-    let begun = begin_joined::<Brand>(alloc, state, quota, stashes);
+    let begun = begin_joined::<Brand, R>(rt, alloc, state, quota, stashes);
     let (state, stashes, fault) = begun.expect_err(rt, "too long");
     assert_eq!(rt; fault, BeginFault::TooLong);
     assert_eq!(rt; stashes.len(), 1);
@@ -45,18 +50,18 @@ fn refuses_joined(rt: &impl Abort, alloc: Global, state: Joined, quota: u32) -> 
 }
 
 // A joined phase that is too long, and one that is not.
-fn begins_joined(rt: &impl Abort, alloc: Global, state: Joined, too_long: u32, most: u32)
+fn begins_joined<R: Wait + Abort>(rt: &R, alloc: Global, state: Joined, too_long: u32, most: u32)
     requires one { length state.counters ≡ 1 }
     requires phase { state.phase ≡ 0 }
 {
     let (state, stashes) = refuses_joined(rt, alloc, state, too_long);
-    let begun = begin_joined::<Brand>(alloc, state, most, stashes);
+    let begun = begin_joined::<Brand, R>(rt, alloc, state, most, stashes);
     assert_eq!(rt; begun.ok(), Some(most));
 }
 
 // A split phase whose hot object is unknown, then one that is too long, and one that is neither.
-fn begins_split(
-    rt: &impl Abort,
+fn begins_split<R: Wait + Abort>(
+    rt: &R,
     alloc: Global,
     state: Joined,
     unknown: &IndexSet<Object>,
@@ -65,13 +70,13 @@ fn begins_split(
     requires one { length state.counters ≡ 1 }
     requires phase { state.phase ≡ 0 }
 {
-    let begun = begin_split::<Brand>(alloc, state, 1_000_001, unknown);
+    let begun = begin_split::<Brand, R>(rt, alloc, state, 1_000_001, unknown);
     let (state, fault) = begun.expect_err(rt, "an unknown hot object");
     assert_eq!(rt; fault, BeginFault::UnknownHot);
-    let begun = begin_split::<Brand>(alloc, state, 1_000_001, known);
+    let begun = begin_split::<Brand, R>(rt, alloc, state, 1_000_001, known);
     let (state, fault) = begun.expect_err(rt, "too long");
     assert_eq!(rt; fault, BeginFault::TooLong);
-    let begun = begin_split::<Brand>(alloc, state, 1_000_000, known);
+    let begun = begin_split::<Brand, R>(rt, alloc, state, 1_000_000, known);
     assert_eq!(rt; begun.ok(), Some(1_000_000));
 }
 

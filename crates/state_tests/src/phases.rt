@@ -86,7 +86,7 @@ fn perform_begun<N: PhaseName, K: Kind, R: Wait + Abort>(
 {
     let (floor, permits) = begun;
     let receipts = all_receipts(rt, alloc, &floor, permits, scripts);
-    let closed = floor.close(alloc, history, receipts);
+    let closed = floor.close(rt, alloc, history, receipts);
     let (state, _stashes) = closed.expect(rt, "a phase that is closed");
     state
 }
@@ -108,7 +108,7 @@ pub(crate) fn joined_phase<N: PhaseName, R: Wait + Abort>(
     let workers = state.workers();
     let quotas = vec![in alloc; 1u32; workers as usize].expect(rt, "memory");
     let stashes = nothing_waits(alloc, workers).expect(rt, "memory");
-    let Ok(begun) = state.begin_joined::<N>(alloc, &quotas, stashes) else {
+    let Ok(begun) = state.begin_joined::<N, R>(rt, alloc, &quotas, stashes) else {
         panic!(rt; "the joined phase did not begin");
     };
     perform_begun(rt, alloc, begun, scripts, history)
@@ -128,7 +128,7 @@ pub(crate) fn split_phase<N: PhaseName, R: Wait + Abort>(
     requires phase { state.phase ≡ 1 }
 {
     let quotas = vec![in alloc; 1000u32; state.workers() as usize].expect(rt, "memory");
-    let Ok(begun) = state.begin_split::<N>(alloc, &quotas, hot) else {
+    let Ok(begun) = state.begin_split::<N, R>(rt, alloc, &quotas, hot) else {
         panic!(rt; "the split phase did not begin");
     };
     perform_begun(rt, alloc, begun, scripts, history)

@@ -49,11 +49,11 @@ pub(crate) fn store<N: PhaseName, R: Wait + Print + Abort>(
 {
     let room = Vec::with_capacity(alloc, 1)?;
     let stash = waiting(alloc, 7, 0)?;
-    let (boxes, mut permit) = permit_of_one::<N>(alloc, shards, stash, 0)?;
+    let (boxes, mut permit) = permit_of_one::<N, R>(rt, alloc, shards, stash, 0)?;
     print_count(rt, "first store permit", permit.left() as usize, " left");
     let answer = perform_twice(rt, &boxes, &mut permit, &put_up(vases(10, 1)));
     let (journal, _slices, _stash, key, _counters) = permit.finish().parts();
-    let shards = close_one(boxes, key, room);
+    let shards = close_one(rt, boxes, key, room);
     let stored = answer.is_ok();
     assert_clocks(rt, &shards, [u64::from(stored), 0, 0, 0]);
     assert_eq!(rt; first_facts(&shards), stored.then_some(vases(10, 1)));
@@ -82,7 +82,7 @@ pub(crate) fn view<N: PhaseName, R: Wait + Print + Abort>(
     requires { BeginsWith N.initial N.workers 1 shards.items }
 {
     let stash = Stash::with_room(alloc, 0)?;
-    let (boxes, mut permit) = permit_of_one::<N>(alloc, shards, stash, 0)?;
+    let (boxes, mut permit) = permit_of_one::<N, R>(rt, alloc, shards, stash, 0)?;
     print_count(rt, "first view permit", permit.left() as usize, " left");
     look_for_memory(rt, alloc);
     let answer = perform(rt, &boxes, &mut permit, &Request::ViewUser { user: 10 }, 0);

@@ -36,7 +36,8 @@ trait Performs: Kind {
 
     // Begins a phase in which each worker has a quota of eight. If it does not begin, the state and
     // what was given come back.
-    fn begin<N: PhaseName>(
+    fn begin<N: PhaseName, R: Wait>(
+        rt: &R,
         alloc: Global,
         state: Joined,
         given: Self::Given,
@@ -70,12 +71,13 @@ impl Performs for JoinedPhase {
 
     ghost suits = { λ workers stashes. vec_len stashes ≡ workers };
 
-    fn begin<N: PhaseName>(
+    fn begin<N: PhaseName, R: Wait>(
+        rt: &R,
         alloc: Global,
         state: Joined,
         stashes: Vec<Stash>,
     ) -> Result<Begun<N, JoinedPhase>, (Joined, Vec<Stash>, BeginFault)> {
-        match state.begin_joined::<N>(alloc, &[8], stashes) {
+        match state.begin_joined::<N, R>(rt, alloc, &[8], stashes) {
             Ok(begun) => Ok(begun),
             Err(refused) => Err(refused),
         }
@@ -99,12 +101,13 @@ impl Performs for SplitPhase {
 
     ghost suits = { λ _ _. ⊤ };
 
-    fn begin<N: PhaseName>(
+    fn begin<N: PhaseName, R: Wait>(
+        rt: &R,
         alloc: Global,
         state: Joined,
         hot: IndexSet<Object>,
     ) -> Result<Begun<N, SplitPhase>, (Joined, IndexSet<Object>, BeginFault)> {
-        match state.begin_split::<N>(alloc, &[8], &hot) {
+        match state.begin_split::<N, R>(rt, alloc, &[8], &hot) {
             Ok(begun) => Ok(begun),
             Err((state, fault)) => Err((state, hot, fault)),
         }
@@ -122,7 +125,7 @@ impl Performs for SplitPhase {
 }
 
 // Begins a phase; where memory is refused, once more on what came back.
-fn begin<N: PhaseName, K: Performs, R: Print>(
+fn begin<N: PhaseName, K: Performs, R: Wait + Print>(
     rt: &R,
     alloc: Global,
     state: Joined,
@@ -135,11 +138,11 @@ fn begin<N: PhaseName, K: Performs, R: Print>(
     ensures receipts { IfOk result (λ begun. AreReceiptsOf begun.0 begun.1.items) }
 {
     let kind = kind_name::<K>();
-    match K::begin::<N>(alloc, state, given) {
+    match K::begin::<N, R>(rt, alloc, state, given) {
         Ok(begun) => Ok(begun),
         Err((state, given, fault)) => {
             let _ = println!(rt; "{kind} begin: {fault}");
-            match K::begin::<N>(alloc, state, given) {
+            match K::begin::<N, R>(rt, alloc, state, given) {
                 Ok(begun) => Ok(begun),
                 Err((_state, _given, fault)) => Err(Fail::new(fault)),
             }
@@ -204,7 +207,7 @@ fn perform_first<N: PhaseName, R: Wait + Print>(
 }
 
 // Closes the phase: the state after it. Of a split phase it prints how many requests wait.
-fn close<N: PhaseName, K: Kind, R: Print>(
+fn close<N: PhaseName, K: Kind, R: Wait + Print>(
     rt: &R,
     alloc: Global,
     floor: Floor<N, K>,
@@ -219,7 +222,7 @@ fn close<N: PhaseName, K: Kind, R: Print>(
     let kind = kind_name::<K>();
     let receipts = vec![in alloc; permit.finish()]?;
     let _ = println!(rt; "{kind} receipts: {}", receipts.len());
-    match floor.close(alloc, history, receipts) {
+    match floor.close(rt, alloc, history, receipts) {
         Ok((state, stashes)) => {
             let _ = println!(rt; "{kind} close: {} entries", history.len());
             if !K::IS_JOINED {

@@ -11,10 +11,12 @@ use item_shards::Shard;
 use shard_boxes::{Boxes, Key, PhaseName};
 use std::alloc::{AllocError, Global};
 use std::process::Abort;
+use std::sync::Wait;
 use test_values::FIRST;
 
 /// Ends the phase of one worker: its shards. It takes no memory but this room for the key.
-pub(crate) fn close_one<N: PhaseName>(
+pub(crate) fn close_one<N: PhaseName, R: Wait>(
+    rt: &R,
     boxes: Boxes<N>,
     key: Key<N>,
     mut room: Vec<Key<N>>,
@@ -25,11 +27,12 @@ pub(crate) fn close_one<N: PhaseName>(
     ensures { AreClosed N.initial N.workers (key ∷ []) (map state_of result.items) }
 {
     room.push_reserved(key);
-    boxes.close(room)
+    boxes.close(rt, room)
 }
 
 /// Ends the phase of two workers.
-pub(crate) fn close_two<N: PhaseName>(
+pub(crate) fn close_two<N: PhaseName, R: Wait>(
+    rt: &R,
     alloc: Global,
     boxes: Boxes<N>,
     first: Key<N>,
@@ -41,7 +44,7 @@ pub(crate) fn close_two<N: PhaseName>(
     requires idle { IsIdle first × IsIdle second }
 {
     let keys = vec![in alloc; first, second]?;
-    Ok(boxes.close(keys))
+    Ok(boxes.close(rt, keys))
 }
 
 /// Asserts that these are four shards with these clocks.

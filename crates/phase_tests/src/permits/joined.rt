@@ -38,7 +38,8 @@ pub(crate) fn joined_permit<N: PhaseName>(
 }
 
 /// The boxes of these shards, and a permit of their worker to perform two requests and what waits.
-pub(crate) fn permit_of_one<N: PhaseName>(
+pub(crate) fn permit_of_one<N: PhaseName, R: Wait>(
+    rt: &R,
     alloc: Global,
     shards: Vec<Shard>,
     stash: Stash,
@@ -49,7 +50,7 @@ pub(crate) fn permit_of_one<N: PhaseName>(
     ensures permit { IfOk result (λ made. IsPermitFor N.initial made.0 made.1) }
     ensures worker { IfOk result (λ made. made.1.key.worker ≡ 0) }
 {
-    let (boxes, key) = boxes_of_one::<N>(alloc, shards)?;
+    let (boxes, key) = boxes_of_one::<N, R>(rt, alloc, shards)?;
     let permit = joined_permit(alloc, key, stash, 2, clock)?;
     Ok((boxes, permit))
 }

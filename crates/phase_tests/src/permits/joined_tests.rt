@@ -18,7 +18,7 @@ fn views_at_the_end<N: PhaseName, R: Wait + Abort>(rt: &R, alloc: Global, shards
     requires { BeginsWith N.initial N.workers 1 shards.items }
 {
     let stash = Stash::with_room(alloc, 0).expect(rt, "memory");
-    let made = permit_of_one::<N>(alloc, shards, stash, u64::MAX);
+    let made = permit_of_one::<N, R>(rt, alloc, shards, stash, u64::MAX);
     let (boxes, mut permit) = made.expect(rt, "memory");
     let known = perform(rt, &boxes, &mut permit, &LOOK, 0);
     let unknown = perform(rt, &boxes, &mut permit, &Request::ViewUser { user: 10 }, 0);
@@ -32,7 +32,7 @@ fn one_waits<N: PhaseName, R: Wait + Abort>(rt: &R, alloc: Global, shards: Vec<S
     requires { BeginsWith N.initial N.workers 1 shards.items }
 {
     let stash = waiting(alloc, 0, 0).expect(rt, "memory");
-    let made = permit_of_one::<N>(alloc, shards, stash, 0);
+    let made = permit_of_one::<N, R>(rt, alloc, shards, stash, 0);
     let (boxes, mut permit) = made.expect(rt, "memory");
     let answer = perform_stashed(rt, &boxes, &mut permit);
     let none_waits = perform_stashed(rt, &boxes, &mut permit);

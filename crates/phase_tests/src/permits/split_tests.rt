@@ -40,12 +40,12 @@ fn bid_and_view<N: PhaseName, R: Wait + Abort>(
 fn bids_on_a_hot_item<N: PhaseName, R: Wait + Abort>(rt: &R, alloc: Global, shards: Vec<Shard>)
     requires { BeginsWith N.initial N.workers 1 shards.items }
 {
-    let (boxes, key) = boxes_of_one::<N>(alloc, shards).expect(rt, "memory");
+    let (boxes, key) = boxes_of_one::<N, R>(rt, alloc, shards).expect(rt, "memory");
     let room = Vec::with_capacity(alloc, 1).expect(rt, "memory");
     let mut permit = split_permit(rt, alloc, key, 0);
     bid_and_view(rt, &boxes, &mut permit);
     let (journal, slices, stash, key, _counters) = permit.finish().parts();
-    let shards = close_one(boxes, key, room);
+    let shards = close_one(rt, boxes, key, room);
     assert_clocks(rt, &shards, [0; 4]);
     assert_left(rt, alloc, &journal, &stash, slices);
 }
@@ -69,10 +69,10 @@ fn assert_left(
 }
 
 // A comment about a hot user on a hot item.
-fn comment_on_a_hot_item<N: PhaseName, R: Abort>(rt: &R, alloc: Global, shards: Vec<Shard>)
+fn comment_on_a_hot_item<N: PhaseName, R: Wait + Abort>(rt: &R, alloc: Global, shards: Vec<Shard>)
     requires { BeginsWith N.initial N.workers 1 shards.items }
 {
-    let (_boxes, key) = boxes_of_one::<N>(alloc, shards).expect(rt, "memory");
+    let (_boxes, key) = boxes_of_one::<N, R>(rt, alloc, shards).expect(rt, "memory");
     let mut permit = split_permit(rt, alloc, key, 0);
     let stored = comment(rt, &mut permit, Stars { value: 5 }, 0);
     assert_eq!(rt; stored, Some(comment_stored(0, 0)));
@@ -81,10 +81,10 @@ fn comment_on_a_hot_item<N: PhaseName, R: Abort>(rt: &R, alloc: Global, shards: 
 }
 
 // A bid at the end of numbers.
-fn stores_at_the_end<N: PhaseName, R: Abort>(rt: &R, alloc: Global, shards: Vec<Shard>)
+fn stores_at_the_end<N: PhaseName, R: Wait + Abort>(rt: &R, alloc: Global, shards: Vec<Shard>)
     requires { BeginsWith N.initial N.workers 1 shards.items }
 {
-    let (_boxes, key) = boxes_of_one::<N>(alloc, shards).expect(rt, "memory");
+    let (_boxes, key) = boxes_of_one::<N, R>(rt, alloc, shards).expect(rt, "memory");
     let mut permit = split_permit(rt, alloc, key, u64::MAX);
     let before = permit.left();
     let answer = bid(rt, &mut permit, 10, 99, 0);

@@ -57,7 +57,7 @@ where
     R: Threads + Wait + Sync + Abort,
     requires { BeginsWith N.initial N.workers 2 shards.items }
 {
-    let (boxes, first, second) = boxes_of_two::<N>(alloc, shards).expect(rt, "memory");
+    let (boxes, first, second) = boxes_of_two::<N, R>(rt, alloc, shards).expect(rt, "memory");
     let (one, other) = thread::join(
         rt,
         || views(rt, alloc, &boxes, first),
@@ -65,7 +65,7 @@ where
     );
     let (one, first) = one;
     let (other, second) = other;
-    let shards = close_two(alloc, boxes, first, second).expect(rt, "memory");
+    let shards = close_two(rt, alloc, boxes, first, second).expect(rt, "memory");
     assert_numbers(rt, alloc, &one, &other);
     assert_clocks(rt, &shards, [4, 0, 0, 0]);
 }

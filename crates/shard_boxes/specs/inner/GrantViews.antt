@@ -1,5 +1,5 @@
 -- What a grant shows, by its pass.
-use Rattle.ruled_cell.specs.Passes.{Pass, view}
+use Rattle.crossbeam_queue.specs.Passes.{Pass, view}
 use Rattle.item_shards.specs.declared.shard.Shard.{Shard}
 use Rattle.shard_boxes.specs.{Passes.{GrantState}, declared.shard_box.Knowledge.{Knowledge}}
 

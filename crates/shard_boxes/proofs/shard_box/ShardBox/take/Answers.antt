@@ -4,6 +4,5 @@ use Rattle.shard_boxes.specs.inner.Passing.{Speaks}
 use Rattle.shard_boxes.specs.declared.shard_box.Knowledge.{Knowledge}
 use Rattle.shard_boxes.proofs.shard_box.ShardBox.take.Goals as goal
 
-pub take_as-requires-clause-rule : goal.take_as-requires-clause-rule
-take_as-requires-clause-rule g c =
-    (takes _ _ (subst (λ (v : Knowledge). Speaks v) (sym (ap (λ (l : GrantState). l.knows) c.grant.view_is)) c.requires.speaks), λ _ _ _ _. tt)
+pub try_pop_as-requires-clause-rule : goal.try_pop_as-requires-clause-rule
+try_pop_as-requires-clause-rule g c = takes _ _ (subst (λ (v : Knowledge). Speaks v) (sym (ap (λ (l : GrantState). l.knows) c.grant.view_is)) c.requires.speaks)

@@ -1,2 +1,0 @@
--- What no contract of a public function names.
-pub mod Steps
