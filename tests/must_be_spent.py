@@ -1,8 +1,9 @@
 #!/usr/bin/env python3
 """Shows that what has to be spent can be neither let go nor spent twice: a held shard, a permit of either kind
-and a publisher; and that a `Told` is learned once. Small functions that do so are made a crate beside the
-others, in a copy of their sources, and `rt try` refuses each by the compiler's words. docs/PROVED.md quotes
-them. Without `rt` it is skipped.
+and a publisher; that a `Told` is learned once; and that no other crate reaches the log or the writer of a
+teller, so that nothing is written past the log. Small functions that do so are made a crate beside the others,
+in a copy of their sources, and `rt try` refuses each by the compiler's words. docs/PROVED.md quotes them.
+Without `rt` it is skipped.
 
     tests/must_be_spent.py
 """
@@ -18,12 +19,14 @@ from lib.program import DOCUMENTS, Tally
 from tutorial import copy_of_sources
 
 CRATE = "spending"
-LINE = f"{CRATE}: auction_rows shard_boxes phase_permits auction_window\n"
-HEAD = """//! Functions that let go what has to be spent, or spend it twice.
+LINE = f"{CRATE}: auction_rows shard_boxes phase_permits auction_window part_log program_serving\n"
+HEAD = """//! Functions that let go what has to be spent, or spend it twice, or name what is private.
 #![tactic(auto)]
 
 use auction_window::{Publisher, Told, Window, WindowName};
+use part_log::Teller;
 use phase_permits::{JoinedPhase, Permit, SplitPhase};
+use program_serving::LiveTeller;
 use shard_boxes::{Boxes, Held, Key, PhaseName};
 use std::sync::Wait;
 
@@ -34,6 +37,7 @@ ERROR = re.compile(r"(?m)^src/main\.rt:(\d+):\d+: (error\[[\w-]+\]: .*?)(?:: (?:
 QUOTED = re.compile(r"(?m)^    (error\[.*)$")
 LET_GO = "error[linear-value-let-go]: `{0}` is let go where its block ends, and `{1}` is not `Drop`"
 TWICE = "error[borrow-e0382]: use of moved value: `{0}`"
+PRIVATE = "error[private-field]: field `{0}` of struct `{1}` is private"
 
 
 @dataclass(frozen=True)
@@ -70,6 +74,18 @@ OWNED = [
 ]
 # It may be let go.
 TOLD = Owned("told", "Told<J>", "J: WindowName", "window.learn(told);", "window: &mut Window<J>, ")
+# What a teller has, by its struct, that struct's parameters, and the type of the field.
+REACHED = [
+    ("log", "Teller", "L, W", "L"),
+    ("writer", "Teller", "L, W", "W"),
+    ("teller", "LiveTeller", "L, W, E", "Teller<L, W>"),
+]
+
+
+def reach(number: int, field: str, owner: str, parameters: str, type: str) -> str:
+    """A function that hands out a private field of a teller."""
+    head = f"fn reaches_{number}<'a, {parameters}>(teller: &'a mut {owner}<{parameters}>) -> &'a mut {type}"
+    return f"{head} {{\n    &mut teller.{field}\n}}\n\n"
 
 
 def refused(source: Path, functions: list[str]) -> list[str]:
@@ -115,6 +131,9 @@ def main() -> None:
         twice = [TWICE.format(owned.name) for owned in [*OWNED, TOLD]]
         got = refused(source, once + [owned.spent(number, 2) for number, owned in enumerate([*OWNED, TOLD])])
         tally.check(got == twice, f"what is spent twice is refused: wanted {twice}; got {got}")
+        private = [PRIVATE.format(field, owner) for field, owner, *_ in REACHED]
+        got = refused(source, once + [reach(number, *what) for number, what in enumerate(REACHED)])
+        tally.check(got == private, f"nothing is written past the log: wanted {private}; got {got}")
         quoted = QUOTED.findall((DOCUMENTS / "PROVED.md").read_text())
         tally.check(set(quoted) <= set(let_go + twice), f"docs/PROVED.md quotes what the compiler says: {quoted}")
     tally.finish()

@@ -14,5 +14,6 @@ pub use program_opening::{
     WriteFault, new_auction, open_log, read_options, status, write_fault,
 };
 pub use program_serving::{
-    LiveTeller, Log, LoggedInput, NoLog, Teller, parts_are_one_history, push_fault_line, serve,
+    ErrorPlace, ErrorWriter, LiveTeller, Log, LoggedInput, NoLog, Teller, parts_are_one_history,
+    push_fault_line, serve,
 };

@@ -134,11 +134,40 @@ pub fn tell_part<L: Log, W: Write>(
     write_last(writer, text).map_err(TellFault::Write)
 }
 
-/// A log, and a writer that is told what the log has accepted.
+/// A log, and a writer that is told what the log has accepted: by `tell` alone.
 #[derive(Drop)]
 pub struct Teller<L, W> {
-    /// The log.
-    pub log: L,
-    /// The writer.
-    pub writer: W,
+    log: L,
+    writer: W,
+}
+
+impl<L: Log, W: Write> Teller<L, W> {
+    /// A teller by this log and writer.
+    pub fn new(log: L, writer: W) -> Teller<L, W>
+        ensures log { result.log ≡ log }
+        ensures writer { result.writer ≡ writer }
+    {
+        Teller { log, writer }
+    }
+
+    /// Whether the log keeps what is put by.
+    pub fn keeps(&self) -> bool
+        ensures { result ≡ false → L.accepted self.now.log ≡ None }
+    {
+        self.log.keeps()
+    }
+
+    /// Puts the rows of a part by, and then writes its text, as `tell_part` does.
+    pub fn tell(&mut self, rows: &[u8], text: &[u8]) -> Result<(), TellFault>
+        ensures logged { OnOk result
+            (Appends (L.accepted self.old.log) (L.accepted self.new.log) rows.now) }
+        ensures told { OnOk result
+            (Appends (W.contents self.old.writer) (W.contents self.new.writer) text.now) }
+        ensures fault { IfErr result (λ fault. IsToldSoFar fault
+            (L.accepted self.old.log) (L.accepted self.new.log) rows.now
+            (W.contents self.old.writer) (W.contents self.new.writer) text.now) }
+        ensures some { IfErr result (λ fault. IsUnlogged fault → rows.now ≢ []) }
+    {
+        tell_part(&mut self.log, &mut self.writer, rows, text)
+    }
 }

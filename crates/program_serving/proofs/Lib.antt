@@ -1,3 +1,4 @@
+pub mod ErrorLines
 pub mod FaultLemmas
 pub mod OneHistory
 pub mod PartSteps

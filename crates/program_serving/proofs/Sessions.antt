@@ -67,7 +67,7 @@ is_none None not_some = refl
 is_none (Some x) not_some = absurd (not_some x refl)
 
 -- how an input goes on after a part
-goes_on_to : {R : Type 0} (remaining : R → Option (List ℕ)) (workers : ℕ) (all : List Said) (said : List Record) (end : LiveEnd R) → GoesOnAfter remaining all said end → KeepsLiveWorkers workers end
+pub goes_on_to : {R : Type 0} (remaining : R → Option (List ℕ)) (workers : ℕ) (all : List Said) (said : List Record) (end : LiveEnd R) → GoesOnAfter remaining all said end → KeepsLiveWorkers workers end
     → (behind : List Said) × ((all ≡ records_said said ++ behind) × GoesOnTo remaining workers end behind)
 goes_on_to remaining workers all said (More left) on keeps = (on.0, (on.1.1.0, (keeps, on.1.1.1.left_is)))
 goes_on_to remaining workers all said (Fault met left) on keeps = (says.Fault met ∷ on.0, (on.1.0, (on.0, (refl, (keeps, on.1.1.left_is)))))

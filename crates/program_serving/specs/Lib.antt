@@ -1,4 +1,5 @@
 pub mod inner
+pub mod ErrorFaults
 pub mod FaultLines
 pub mod Serving
 pub mod PartRuns

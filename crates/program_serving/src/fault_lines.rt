@@ -1,17 +1,13 @@
 //! The answers to lines that are turned away, which have a fault or are past a limit.
-ghost use Rattle.std.specs.Prelude.{◌≡◌, ◌++◌, [], IfErr, IfOk, OnOk};
+ghost use Rattle.std.specs.Prelude.{◌≡◌, ◌++◌, IfErr, IfOk, OnOk};
 ghost use Rattle.auction_text.specs.Moved.{gone_by};
 ghost use Rattle.program_serving.specs.FaultLines.{answer_line, cause_text, fault_line, fault_text, record_text};
-ghost use Rattle.program_serving.specs.{ServeFaults.{AreToldAt}, Serving.{told_by}};
 ghost use Rattle.program_serving.specs.inner.Sessions.{answer_to, turned_text};
 
-use crate::telling::LiveTeller;
 use auction_text::{Before, Cause, MOST_RECORDS, ReadFault};
 use byte_texts::{WriteFault, push_labelled, push_number, push_text};
-use part_log::{Log, tell_part};
-use program_opening::{Fault, Options, write_fault};
+use program_opening::{Fault, Options};
 use std::alloc::{AllocError, Global};
-use std::io::Write;
 
 /// Why a line is turned away.
 #[derive(Clone, Copy)]
@@ -116,9 +112,9 @@ pub fn push_fault_line(
     push_answer(text, worker, index, Turned::Line(fault))
 }
 
-// The answer to a line that is turned away: none if it names no worker, or no replies are asked
-// for.
-fn answer_to(
+/// The answer to a line that is turned away: none if it names no worker, or no replies are asked
+/// for.
+pub(crate) fn answer_to(
     alloc: Global,
     options: &Options,
     before: &Before,
@@ -139,43 +135,4 @@ fn answer_to(
         Ok(()) => Ok(text),
         Err(_) => Err(Fault::Write(WriteFault::Memory)),
     }
-}
-
-// Tells why a line is turned away that has no answer.
-fn tell_error<E: Write>(errors: &mut E, answer: &[u8], turned: Turned) {
-    if answer.is_empty() {
-        let fault = match turned {
-            Turned::Line(fault) => Fault::Read(fault),
-            Turned::Past(limit) => Fault::Limit(limit),
-        };
-        // A fault that can't be told changes nothing.
-        let _ = write_fault(errors, &fault);
-    }
-}
-
-/// Answers a line that is turned away after what went before it, or if it has no answer tells why
-/// on `errors`.
-pub(crate) fn tell_turned<L: Log, W: Write, E: Write>(
-    alloc: Global,
-    teller: &mut LiveTeller<L, W, E>,
-    options: &Options,
-    before: &Before,
-    line: TurnedLine,
-) -> Result<(), Fault>
-    ensures told { OnOk result (
-        (told_by L.accepted W.contents teller.old.teller teller.new.teller).whole
-        [] (answer_to options.now (gone_by before.now) line)) }
-    ensures so_far { IfErr result (λ fault.
-        AreToldAt (told_by L.accepted W.contents teller.old.teller teller.new.teller) fault
-        [] (answer_to options.now (gone_by before.now) line)) }
-{
-    let answer = answer_to(alloc, options, before, line)?;
-    tell_error(&mut teller.errors, answer.as_slice(), line.turned);
-    tell_part(
-        &mut teller.teller.log,
-        &mut teller.teller.writer,
-        &[],
-        answer.as_slice(),
-    )?;
-    Ok(())
 }

@@ -2,12 +2,14 @@
 //! logged before one byte of its replies is written.
 #![tactic(auto)]
 
+mod error_place;
 mod fault_lines;
 mod limits;
 mod parts;
 mod session;
 mod telling;
 
+pub use error_place::{ErrorPlace, ErrorWriter};
 pub use fault_lines::push_fault_line;
 pub use part_log::{Log, NoLog, Teller};
 pub use session::{LoggedInput, parts_are_one_history, serve};

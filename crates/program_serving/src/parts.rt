@@ -180,6 +180,7 @@ fn perform_part<R: Threads + Wait + Sync, L: Log, W: Write, E>(
         begun.past →
         FailsPart (told_by L.accepted W.contents teller.old.teller teller.new.teller)
         options.now book (gone_by begun.before) before asked fault) }
+    ensures errors { teller.new.errors ≡ teller.old.errors }
 {
     let BegunPart {
         auction,
@@ -229,6 +230,7 @@ pub(crate) fn serve_part<R: Threads + Wait + Sync, L: Log, W: Write, E>(
         FailsPart (told_by L.accepted W.contents teller.old.teller teller.new.teller)
         options.now book (gone_by part.served.before) part.served.rows (asked_of part.input)
         fault) }
+    ensures errors { teller.new.errors ≡ teller.old.errors }
 {
     let begun = begin_part(alloc, part, options)?;
     perform_part(rt, alloc, teller, begun, options)

@@ -9,15 +9,16 @@ ghost use Rattle.part_log.specs.declared.log.Teller.{Teller as Told};
 ghost use Rattle.phase_floor.specs.Adding.{HasBook};
 ghost use Rattle.program_opening.specs.Options.{opening_asked};
 ghost use Rattle.program_opening.specs.declared.options.Options.{Options as Asked};
-ghost use Rattle.program_serving.specs.PartRuns.{IsStart};
+ghost use Rattle.program_serving.specs.{ErrorFaults.{AddsTold, unanswered}, PartRuns.{IsStart}};
 ghost use Rattle.program_serving.specs.ServeFaults.{AreToldAt, IsServeFault, IsStop};
 ghost use Rattle.program_serving.specs.Serving.{AreStepRuns, HasServedBook, IsLoggedBefore, IsServed, LogHasBook, RowsComeFirst, ServesAll, Step, added_rows, ends_at_fault, served_history, served_text, told_by};
-ghost use Rattle.program_serving.specs.inner.Sessions.{GoesOnTo, IsServedSoFar, PassesFault, past_answer};
+ghost use Rattle.program_serving.specs.inner.Sessions.{GoesOnTo, HasTold, IsServedSoFar, MayGoOnTo, MayHaveToSay, PassesFault, past_answer};
 
-use crate::fault_lines::{Turned, TurnedLine, tell_turned};
+use crate::error_place::ErrorPlace;
+use crate::fault_lines::{Turned, TurnedLine};
 use crate::limits::{ends_at_fault, most_of_a_part};
 use crate::parts::{NextPart, Served, ServedPart, serve_part};
-use crate::telling::LiveTeller;
+use crate::telling::{LiveTeller, tell_turned};
 use auction_text::{Before, LiveEnd, LiveInput, LivePart, ReadFault};
 use part_log::Log;
 use phase_floor::Joined;
@@ -49,8 +50,9 @@ struct Session<I> {
 /// the input, after the parts before it, or, as the options say, is answered in its place, with the
 /// index of its worker's next request, and changes nothing. A log that had the auction's rows has
 /// the book of the served parts, also after a fault. A fault has its cause, and what went before it
-/// was told whole.
-pub fn serve<R: Threads + Wait + Sync, I: Read + Drop, L: Log, W: Write, E: Write>(
+/// was told whole. The faults of lines that have no answer are told apart from the replies, each
+/// once and in order.
+pub fn serve<R: Threads + Wait + Sync, I: Read + Drop, L: Log, W: Write, E: ErrorPlace>(
     rt: &R,
     alloc: Global,
     source: LoggedInput<I>,
@@ -74,6 +76,9 @@ pub fn serve<R: Threads + Wait + Sync, I: Read + Drop, L: Log, W: Write, E: Writ
         IsStart options.now source.auction book → IfSome (I.remaining source.reader) (λ input.
         IsServeFault (told_by L.accepted W.contents) teller.old.teller teller.new.teller
         options.now book (live_says options.now.workers input) fault)) }
+    ensures errors { OnOk result (IfSome (I.remaining source.reader) (λ input.
+        AddsTold (E.told teller.old.errors) (E.told teller.new.errors)
+        (unanswered options.now (live_says options.now.workers input)))) }
 {
     let LoggedInput { auction, reader } = source;
     let left = LiveInput::of(alloc, reader, options.workers)?;
@@ -89,7 +94,7 @@ pub fn serve<R: Threads + Wait + Sync, I: Read + Drop, L: Log, W: Write, E: Writ
 }
 
 // Serves what is left of an input.
-fn serve_lines<R: Threads + Wait + Sync, I: Read + Drop, L: Log, W: Write, E: Write>(
+fn serve_lines<R: Threads + Wait + Sync, I: Read + Drop, L: Log, W: Write, E: ErrorPlace>(
     rt: &R,
     alloc: Global,
     teller: &mut LiveTeller<L, W, E>,
@@ -107,6 +112,10 @@ fn serve_lines<R: Threads + Wait + Sync, I: Read + Drop, L: Log, W: Write, E: Wr
         options.now book all session →
         IsServeFault (told_by L.accepted W.contents) start teller.new.teller options.now book all
         fault) }
+    ensures errors { OnOk result ((rest : List Says) →
+        GoesOnTo I.remaining options.now.workers session.end rest →
+        AddsTold (E.told teller.old.errors) (E.told teller.new.errors)
+        (unanswered options.now rest)) }
 {
     let mut session = session;
     for _ in 0..u64::MAX {
@@ -119,7 +128,7 @@ fn serve_lines<R: Threads + Wait + Sync, I: Read + Drop, L: Log, W: Write, E: Wr
 }
 
 // Serves the next part, and gives how the input goes on behind it: nothing at its end.
-fn serve_next<R: Threads + Wait + Sync, I: Read + Drop, L: Log, W: Write, E: Write>(
+fn serve_next<R: Threads + Wait + Sync, I: Read + Drop, L: Log, W: Write, E: ErrorPlace>(
     rt: &R,
     alloc: Global,
     teller: &mut LiveTeller<L, W, E>,
@@ -141,6 +150,10 @@ fn serve_next<R: Threads + Wait + Sync, I: Read + Drop, L: Log, W: Write, E: Wri
         options.now book all session →
         IsServeFault (told_by L.accepted W.contents) start teller.new.teller options.now book all
         fault) }
+    ensures errors { IfOk result (λ next. (rest : List Says) →
+        GoesOnTo I.remaining options.now.workers session.end rest →
+        HasTold (E.told teller.old.errors) (E.told teller.new.errors) options.now rest
+        (MayGoOnTo I.remaining options.now.workers next)) }
 {
     let Session { served, end } = session;
     let Some(left) = pass_fault(alloc, teller, options, &served.before, end)? else {
@@ -160,7 +173,7 @@ fn serve_next<R: Threads + Wait + Sync, I: Read + Drop, L: Log, W: Write, E: Wri
 
 // Gives what is left of an input behind its next line, if that has a fault: it is answered, or ends
 // the input.
-fn pass_fault<I: Drop, L: Log, W: Write, E: Write>(
+fn pass_fault<I: Drop, L: Log, W: Write, E: ErrorPlace>(
     alloc: Global,
     teller: &mut LiveTeller<L, W, E>,
     options: &Options,
@@ -176,6 +189,10 @@ fn pass_fault<I: Drop, L: Log, W: Write, E: Write>(
         (book : Book) (rows : ℕ) →
         IsStop (told_by L.accepted W.contents teller.old.teller teller.new.teller)
         options.now book (gone_by before.now) rows rest fault) }
+    ensures errors { IfOk result (λ left. (remaining : I → Option (List ℕ)) (workers : ℕ)
+        (rest : List Says) → GoesOnTo remaining workers end rest →
+        HasTold (E.told teller.old.errors) (E.told teller.new.errors) options.now rest
+        (MayHaveToSay remaining workers left)) }
 {
     match end {
         LiveEnd::More(left) => Ok(Some(left)),
@@ -195,7 +212,7 @@ fn pass_fault<I: Drop, L: Log, W: Write, E: Write>(
 }
 
 // Answers a request past its worker's limit behind the rest of its part, if there is one.
-fn tell_past<L: Log, W: Write, E: Write>(
+fn tell_past<L: Log, W: Write, E: ErrorPlace>(
     alloc: Global,
     teller: &mut LiveTeller<L, W, E>,
     options: &Options,
@@ -209,6 +226,7 @@ fn tell_past<L: Log, W: Write, E: Write>(
         AreToldAt (told_by L.accepted W.contents teller.old.teller teller.new.teller) fault
         [] (past_answer options.now (gone_by done.now.served.before)
         done.now.served.auction.limit (Some worker)))) }
+    ensures errors { OnOk result (AddsTold (E.told teller.old.errors) (E.told teller.new.errors) []) }
 {
     let Some(worker) = done.past else {
         return Ok(());

@@ -1,14 +1,18 @@
-//! What is logged of a part, and what is written of it.
-ghost use Rattle.std.specs.Prelude.{◌≡◌, IfErr, IfOk, IfSome, OnOk};
+//! What is logged of a part and what is written of it, and what is told of a line that is turned
+//! away. Nothing is written anywhere else.
+ghost use Rattle.std.specs.Prelude.{◌≡◌, [], IfErr, IfOk, IfSome, OnOk};
 ghost use Rattle.auction_text.specs.{Moved.{gone_by}, RowLines.{rows_text}};
 ghost use Rattle.byte_texts.specs.Writing.{WritesText};
-ghost use Rattle.program_serving.specs.ServeFaults.{AreToldAt};
+ghost use Rattle.program_serving.specs.{ErrorFaults.{AddsTold, turned_faults}, ServeFaults.{AreToldAt}};
 ghost use Rattle.program_serving.specs.Serving.{OfPart, part_text, told_by};
+ghost use Rattle.program_serving.specs.inner.Sessions.{answer_to};
 
+use crate::error_place::{ErrorPlace, tell_error};
+use crate::fault_lines::{TurnedLine, answer_to};
 use auction_rows::Row;
 use auction_text::{Before, TextBlock, write_history_on, write_replies_by, write_rows};
 use byte_texts::WriteFault;
-use part_log::{Log, Teller, tell_part};
+use part_log::{Log, Teller};
 use program_opening::{Fault, Options};
 use std::alloc::Global;
 use std::io::Write;
@@ -32,13 +36,14 @@ struct TextRoom {
 }
 
 /// A log and a writer, where faults are told that have no place among the replies, and room for the
-/// text of a part.
+/// text of a part. Only the functions of this file reach them: what is written of a part is made of
+/// what it commits, and so are the rows that are logged before it.
 #[derive(Drop)]
 pub struct LiveTeller<L, W, E> {
-    /// The log, and the writer of the replies.
-    pub teller: Teller<L, W>,
-    /// Where a fault is told of a line that names no worker, or if no replies are asked for.
-    pub errors: E,
+    // The log, and the writer of the replies.
+    teller: Teller<L, W>,
+    // Where a fault is told of a line that names no worker, or if no replies are asked for.
+    errors: E,
     room: TextRoom,
 }
 
@@ -62,13 +67,17 @@ impl<L, W, E> LiveTeller<L, W, E> {
 
 // The text of the rows that a part adds, for a log that keeps it: of one that keeps nothing no
 // bytes are known.
-fn logged_text<L: Log>(alloc: Global, log: &L, committed: &Committed) -> Result<Vec<u8>, Fault>
-    ensures text { IfOk result (λ text. IfSome (L.accepted log.now) (λ _.
+fn logged_text<L: Log, W: Write>(
+    alloc: Global,
+    teller: &Teller<L, W>,
+    committed: &Committed,
+) -> Result<Vec<u8>, Fault>
+    ensures text { IfOk result (λ text. IfSome (L.accepted teller.now.log) (λ _.
         text.items ≡ rows_text committed.now.rows.items committed.now.history.entries)) }
     ensures memory { IfErr result (λ fault. fault ≡ Fault.Write WriteFault.Memory) }
 {
     let mut text = Vec::new(alloc);
-    if !log.keeps() {
+    if !teller.keeps() {
         return Ok(text);
     }
     match write_rows(
@@ -139,15 +148,35 @@ pub(crate) fn tell_committed<L: Log, W: Write, E>(
     ensures so_far { IfErr result (λ fault. OfPart options.now (gone_by committed.now.before)
         committed.now.rows.items committed.now.history.entries
         (AreToldAt (told_by L.accepted W.contents teller.old.teller teller.new.teller) fault)) }
+    ensures errors { teller.new.errors ≡ teller.old.errors }
 {
-    let rows = logged_text(alloc, &teller.teller.log, committed)?;
+    let rows = logged_text(alloc, &teller.teller, committed)?;
     make_text(alloc, &mut teller.room, options, committed)?;
     let text = &teller.room.text;
-    tell_part(
-        &mut teller.teller.log,
-        &mut teller.teller.writer,
-        rows.as_slice(),
-        text.as_slice(),
-    )?;
+    teller.teller.tell(rows.as_slice(), text.as_slice())?;
+    Ok(())
+}
+
+/// Answers a line that is turned away after what went before it, or if it has no answer tells why
+/// where faults are told.
+pub(crate) fn tell_turned<L: Log, W: Write, E: ErrorPlace>(
+    alloc: Global,
+    teller: &mut LiveTeller<L, W, E>,
+    options: &Options,
+    before: &Before,
+    line: TurnedLine,
+) -> Result<(), Fault>
+    ensures told { OnOk result (
+        (told_by L.accepted W.contents teller.old.teller teller.new.teller).whole
+        [] (answer_to options.now (gone_by before.now) line)) }
+    ensures so_far { IfErr result (λ fault.
+        AreToldAt (told_by L.accepted W.contents teller.old.teller teller.new.teller) fault
+        [] (answer_to options.now (gone_by before.now) line)) }
+    ensures errors { OnOk result (AddsTold (E.told teller.old.errors) (E.told teller.new.errors)
+        (turned_faults options.now line)) }
+{
+    let answer = answer_to(alloc, options, before, line)?;
+    tell_error(&mut teller.errors, options, line);
+    teller.teller.tell(&[], answer.as_slice())?;
     Ok(())
 }

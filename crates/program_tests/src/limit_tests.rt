@@ -3,7 +3,9 @@
 ghost use Rattle.phase_floor.specs.Adding.{HasBook};
 
 use crate::testing::line_of;
-use auction_program::{Joined, LiveTeller, LoggedInput, NoLog, Options, Teller, serve};
+use auction_program::{
+    ErrorWriter, Joined, LiveTeller, LoggedInput, NoLog, Options, Teller, serve,
+};
 use auction_rows::{Facts, Opening, Request, Stars};
 use std::alloc::Global;
 use std::process::Abort;
@@ -98,15 +100,14 @@ fn assert_served<R: Abort + Alloc<A = Global> + Threads + Wait + Sync>(
         auction: almost_full(rt, alloc),
         reader: LINES,
     };
-    let texts = Teller {
-        log: NoLog,
-        writer: Vec::new(alloc),
-    };
-    let mut teller = LiveTeller::of(alloc, texts, Vec::new(alloc));
+    let mut replies = Vec::new(alloc);
+    let mut faults = Vec::new(alloc);
+    let texts = Teller::new(NoLog, &mut replies);
+    let mut teller = LiveTeller::of(alloc, texts, ErrorWriter::of(&mut faults));
     let served = serve(rt, alloc, source, &mut teller, options);
     assert_eq!(rt; line_of(rt, alloc, &served).as_slice(), ended);
-    assert_eq!(rt; teller.teller.writer.as_slice(), written);
-    assert_eq!(rt; teller.errors.as_slice(), errors);
+    assert_eq!(rt; replies.as_slice(), written);
+    assert_eq!(rt; faults.as_slice(), errors);
 }
 
 #[test]

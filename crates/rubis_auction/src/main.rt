@@ -9,8 +9,9 @@ ghost use Rattle.phase_floor.specs.Adding.{HasBook, IsStartOf};
 
 use crate::progress::Noted;
 use auction_program::{
-    Fault, Joined, LiveTeller, Log, LogCause, LogFileFault, LoggedInput, NoLog, OpenedLog, Options,
-    Teller, UntilEnd, execute, new_auction, open_log, read_options, serve, status, write_fault,
+    ErrorWriter, Fault, Joined, LiveTeller, Log, LogCause, LogFileFault, LoggedInput, NoLog,
+    OpenedLog, Options, Teller, UntilEnd, execute, new_auction, open_log, read_options, serve,
+    status, write_fault,
 };
 use program_options::program_words;
 use std::alloc::Global;
@@ -124,10 +125,7 @@ where
     R: Print + Alloc<A = Global> + Threads + Wait + Sync + Clock + Eprint,
     requires { HasBook source.auction }
 {
-    let teller = Teller {
-        log,
-        writer: io::writer(rt),
-    };
+    let teller = Teller::new(log, io::writer(rt));
     let user = match user {
         // Its replies show how far it is.
         User::Watches if options.live > 0 => User::Away,
@@ -139,7 +137,7 @@ where
         reader: input(rt, reader, user),
     };
     let alloc = rt.alloc();
-    let mut teller = LiveTeller::of(alloc, teller, errors);
+    let mut teller = LiveTeller::of(alloc, teller, ErrorWriter::of(errors));
     serve(rt, alloc, source, &mut teller, options)
 }
 

@@ -1,3 +1,4 @@
+pub mod CauseLemmas
 pub mod FaultLemmas
 pub mod FindingLemmas
 pub mod OptionLemmas

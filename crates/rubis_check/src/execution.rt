@@ -1,10 +1,11 @@
 //! From the bytes of rows and scripts and those of a history to what is found of the history, as a
 //! line and as an exit status.
 ghost use Rattle.std.specs.Io.KnownBytes.{Appends};
-ghost use Rattle.std.specs.Prelude.{◌≡◌, ◌≤◌, ◌++◌, Err, IfErr, IfOk, OnOk};
+ghost use Rattle.std.specs.Prelude.{◌≡◌, ◌≤◌, ◌++◌, Err, IfErr, IfOk, IfSome, OnOk};
 ghost use Rattle.byte_texts.specs.Writing.{IsPartWritten};
 ghost use Rattle.byte_texts.specs.declared.writing.WriteFault.{WriteFault};
-ghost use Rattle.rubis_check.specs.{Faults.{verdict_status}, Finding.{Tells, TellsSome}};
+ghost use Rattle.rubis_check.specs.{Causes.{IsCausedBy}, Faults.{verdict_status}};
+ghost use Rattle.rubis_check.specs.Finding.{Tells, TellsSome};
 ghost use Rattle.rubis_check.specs.VerdictLines.{place_text, reason_text, Says, SaysWrong};
 
 use crate::faults::Fault;
@@ -19,7 +20,7 @@ use std::io::{BufRead, Read, Write};
 
 /// Opens an auction with the rows that the first reader gives, replays the history that the second
 /// gives on it, and writes what is found as a line. If the writer fails, a prefix of that line was
-/// written, and after any other fault nothing.
+/// written, and after any other fault nothing. A fault has its cause.
 pub fn execute<I: Read + Drop, H: BufRead, W: Write>(
     alloc: Global,
     reader: I,
@@ -36,6 +37,8 @@ pub fn execute<I: Read + Drop, H: BufRead, W: Write>(
         (IsPartWritten (W.contents writer.old) (W.contents writer.new)) }
     ensures unwritten { IfErr result (λ fault. ¬ (fault ≡ Fault.Write WriteFault.Write) →
         writer.new ≡ writer.old) }
+    ensures cause { IfErr result (λ fault. IfSome (I.remaining reader) (λ input.
+        IsCausedBy options.now input (H.remaining history.old) fault)) }
 {
     let input = read_compact_scripts(alloc, reader, options.workers)?;
     let book = OpeningBook::new(alloc, options.opening, input.rows)?;

@@ -4,10 +4,10 @@ use Rattle.auction_rows.specs.Book.{Book}
 use Rattle.auction_text.specs.{LineFault.{LineFault}, LiveEnd.{LiveEnd}}
 use Rattle.auction_text.specs.{LiveEnd.TheVariants.{More, Fault, All}, LiveInput.{LiveInput}}
 use Rattle.auction_text.specs.{LiveParts.{HasToSay, live_workers}, Moved.{Gone, gone_by}}
-use Rattle.auction_text.specs.Said.{Said}
+use Rattle.auction_text.specs.{ReadFault.{ReadFault}, Said.{Said}}
 use Rattle.auction_text.specs.Said.TheVariants as says
 use Rattle.program_opening.specs.declared.options.Options.{Options}
-use Rattle.program_serving.specs.FaultLines.{fault_text, limit_text}
+use Rattle.program_serving.specs.{ErrorFaults.{AddsTold, unanswered}, FaultLines.{fault_text, limit_text}}
 use Rattle.program_serving.specs.PartRuns.{IsStart, rows_before}
 use Rattle.program_serving.specs.Serving.{IsServed, Step, Telling, book_left, ends_at_fault, gone_after, line_answer, nothing_gone, served_rows, served_text, turned_answer}
 use Rattle.program_serving.specs.declared.fault_lines.Turned.{TheVariants.{Line, Past}, Turned}
@@ -88,3 +88,19 @@ abbrev pub IsServedSoFar : {R : Type 0} → (R → Option (List ℕ)) → Tellin
 IsServedSoFar remaining told options book all session =
     IsSession options book all session.served (GoesOnTo remaining options.workers session.end)
     told.whole
+
+-- Of what an input has yet to say, the faults of lines that have no answer were told of the first,
+-- and it goes on with the rest.
+pub record HasTold (told next_told : Option (List ReadFault)) (options : Options)
+    (rest : List Said) (GoesOn : List Said → Type 0) : Type 0 where
+  pub faults : List ReadFault
+  pub behind : List Said
+  pub splits : unanswered options rest ≡ faults ++ unanswered options behind
+  pub adds : AddsTold told next_told faults
+  pub goes_on : GoesOn behind
+
+-- what goes on behind a part: nothing at the end of the input
+abbrev pub MayGoOnTo : {R : Type 0} → (R → Option (List ℕ)) → ℕ → Option (Session R) →
+    List Said → Type 0
+MayGoOnTo remaining workers None rest = rest ≡ []
+MayGoOnTo remaining workers (Some session) rest = GoesOnTo remaining workers session.end rest

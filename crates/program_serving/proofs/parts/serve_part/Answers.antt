@@ -23,6 +23,7 @@ returns g c =
           → FailsPart (told_by accepted contents old new) options book (gone_by part.served.before) part.served.rows (asked_of part.input) f)
           (λ fault why book begins. subst (λ (b : BeforeView). FailsPart (told_by accepted contents old new) options book (gone_by b) part.served.rows (asked_of part.input) fault) e.before
           (why book (asked_of part.input) part.served.rows (e.begins book begins))) c.perform_part.ensures.cause;
+      errors = c.perform_part.ensures.errors;
     }
 
 pub perform_part-requires-clause-next : goal.perform_part-requires-clause-next

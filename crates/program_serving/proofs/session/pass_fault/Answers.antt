@@ -2,8 +2,9 @@ use Rattle.std.proofs.Common.{◌∙◌, None, Some, [], refl, subst, sym}
 use Rattle.auction_text.specs.Moved.{gone_by}
 use Rattle.auction_text.specs.Said.TheVariants as says
 use Rattle.program_opening.proofs.ErrorLemmas.{error_is}
+use Rattle.program_serving.proofs.ErrorLines.{line_told, part_told}
 use Rattle.program_serving.proofs.{FaultLemmas.{answer_stops}, ToldLemmas.{nothing_told, told_none}}
-use Rattle.program_serving.specs.{Serving.{told_by}, inner.Sessions.{GoesOnTo}}
+use Rattle.program_serving.specs.{Serving.{told_by}, inner.Sessions.{GoesOnTo, MayHaveToSay}}
 use Rattle.program_serving.proofs.session.pass_fault.Goals as goal
 
 pub returns-in-More-clause-passes : goal.returns-in-More-clause-passes
@@ -51,3 +52,19 @@ returns-in_err-tell_turned-in-Fault-clause-stops g c =
       turned_away = tt;
       holds = c.in_err-tell_turned-in-Fault.ensures.so_far;
     }))
+
+pub returns-in-More-clause-errors : goal.returns-in-More-clause-errors
+returns-in-More-clause-errors g c = λ remaining workers rest on.
+    let told = g.E.ErrorPlace.told c.args.teller.now.errors in
+    part_told told told c.args.options.now rest rest [] (MayHaveToSay remaining workers (Some c.in-More.left)) refl refl (subst (λ end. GoesOnTo remaining workers end rest) c.in-More.is on)
+
+pub returns-in-All-clause-errors : goal.returns-in-All-clause-errors
+returns-in-All-clause-errors g c = λ remaining workers rest on.
+    let told = g.E.ErrorPlace.told c.args.teller.now.errors in
+    part_told told told c.args.options.now rest rest [] (MayHaveToSay remaining workers None) refl refl (subst (λ end. GoesOnTo remaining workers end rest) c.in-All.is on)
+
+pub returns-in_ok-tell_turned-in-Fault-clause-errors : goal.returns-in_ok-tell_turned-in-Fault-clause-errors
+returns-in_ok-tell_turned-in-Fault-clause-errors g c = λ remaining workers rest on.
+    let next = subst (λ end. GoesOnTo remaining workers end rest) c.in-Fault.is on in
+    line_told (g.E.ErrorPlace.told c.args.teller.now.errors) (g.E.ErrorPlace.told c.tell_turned.new.teller.errors) c.args.options.now rest next.0 c.in-Fault.met (MayHaveToSay remaining workers (Some c.in-Fault.left)) next.1.0
+    c.in_ok-tell_turned-in-Fault.ensures.errors next.1.1

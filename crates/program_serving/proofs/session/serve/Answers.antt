@@ -64,3 +64,9 @@ returns-in_err-left-clause-book g c = λ book start had.
     let options = c.args.options.now in let old = c.args.teller.now.teller in
     IfSome_then (g.I.Read.remaining c.args.source.reader) (returns-in_err-left-clause-logged g c book start) (λ input first.
     served_book g.L.Log.accepted g.W.Write.contents old old options book (live_says options.workers input) had first)
+
+pub returns-clause-errors : goal.returns-clause-errors
+returns-clause-errors g c =
+    let options = c.args.options.now in
+    on_ok_weaker c.serve_lines.result (λ ensures. IfSome_then (g.I.Read.remaining c.args.source.reader) c.in_ok-left.ensures.says (λ input has.
+    ensures (live_says options.workers input) (c.in_ok-left.ensures.workers, has))) c.serve_lines.ensures.errors

@@ -1,12 +1,13 @@
-use Rattle.std.proofs.Common.{◌≡◌, List, [], Some, subst}
+use Rattle.std.proofs.Common.{◌≡◌, ℕ, List, [], Some, ap, subst}
 use Rattle.auction_rows.specs.Book.{Book}
-use Rattle.auction_text.specs.{Said.{Said}, Scripts.{asked_of}}
+use Rattle.auction_text.specs.{LiveParts.{KeepsLiveWorkers}, Said.{Said}, Scripts.{asked_of}}
 use Rattle.part_log.specs.declared.log.Teller.{Teller}
 use Rattle.program_opening.{proofs.ErrorLemmas.{error_is}, specs.declared.faults.Fault.{Fault}}
 use Rattle.program_opening.specs.declared.faults.Fault.TheVariants.{Read}
+use Rattle.program_serving.proofs.ErrorLines.{part_told, told_and_none, told_then, told_weaker}
 use Rattle.program_serving.proofs.PartSteps.{part_fails, part_goes_on, part_served}
 use Rattle.program_serving.proofs.RowsBefore.{no_late_row}
-use Rattle.program_serving.proofs.Sessions.{answer_stops_all, is_none, part_read, session_answered, session_ends, session_passed, session_stops}
+use Rattle.program_serving.proofs.Sessions.{answer_stops_all, goes_on_to, is_none, part_read, session_answered, session_ends, session_passed, session_stops}
 use Rattle.program_serving.{proofs.ToldLemmas.{nothing_told}, specs.ServeFaults.{IsServeFault}}
 use Rattle.program_serving.specs.Serving.{book_left, told_by}
 use Rattle.program_serving.specs.inner.Sessions.{GoesOnTo, IsServedSoFar, IsSession, MayHaveToSay}
@@ -116,3 +117,27 @@ returns-in_err-tell_past-clause-cause g c =
     (part_goes_on accepted contents options book all start mid next c.args.session.served Left passed c.most_of_a_part.result (asked_of part.input) Next reads free
     c.most_of_a_part.ensures.few c.most_of_a_part.ensures.room done.past done.served c.in_ok-done.ensures.serves)
     fault c.in_err-tell_past.ensures.so_far)
+
+pub returns-in_default-clause-errors : goal.returns-in_default-clause-errors
+returns-in_default-clause-errors g c = λ rest on.
+    let remaining = g.I.Read.remaining in let workers = c.args.options.now.workers in
+    let told = g.E.ErrorPlace.told c.args.teller.now.errors in
+    let next = g.E.ErrorPlace.told c.pass_fault.new.teller.errors in let left = c.in_ok-left.field-0 in
+    told_weaker told next c.args.options.now rest (MayHaveToSay remaining workers left) _ (c.in_ok-left.ensures.errors remaining workers rest on)
+    (λ behind more. subst (λ o. MayHaveToSay remaining workers o behind) (is_none left c.in_default.not-Some) more)
+
+pub returns-clause-errors : goal.returns-clause-errors
+returns-clause-errors g c = λ rest on.
+    let remaining = g.I.Read.remaining in let options = c.args.options.now in
+    let workers = options.workers in let told = g.E.ErrorPlace.told in
+    let old = told c.args.teller.now.errors in let mid = told c.pass_fault.new.teller.errors in
+    let next = told c.serve_part.new.teller.errors in let new = told c.tell_past.new.teller.errors in
+    let part = c.in_ok-input.field-0 in
+    let GoesOn : List Said → Type 0 = GoesOnTo remaining workers part.end in
+    told_and_none old next new options rest GoesOn
+    (told_then old mid next options rest (MayHaveToSay remaining workers c.in_ok-left.field-0) GoesOn (c.in_ok-left.ensures.errors remaining workers rest on) (λ behind more.
+    let yet = subst (λ left. MayHaveToSay remaining workers left behind) c.in-Some.is more in
+    let read = c.in_ok-input.ensures.part behind yet.1 in
+    let after = goes_on_to remaining workers behind read.said part.end read.goes_on (subst (λ (n : ℕ). KeepsLiveWorkers n part.end) yet.0 c.in_ok-input.ensures.workers) in
+    part_told mid next options behind after.0 read.said GoesOn (ap told c.in_ok-done.ensures.errors) after.1.0 after.1.1))
+    c.in_ok-tell_past.ensures.errors

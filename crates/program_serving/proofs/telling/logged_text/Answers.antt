@@ -6,5 +6,5 @@ use Rattle.program_serving.proofs.telling.logged_text.Goals as goal
 pub returns-in-Ok-clause-text : goal.returns-in-Ok-clause-text
 returns-in-Ok-clause-text g c =
     let history = c.args.committed.now.history.entries in
-    if_known (g.L.Log.accepted c.args.log.now) _ ((rw c.in-Ok.is at c.write_rows.ensures.whole)
+    if_known (g.L.Log.accepted c.args.teller.now.log) _ ((rw c.in-Ok.is at c.write_rows.ensures.whole)
     ∙ ap (λ text. text ++ rows_text c.as_slice.result.now history) c.new-text.ensures.items ∙ ap (λ rows. rows_text rows history) c.as_slice.ensures.value)
