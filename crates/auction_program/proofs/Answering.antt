@@ -16,7 +16,7 @@ use Rattle.auction_program.specs.Execution.{added_text, Answers, IsAllowed, IsCa
 use Rattle.auction_program.specs.declared.asked.Performed.{Performed}
 use Rattle.auction_program.specs.inner.Performing.{IsNotPerformed, Performs}
 use Rattle.auction_run.specs.Beginning.{HaveWorkers, HasShards, HasQuotas, AreShort}
-use Rattle.auction_run.specs.{Phases.{HaveMetLastNumber, hot_sets}, RunFault.{RunFault}}
+use Rattle.auction_run.specs.{Phases.{hot_sets}, RunFault.{RunFault}}
 use Rattle.auction_run.specs.RunFault.TheVariants as run
 
 pub is_error : {T E : Type 0} (r : Result T E) (e x : E) → IsErr r × IsErrAnd r (λ y. y ≡ e) → r ≡ Err x → x ≡ e
@@ -45,7 +45,7 @@ pub not_run : {T : Type 0} (policy : Policy) (book : Book) (scripts : List (List
     → (result ≡ Err run.Quota ↔ (HaveWorkers book scripts × (HasShards policy × ¬ HasQuotas policy)))
     → (result ≡ Err run.TooLong ↔ (HaveWorkers book scripts × (HasShards policy × (HasQuotas policy × ¬ AreShort book scripts))))
     → (result ≡ Err run.Spawn → 1 < length scripts)
-    → (result ≡ Err run.NumberFull → HaveMetLastNumber scripts)
+    → ¬ (result ≡ Err run.NumberFull)
     → IsNotRun policy fault book scripts
 not_run policy book scripts result run.Workers is workers shards quotas short spawn numbers = workers.0 is
 not_run policy book scripts result run.Shards is workers shards quotas short spawn numbers = shards.0 is

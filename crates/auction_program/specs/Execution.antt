@@ -15,7 +15,7 @@ use Rattle.program_opening.specs.declared.faults.Fault.TheVariants.{Usage, Read,
 use Rattle.program_opening.specs.declared.options.Options.{Options}
 use Rattle.auction_program.specs.Report.{report_of}
 use Rattle.auction_run.specs.Beginning.{HaveWorkers, HasShards, HasQuotas, AreShort}
-use Rattle.auction_run.specs.{Phases.{HaveMetLastNumber}, RunFault.{RunFault}}
+use Rattle.auction_run.specs.RunFault.{RunFault}
 use Rattle.auction_run.specs.RunFault.TheVariants as run
 
 -- what is added to what the options ask for: the report, if they ask for it
@@ -93,9 +93,9 @@ IsRefused opening resume.TooLong rows = IsTooLong rows
 IsRefused opening (resume.BadRow n) rows = (¬ IsTooLong rows) × IsFirstBad opening rows n
 IsRefused opening resume.Memory rows = ¬ IsTooLong rows
 
--- why a run of scripts from a book was refused, by the first that doesn't hold; the last three
--- faults are met while it goes on: Spawn if there is a thread to start, NumberFull if a worker met
--- the end of commit numbers, and of Memory no clause says when
+-- why a run of scripts from a book was refused, by the first that doesn't hold; the last faults are
+-- met while it goes on: Spawn if there is a thread to start, and of Memory no clause says when;
+-- commit numbers suffice
 abbrev pub IsNotRun : Policy → RunFault → Book → List (List Request) → Type 0
 IsNotRun policy run.Workers book scripts = ¬ HaveWorkers book scripts
 IsNotRun policy run.Shards book scripts = HaveWorkers book scripts × ¬ HasShards policy
@@ -105,7 +105,7 @@ IsNotRun policy run.TooLong book scripts =
     HaveWorkers book scripts × (HasShards policy × (HasQuotas policy × ¬ AreShort book scripts))
 IsNotRun policy run.Spawn book scripts = 1 < length scripts
 IsNotRun policy run.Memory book scripts = Unit {0}
-IsNotRun policy run.NumberFull book scripts = HaveMetLastNumber scripts
+IsNotRun policy run.NumberFull book scripts = ⊥
 
 -- a fault that comes before anything is written
 abbrev pub IsUnwritten : Fault → Type 0

@@ -109,7 +109,7 @@ module _ (opening : Opening) (rows : Book) (policy : Policy) (scripts : List (Li
         limit = tt;
         refused = refused_first other own;
         spawn = λ told. let same : other ≡ Spawn = cc told in absurd (subst first same own);
-        numbers = λ told. let same : other ≡ NumberFull = cc told in absurd (subst first same own);
+        numbers = λ told. let same : other ≡ NumberFull = cc told in subst first same own;
       }
 
   -- a run of what was checked is not refused for it

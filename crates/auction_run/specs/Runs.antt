@@ -6,7 +6,7 @@ use Rattle.auction_rows.specs.declared.{limits.Policy.Policy, values.Opening.Ope
 use Rattle.phase_floor.specs.States.{IsBookOf}
 use Rattle.auction_run.specs.Checks.{IsRefusedInOrder}
 use Rattle.run_phases.specs.{Boards.{HasShown}, Outcomes.{IsOutcome, HasShownFirstAfter}}
-use Rattle.run_phases.specs.{Phases.{HaveMetLastNumber}, declared.course.Outcome.{Outcome}}
+use Rattle.run_phases.specs.declared.course.Outcome.{Outcome}
 use Rattle.run_phases.specs.declared.faults.RunFault.{TheVariants.{NumberFull, Spawn}, RunFault}
 
 -- What a run of these scripts answers, from an opening book on.
@@ -23,8 +23,8 @@ pub record AnswersRun (opening : Opening) (rows : Book) (policy : Policy)
   pub refused : IsRefusedInOrder result policy rows scripts
   -- Spawn comes only if there is a thread to start
   pub spawn : IsErrOf result Spawn → 1 < length scripts
-  -- NumberFull comes only of a worker that met the end of commit numbers
-  pub numbers : IsErrOf result NumberFull → HaveMetLastNumber scripts
+  -- and NumberFull never comes: commit numbers suffice
+  pub numbers : ¬ IsErrOf result NumberFull
 
 -- A board has all phases of a run, of an auction that was opened with these rows.
 abbrev pub HasShownAll : {B : Type 0} → (B → Opening → Book → List (List Row) → Type 0) →

@@ -28,11 +28,11 @@ use std::thread::Threads;
 /// top list shown is the one computed afresh from the rows committed before it.
 ///
 /// The first four faults are found first, in their order, exactly for their causes. `Spawn` comes
-/// only if there is a thread to start, `NumberFull` only of a worker that met the end of commit
-/// numbers; a fault gives no part of a history. No clause says when memory is refused, nor which of
-/// several faults of a phase is told: it is `Spawn` before that of the least worker, and this
-/// before that of the close. The state left can be gone on with, by `run_on`. A list of requests is
-/// copied to a `Script`, of 32 bytes per request, and then let go.
+/// only if there is a thread to start, and `NumberFull` never: commit numbers suffice. A fault gives
+/// no part of a history. No clause says when memory is refused, nor which of several faults of a
+/// phase is told: it is `Spawn` before that of the least worker, and this before that of the close.
+/// The state left can be gone on with, by `run_on`. A list of requests is copied to a `Script`, of
+/// 32 bytes per request, and then let go.
 pub fn run<R: Threads + Wait + Sync, G: Gate + Sync, S: Scripts>(
     rt: &R,
     alloc: Global,

@@ -1,8 +1,8 @@
 -- The phase of the example has closed.
-use Rattle.std.proofs.Common.{◌≡◌, ℕ, zero, suc, ◌<◌, ◌||◌, false, cond, [], ◌∷◌, map, refl, sym, ap, arith}
+use Rattle.std.proofs.Common.{◌≡◌, ℕ, zero, suc, ◌<◌, ◌≤◌, ◌||◌, false, cond, [], ◌∷◌, map, refl, sym, ap, arith}
 use Rattle.std.{proofs.lemmas.Bool.{ne_eqb}, specs.List.{IsDistinct}}
 use Rattle.auction_rows.specs.{Requests.{same_object}, declared.requests.Facts.{Facts}}
-use Rattle.shard_boxes.specs.{Closed.{IsClosedBox}, Keys.{key_at, lines_at, holds_at}}
+use Rattle.shard_boxes.specs.{Closed.{IsClosedBox}, Helds.{taken_at}, Keys.{key_at, lines_at, holds_at}}
 use Rattle.shard_boxes.specs.{Lines.{lines_of}, States.{state_at}}
 use Rattle.item_shards.specs.Standing.{ContentsStandsFor}
 use Rattle.phase_transactions.specs.Txns.{hot_of, line_on, lines_owed}
@@ -54,6 +54,10 @@ module _ (facts : Facts) where
   own_lines zero known = refl
   own_lines (suc n) known = absurd (omega (arith, known))
 
+  seen_clocks : (w : ℕ) → w < 1 → (taken_at (opened facts ∷ []) (key_at (key facts ∷ []) w) 0).clock ≤ 1
+  seen_clocks zero known = omega arith
+  seen_clocks (suc n) known = absurd (omega (arith, known))
+
   boxes : (s : ℕ) → s < 1 → IsClosedBox (opened facts ∷ []) 1 (key facts ∷ []) s (state_at (example_phase facts).given s)
   boxes zero known = record {
     lines = (0, line facts) ∷ [];
@@ -70,6 +74,7 @@ module _ (facts : Facts) where
       within = record { bids = λ id. omega arith; comments = λ user. omega arith; ratings = λ user. omega arith };
     };
     own = own_lines;
+    seen = seen_clocks;
   }
   boxes (suc n) known = absurd (omega (arith, known))
 

@@ -14,6 +14,7 @@ pub mod MergeLemmas
 pub mod ReconcileLemmas
 pub mod LawfulLemmas
 pub mod WorkerLemmas
+pub mod ClockLemmas
 pub mod FitLemmas
 pub mod RoomLemmas
 pub mod ExampleLemmas

@@ -15,9 +15,11 @@ ghost use Rattle.closing_laws.specs.Merging.{IsReconciled, CanMerge, after_merge
 ghost use Rattle.closing_laws.specs.Phases.{Phase, HasClosed, receipt_at, counters_of, journal_of};
 ghost use Rattle.closing_laws.specs.Standing.{StandFor, AreOfWorkers, counters_at, stores};
 ghost use Rattle.auction_rows.specs.{Book.{Book}, History.{IsBook}};
-ghost use Rattle.auction_rows.specs.declared.requests.{Facts.{Facts}, Object.{Object}};
+ghost use Rattle.auction_rows.specs.declared.requests.{Facts.{Facts}, Object.{Object}, Request.{Request}};
+ghost use Rattle.item_shards.specs.CommitNumbers.{last_number};
 ghost use Rattle.item_shards.specs.declared.shard.slices.Slice.{Slice};
 ghost use Rattle.shard_boxes.specs.States.{ShardState, AreInitial};
+ghost use Rattle.phase_transactions.specs.Performing.{greatest_seen};
 ghost use Rattle.phase_transactions.specs.{Txns.{hot_of}, Workers.{WorkerState}};
 ghost use Rattle.worker_slices.specs.Slicing.{HaveAtMost, slices_in};
 
@@ -39,6 +41,23 @@ pub fn lists_hold_the_entries()
 pub fn numbers_follow_what_entries_share()
     ensures { (p : Phase) → HasClosed p →
         FollowWhatTheyShare p.setting.opening p.setting.shards (hot_of p.setting) p.entries }
+{}
+
+/// In a phase that has closed no request meets the end of commit numbers: the greatest clock that a
+/// worker has seen for any request is at most the number of entries, and these are at most
+/// `MOST_COMMITS` for each of 16 workers.
+pub fn numbers_suffice()
+    ensures few { (p : Phase) → HasClosed p → AreInitial p.initial →
+        (w : ℕ) → w < length p.receipts → (request : Request) →
+        let receipt = receipt_at p.receipts w in
+        greatest_seen p.initial receipt receipt.key request ≤ length p.entries }
+    ensures suffice { (p : Phase) → HasClosed p → AreInitial p.initial →
+        length p.receipts ≤ MOST_WORKERS →
+        ((w : ℕ) → w < length p.receipts →
+        length (journal_of (receipt_at p.receipts w)).entries ≤ MOST_COMMITS) →
+        (w : ℕ) → w < length p.receipts → (request : Request) →
+        let receipt = receipt_at p.receipts w in
+        greatest_seen p.initial receipt receipt.key request < last_number }
 {}
 
 /// From every book for which the shards and the counters stood as the phase began, the entries

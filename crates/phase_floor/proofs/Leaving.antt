@@ -14,7 +14,7 @@ use Rattle.worker_slices.specs.{Stashes.{StashState}, declared.counters.Counters
 use Rattle.worker_slices.specs.declared.slices.Hot.{Hot}
 use Rattle.phase_transactions.specs.Workers.{WorkerState}
 use Rattle.auction_shards.specs.{Merging.{CanMerge, after_merge}, Shards.{AreOfOne, at_start}}
-use Rattle.closing_laws.proofs.{CommitLemmas.{commits_grow}, ReplayLemmas.{entries_replay}}
+use Rattle.closing_laws.proofs.{ClockLemmas.{numbers_suffice}, CommitLemmas.{commits_grow}, ReplayLemmas.{entries_replay}}
 use Rattle.closing_laws.specs.Phases.{HasClosed, counters_of, journal_of, receipt_at}
 use Rattle.closing_laws.specs.Standing.{StandFor, counters_at}
 use Rattle.phase_floor.proofs.Closings.{finished, has_closed, in_order}
@@ -88,6 +88,8 @@ module _ (initial : List ShardState) (workers : ℕ) (floor : FloorState) (is_op
     within = λ w below room.
         let more = grown w below in let entered = (finished initial workers floor is_open receipts are all w below).room in
         omega (arith, more, entered, room, limit_is);
+    numbers = numbers_suffice (phase_of initial floor receipts e.given entries) e.closed is_open.kept.opened (omega (arith, are.0, is_open.kept.few_workers))
+        (λ w below. omega (arith, commits_grow (phase_of initial floor receipts e.given entries) e.closed w below, (finished initial workers floor is_open receipts are all w below).most));
     replays = λ book holds. entries_replay (phase_of initial floor receipts e.given entries) e.closed book holds;
     stands = λ book holds. subst (λ (cs : List Counters). StandFor (map state_of shards) cs (book_after floor.opening book entries) []) (sym counters_are)
         (stand_after initial workers floor is_open receipts are e.given entries e.closed e.order e.each (map state_of shards) e.states_are book holds);

@@ -3,11 +3,11 @@ use Rattle.std.specs.List.{Sorted.{IsPermutation}, AllByRecursion}
 use Rattle.std.specs.Prelude.{◌≡◌, ℕ, ◌+◌, ◌<◌, ◌≤◌, List, [], map, fold, length}
 use Rattle.auction_rows.specs.{Book.{Book}, History.{ReplaysFrom, book_after}}
 use Rattle.auction_rows.specs.declared.{requests.Object.Object, requests.Request.Request, rows.Entry.Entry}
-use Rattle.item_shards.specs.declared.shard.slices.Slice.{Slice}
+use Rattle.item_shards.specs.{CommitNumbers.{last_number}, declared.shard.slices.Slice.{Slice}}
 use Rattle.shard_boxes.specs.States.{ShardState}
 use Rattle.worker_journals.specs.Journals.{IsJournalOf}
 use Rattle.worker_slices.specs.{Slicing.{stocks_of}, Stashes.{StashState}}
-use Rattle.phase_transactions.specs.Workers.{WorkerState}
+use Rattle.phase_transactions.specs.{Performing.{greatest_seen}, Workers.{WorkerState}}
 use Rattle.closing_laws.specs.{Lawful.{ClosesLawfully}, Merging.{slices_left}}
 use Rattle.closing_laws.specs.Phases.{Phase, HasClosed, receipt_at, journal_of, counters_of}
 use Rattle.closing_laws.specs.Standing.{StandFor, counters_at}
@@ -99,6 +99,10 @@ pub record Leaves (initial : List ShardState) (floor : FloorState) (receipts : L
   pub within : (w : ℕ) → w < length receipts →
       (counters_at floor.counters w).commits + (journal_of (receipt_at receipts w)).room
       ≤ floor.limit → (counters_at state.counters w).commits ≤ state.limit
+  -- no worker has met the end of commit numbers, whatever it was asked for
+  pub numbers : (w : ℕ) → w < length receipts → (request : Request) →
+      let receipt = receipt_at receipts w in
+      greatest_seen initial receipt receipt.key request < last_number
   -- the entries replay from each book for which the state before stood
   pub replays : (book : Book) → StandFor initial floor.counters book [] →
       ReplaysFrom floor.opening book entries

@@ -1,5 +1,5 @@
-//! Of `phase_workers`: what the workers of a phase answer where one meets the end of commit
-//! numbers, which no run is long enough for.
+//! Of `phase_workers`: what the workers of a phase leave where one meets the end of commit numbers,
+//! which no run is long enough for.
 ghost use Rattle.std.specs.Prelude.{◌≡◌, ◌∷◌, []};
 ghost use Rattle.phase_workers.specs.{Tasks.{task, CanBeDone}, Working.{IsPermitOf}};
 ghost use Rattle.phase_tests.specs.NewShards.{BeginsWith};
@@ -8,7 +8,7 @@ use crate::permits::joined::joined_permit;
 use crate::testing::{boxes_of_one, four, list_of, waiting};
 use item_shards::Shard;
 use phase_permits::{JoinedPermit, PermitFault};
-use phase_workers::{FreeGate, Round, ServingFault, serve_all};
+use phase_workers::{FreeGate, Round, serve_all};
 use shard_boxes::{Boxes, PhaseName};
 use std::alloc::{AllocError, Global};
 use std::marker::Brand;
@@ -17,14 +17,14 @@ use std::sync::Wait;
 use std::thread::Threads;
 use worker_journals::Script;
 
-// The fault of a joined phase of one worker, who has no script.
+// The fault that the one worker of a joined phase meets, who has no script.
 fn fault_of<N, R>(
     rt: &R,
     alloc: Global,
     boxes: &Boxes<N>,
     permit: JoinedPermit<N>,
     scripts: &[Script],
-) -> Option<ServingFault>
+) -> Option<PermitFault>
 where
     N: PhaseName + Send + Sync,
     R: Threads + Wait + Sync + Abort,
@@ -38,7 +38,9 @@ where
         phase: 0,
         gate: &FreeGate,
     };
-    serve_all(rt, alloc, boxes, list_of(rt, alloc, permit), round).err()
+    let served = serve_all(rt, alloc, boxes, list_of(rt, alloc, permit), round);
+    let (_receipts, done) = served.expect(rt, "a worker who is served");
+    done.err()
 }
 
 // The same, where the clock is at the end of numbers and a view waits in the stash.
@@ -46,7 +48,7 @@ fn fault_at_the_end<N, R>(
     rt: &R,
     alloc: Global,
     shards: Vec<Shard>,
-) -> Result<Option<ServingFault>, AllocError>
+) -> Result<Option<PermitFault>, AllocError>
 where
     N: PhaseName + Send + Sync,
     R: Threads + Wait + Sync + Abort,
@@ -63,6 +65,5 @@ where
 fn workers_tell_the_end_of_numbers(rt: HostRuntime) {
     let shards = four(rt.alloc()).expect(&rt, "memory");
     let fault = fault_at_the_end::<Brand, HostRuntime>(&rt, rt.alloc(), shards);
-    let wanted = ServingFault::Worker(PermitFault::NumberFull);
-    assert_eq!(rt; fault, Ok(Some(wanted)));
+    assert_eq!(rt; fault, Ok(Some(PermitFault::NumberFull)));
 }

@@ -1,8 +1,8 @@
 -- The tasks of workers, one after the other.
-use Rattle.std.proofs.Common.{inl, inr, ◌≡◌, ℕ, suc, ◌+◌, ◌<◌, ◌≤◌, Bool, List, [], ◌∷◌, ◌++◌, map, length, drop, get_or, sym, ap, subst, ◌∙◌, append_assoc, arith, drop-cons}
+use Rattle.std.proofs.Common.{inl, inr, ◌≡◌, ℕ, suc, ◌+◌, ◌<◌, ◌≤◌, Bool, List, [], ◌∷◌, ◌++◌, map, length, drop, get_or, refl, sym, ap, subst, ◌∙◌, append_assoc, arith, drop-cons}
 use Rattle.std.proofs.lemmas.{List.{map-append, length-map}, Slice.Zip.{AllZip-long}}
 use Rattle.std.specs.List.{AllByRecursion, AllZip}
-use Rattle.std.specs.Prelude.{OnOk, IfErr, Result, unwrap_or, None, Some, Ok, Err}
+use Rattle.std.specs.{Prelude.{OnOk, IfErr, Result, Ok, Err}, Result.{result_and}}
 use Rattle.auction_rows.specs.declared.requests.Request.{Request}
 use Rattle.phase_transactions.specs.Workers.{WorkerState}
 use Rattle.phase_transactions.specs.declared.fault.PermitFault.{PermitFault}
@@ -10,9 +10,9 @@ use Rattle.phase_laws.proofs.ListLemmas.{all-append}
 use Rattle.shard_boxes.specs.States.{ShardState}
 use Rattle.job_threads.specs.{Threads.{IsUnstarted}, declared.fault.JobFault.{JobFault}}
 use Rattle.job_threads.specs.declared.fault.JobFault.TheVariants.{Spawn, Memory}
-use Rattle.phase_workers.specs.Tasks.{Task, task, tasks, HasDoneTask, HasMetFault, IsFirstFault, IsFaultBy}
-use Rattle.phase_workers.specs.{Threads.{fault_of_jobs}, declared.round.WorkerAnswer.{WorkerAnswer}}
-use Rattle.phase_workers.specs.inner.Answers.{without_fault, fault_or, first_fault}
+use Rattle.phase_workers.specs.Tasks.{Task, task, tasks, HasDoneTask, HasMetFault, IsFirstFault, IsReceiptFor}
+use Rattle.phase_workers.specs.declared.round.WorkerAnswer.{WorkerAnswer}
+use Rattle.phase_workers.specs.inner.Answers.{done_by_all, receipt_in}
 
 -- the next of the scripts that are left
 pub next_script : (scripts : List (List Request)) (n m : ℕ) (script : List Request) → n < length scripts → script ≡ get_or scripts n script → m ≡ n + 1 →
@@ -56,36 +56,55 @@ module _ {D : Type 0} (of : D → Task) (takes : Bool) (initial : List ShardStat
   pub as_many : (owns : List D) (answers : List (WorkerAnswer WorkerState)) → AllZip Keeps owns answers → length answers ≡ length owns
   as_many owns answers kept = AllZip-long Keeps owns answers kept
 
-  done_by : (owns : List D) (receipts : List WorkerState) → AllZip Keeps owns (map without_fault receipts) → AllZip (HasDoneTask takes) (map of owns) receipts
-  done_by [] [] kept = tt
-  done_by (d ∷ ds) (r ∷ rs) kept = (kept.0.0, done_by ds rs kept.1)
-  done_by owns receipts kept = absurd kept
+  -- all receipts are of their tasks' permits
+  receipts_for : (owns : List D) (answers : List (WorkerAnswer WorkerState)) → AllZip Keeps owns answers → AllZip IsReceiptFor (map of owns) (map receipt_in answers)
+  receipts_for [] [] kept = tt
+  receipts_for (d ∷ ds) (a ∷ more) kept = (at a.done kept.0.0 kept.0.1, receipts_for ds more kept.1) where
+    at : {U : Type 0} (done : Result U PermitFault) → OnOk done (HasDoneTask takes (of d) a.receipt) → IfErr done (HasMetFault takes initial (of d) a.receipt) → IsReceiptFor (of d) a.receipt
+    at (Ok u) ok err = ok.same
+    at (Err f) ok err = err.same
+  receipts_for owns answers kept = absurd kept
 
   -- where no worker met a fault, all tasks are done
-  pub all_done : (owns : List D) (answers : List (WorkerAnswer WorkerState)) (receipts : List WorkerState) (ts : List Task) →
-      AllZip Keeps owns answers → answers ≡ map without_fault receipts → map of owns ≡ ts → AllZip (HasDoneTask takes) ts receipts
-  all_done owns answers receipts ts kept none are =
-      subst (λ us. AllZip (HasDoneTask takes) us receipts) are (done_by owns receipts (subst (AllZip Keeps owns) none kept))
+  done_by : (owns : List D) (answers : List (WorkerAnswer WorkerState)) → AllZip Keeps owns answers → OnOk (done_by_all answers) (AllZip (HasDoneTask takes) (map of owns) (map receipt_in answers))
+  done_by [] [] kept = tt
+  done_by (d ∷ ds) (a ∷ more) kept = at a.done (done_by_all more) kept.0.0 (done_by ds more kept.1) where
+    at : (done later : Result Unit PermitFault) → OnOk done (HasDoneTask takes (of d) a.receipt) → OnOk later (AllZip (HasDoneTask takes) (map of ds) (map receipt_in more))
+        → OnOk (result_and done later) (HasDoneTask takes (of d) a.receipt × AllZip (HasDoneTask takes) (map of ds) (map receipt_in more))
+    at (Ok u) (Ok v) one all = (one, all)
+    at (Ok u) (Err f) one all = tt
+    at (Err f) later one all = tt
+  done_by owns answers kept = absurd kept
 
   -- the fault of the least worker that met one is that of the first task that was not done
-  first_met : (owns : List D) (answers : List (WorkerAnswer WorkerState)) (fault : PermitFault) → AllZip Keeps owns answers → first_fault answers ≡ Some fault →
-      IsFirstFault takes initial (map of owns) fault
-  first_met [] [] fault kept is = absurd (let none : None ≡ Some fault = is in cc)
-  first_met (d ∷ ds) (a ∷ more) fault kept is = at a.done kept.0.0 kept.0.1 is (λ later. first_met ds more fault kept.1 later) where
-    at : {U : Type 0} (done : Result U PermitFault) → OnOk done (HasDoneTask takes (of d) a.receipt) → IfErr done (HasMetFault takes initial (of d) a.receipt) →
-        fault_or done (first_fault more) ≡ Some fault → (first_fault more ≡ Some fault → IsFirstFault takes initial (map of ds) fault) →
-        IsFirstFault takes initial (map of (d ∷ ds)) fault
-    at (Ok u) ok err first again = inr ((a.receipt, ok), again first)
-    at (Err f) ok err first again = inl (a.receipt, subst (HasMetFault takes initial (of d) a.receipt) (ap (λ o. unwrap_or o fault) first) err)
-  first_met owns answers fault kept is = absurd kept
+  stopped_by : (owns : List D) (answers : List (WorkerAnswer WorkerState)) → AllZip Keeps owns answers → IfErr (done_by_all answers) (IsFirstFault takes initial (map of owns) (map receipt_in answers))
+  stopped_by [] [] kept = tt
+  stopped_by (d ∷ ds) (a ∷ more) kept = at a.done (done_by_all more) kept.0.0 kept.0.1 (stopped_by ds more kept.1) where
+    at : (done later : Result Unit PermitFault) → OnOk done (HasDoneTask takes (of d) a.receipt) → IfErr done (HasMetFault takes initial (of d) a.receipt)
+        → IfErr later (IsFirstFault takes initial (map of ds) (map receipt_in more)) → IfErr (result_and done later) (IsFirstFault takes initial (of d ∷ map of ds) (a.receipt ∷ map receipt_in more))
+    at (Ok u) (Ok v) ok err again = tt
+    at (Ok u) (Err f) ok err again = inr (ok, again)
+    at (Err f) later ok err again = inl err
+  stopped_by owns answers kept = absurd kept
 
-  pub fault_met : (owns : List D) (answers : List (WorkerAnswer WorkerState)) (ts : List Task) (fault : PermitFault) → AllZip Keeps owns answers →
-      first_fault answers ≡ Some fault → map of owns ≡ ts → IsFirstFault takes initial ts fault
-  fault_met owns answers ts fault kept is are = subst (λ us. IsFirstFault takes initial us fault) are (first_met owns answers fault kept is)
+  module _ (owns : List D) (answers : List (WorkerAnswer WorkerState)) (receipts : List WorkerState) (done : Result Unit PermitFault) (ts : List Task) (kept : AllZip Keeps owns answers)
+      (receipts_are : receipts ≡ map receipt_in answers) (done_is : done ≡ done_by_all answers) (are : map of owns ≡ ts) where
+    pub all_received : AllZip IsReceiptFor ts receipts
+    all_received = subst (λ us. AllZip IsReceiptFor us receipts) are (subst (AllZip IsReceiptFor (map of owns)) (sym receipts_are) (receipts_for owns answers kept))
 
-pub unstarted_by : (jobs workers : ℕ) (P : PermitFault → Type 0) (fault : JobFault) → jobs ≤ workers → IsUnstarted jobs fault → IsFaultBy workers P (fault_of_jobs fault)
-unstarted_by jobs workers P Spawn few is = omega (arith, few, is)
-unstarted_by jobs workers P Memory few is = tt
+    pub all_done : OnOk done (AllZip (HasDoneTask takes) ts receipts)
+    all_done =
+        subst (λ d. OnOk d (AllZip (HasDoneTask takes) ts receipts)) (sym done_is) (subst (λ us. OnOk (done_by_all answers) (AllZip (HasDoneTask takes) us receipts)) are
+        (subst (λ rs. OnOk (done_by_all answers) (AllZip (HasDoneTask takes) (map of owns) rs)) (sym receipts_are) (done_by owns answers kept)))
+
+    pub first_stopped : IfErr done (IsFirstFault takes initial ts receipts)
+    first_stopped =
+        subst (λ d. IfErr d (IsFirstFault takes initial ts receipts)) (sym done_is) (subst (λ us. IfErr (done_by_all answers) (IsFirstFault takes initial us receipts)) are
+        (subst (λ rs. IfErr (done_by_all answers) (IsFirstFault takes initial (map of owns) rs)) (sym receipts_are) (stopped_by owns answers kept)))
+
+pub unstarted_by : (jobs workers : ℕ) (fault : JobFault) → jobs ≤ workers → IsUnstarted jobs fault → IsUnstarted workers fault
+unstarted_by jobs workers Spawn few is = omega (arith, few, is)
+unstarted_by jobs workers Memory few is = tt
 
 tasks_few : (permits : List WorkerState) (scripts : List (List Request)) (first : ℕ) → length (tasks permits scripts first) ≤ length scripts
 tasks_few (p ∷ ps) (s ∷ ss) first = let again = tasks_few ps ss first in omega (arith, again)
@@ -102,27 +121,18 @@ tasks_of_few of owns permits scripts first are =
 
 -- ---- receipts
 
--- one worker more met no fault
-pub receipt_more : {T : Type 0} (receipts now : List T) (answer : WorkerAnswer T) (left next all : List (WorkerAnswer T)) → answer.done ≡ Ok tt → left ≡ answer ∷ next → now ≡ receipts ++ answer.receipt ∷ [] →
-    map without_fault receipts ++ left ≡ all → map without_fault now ++ next ≡ all
-receipt_more receipts now answer left next all ok first push whole =
-    let same : without_fault answer.receipt ≡ answer = ap (λ (done : Result _ PermitFault). record { receipt = answer.receipt; done = done }) (sym ok) in
-    ap (λ rs. map without_fault rs ++ next) push
-    ∙ ap (λ answers. answers ++ next) (map-append without_fault receipts (answer.receipt ∷ []))
-    ∙ append_assoc (map without_fault receipts) (without_fault answer.receipt ∷ []) next
-    ∙ ap (λ one. map without_fault receipts ++ one ∷ next) same
-    ∙ ap (λ answers. map without_fault receipts ++ answers) (sym first)
-    ∙ whole
+-- one worker's receipt more
+pub receipt_more : {T : Type 0} (receipts now : List T) (answer : WorkerAnswer T) (left next all : List (WorkerAnswer T)) → left ≡ answer ∷ next → now ≡ receipts ++ answer.receipt ∷ [] →
+    receipts ++ map receipt_in left ≡ map receipt_in all → now ++ map receipt_in next ≡ map receipt_in all
+receipt_more receipts now answer left next all first push whole =
+    ap (λ rs. rs ++ map receipt_in next) push ∙ append_assoc receipts (answer.receipt ∷ []) (map receipt_in next)
+    ∙ ap (λ answers. receipts ++ map receipt_in answers) (sym first) ∙ whole
 
--- ---- faults
-
-fault_at : {T : Type 0} (receipts : List T) (each : WorkerAnswer T) (next : List (WorkerAnswer T)) (fault : PermitFault) → each.done ≡ Err fault →
-    first_fault (map without_fault receipts ++ each ∷ next) ≡ Some fault
-fault_at [] each next fault is = ap (λ done. fault_or done (first_fault next)) is
-fault_at (r ∷ rs) each next fault is = fault_at rs each next fault is
-
--- where the workers before met no fault, this one's is the first
-pub fault_first : {T : Type 0} (receipts : List T) (each : WorkerAnswer T) (left next all : List (WorkerAnswer T)) (fault : PermitFault) →
-    each.done ≡ Err fault → left ≡ each ∷ next → map without_fault receipts ++ left ≡ all → first_fault all ≡ Some fault
-fault_first receipts each left next all fault is here whole =
-    ap first_fault (sym whole) ∙ ap (λ es. first_fault (map without_fault receipts ++ es)) here ∙ fault_at receipts each next fault is
+-- one worker's fault more, if it met one
+pub fault_more : {T : Type 0} (done now : Result Unit PermitFault) (answer : WorkerAnswer T) (left next all : List (WorkerAnswer T)) → left ≡ answer ∷ next → now ≡ result_and done answer.done →
+    result_and done (done_by_all left) ≡ done_by_all all → result_and now (done_by_all next) ≡ done_by_all all
+fault_more done now answer left next all first is whole =
+    ap (λ d. result_and d (done_by_all next)) is ∙ at done answer.done ∙ ap (λ answers. result_and done (done_by_all answers)) (sym first) ∙ whole where
+      at : (one two : Result Unit PermitFault) → result_and (result_and one two) (done_by_all next) ≡ result_and one (result_and two (done_by_all next))
+      at (Ok u) two = refl
+      at (Err f) two = refl

@@ -304,14 +304,29 @@ on_ok3 (Err e) b c d all = tt
 
 -- ---- faults
 
+failed_same : (initial : List ShardState) (old new : WorkerState) (request : Request) (fault : PermitFault) → HasFailed initial (with_try old) new request fault → IsSamePermit old new
+failed_same initial old new request fault h = record {
+  boxes = h.lines.boxes;
+  worker = h.lines.worker;
+  opening = ap (λ (d : WorkerState). d.opening) h.worker;
+  begun = ap (λ (d : WorkerState). d.begun) h.worker;
+  phase = ap (λ (d : WorkerState). d.journal.phase) h.worker;
+  writer = ap (λ (d : WorkerState). d.journal.worker) h.worker;
+  room = ap (λ (d : WorkerState). d.journal.room) h.worker;
+  hot = ap (λ (d : WorkerState). hot_objects d.slices) h.worker;
+  stocks = ap (λ (d : WorkerState). stocks_of d.slices) h.worker;
+  own = λ are. subst (λ (d : WorkerState). AreOfPhaseIn d.journal) (sym h.worker) are;
+}
+
 module _ (initial : List ShardState) (old mid new : WorkerState) (fault : PermitFault) where
   -- the request that waits longest met a fault
-  pub stopped_first : (takes : Bool) (k : ℕ) → takes ≡ true → committed mid ≡ committed old ++ take k (taken takes old) → stashed mid ≡ still_waiting takes old ++ drop k (taken takes old) →
+  pub stopped_first : (takes : Bool) (k : ℕ) → takes ≡ true → IsSamePermit old mid → committed mid ≡ committed old ++ take k (taken takes old) → stashed mid ≡ still_waiting takes old ++ drop k (taken takes old) →
       put_off (hot_for old) (take k (taken takes old)) ≡ [] → HasFailedFirst initial (with_try mid) new fault → HasStopped takes initial (taken takes old) old new fault
-  stopped_first false k is was waits go met = absurd (false≢true is)
-  stopped_first true k is was waits go met =
+  stopped_first false k is so_far was waits go met = absurd (false≢true is)
+  stopped_first true k is so_far was waits go met =
       let before : List (ℕ × Request) = take k (stashed old) in
       let first : slice_get (drop k (stashed old)) 0 ≡ Some (met.index, met.request) = ap (λ ss. slice_get ss 0) (sym waits) ∙ met.first in record {
+        same = same_after old mid new so_far (failed_same initial mid new met.request fault met.failed);
         before = before;
         call = (met.index, met.request);
         left = drop (k + 1) (stashed old);
@@ -325,10 +340,11 @@ module _ (initial : List ShardState) (old mid new : WorkerState) (fault : Permit
       }
 
   -- the next request of the quota met a fault
-  pub stopped_next : (k : ℕ) (calls : List (ℕ × Request)) (call : ℕ × Request) → take (k + 1) calls ≡ take k calls ++ call ∷ [] →
+  pub stopped_next : (k : ℕ) (calls : List (ℕ × Request)) (call : ℕ × Request) → take (k + 1) calls ≡ take k calls ++ call ∷ [] → IsSamePermit old mid →
       committed mid ≡ committed old ++ not_put_off (hot_for old) (take k calls) → stashed mid ≡ stashed old ++ put_off (hot_for old) (take k calls) →
       HasFailed initial (with_try mid) new call.1 fault → HasStopped false initial calls old new fault
-  stopped_next k calls call next was waits failed = record {
+  stopped_next k calls call next so_far was waits failed = record {
+    same = same_after old mid new so_far (failed_same initial mid new call.1 fault failed);
     before = take k calls;
     call = call;
     left = drop (k + 1) calls;
@@ -343,6 +359,7 @@ module _ (initial : List ShardState) (old mid new : WorkerState) (fault : Permit
   -- it stopped in its stash, before the quota
   pub stopped_early : (takes : Bool) (calls more : List (ℕ × Request)) → HasStopped takes initial calls old new fault → HasStopped takes initial (calls ++ more) old new fault
   stopped_early takes calls more met = record {
+    same = met.same;
     before = met.before;
     call = met.call;
     left = met.left ++ more;
@@ -354,16 +371,17 @@ module _ (initial : List ShardState) (old mid new : WorkerState) (fault : Permit
 
   -- it stopped in its quota, once the stash was done
   pub stopped_late : (takes : Bool) (calls own : List (ℕ × Request)) → put_off (hot_for old) (taken takes old) ≡ [] → committed mid ≡ committed old ++ taken takes old →
-      stashed mid ≡ still_waiting takes old → hot_for mid ≡ hot_for old → calls ≡ own → HasStopped false initial calls mid new fault →
+      stashed mid ≡ still_waiting takes old → IsSamePermit old mid → calls ≡ own → HasStopped false initial calls mid new fault →
       HasStopped takes initial (taken takes old ++ own) old new fault
-  stopped_late takes calls own go was on hot as_given met =
-      let stash : List (ℕ × Request) = taken takes old in
+  stopped_late takes calls own go was on so_far as_given met =
+      let hot = so_far.hot in let stash : List (ℕ × Request) = taken takes old in
       let rest : List (ℕ × Request) = still_waiting takes old in
       let still_waiting : not_put_off (hot_for old) (stash ++ met.before) ≡ stash ++ not_put_off (hot_for old) met.before =
       filter-append (λ call. not (is_put_off (hot_for old) call.1)) stash met.before ∙ ap (λ cs. cs ++ not_put_off (hot_for old) met.before) (all_kept (hot_for old) stash go) in
       let off : put_off (hot_for old) (stash ++ met.before) ≡ put_off (hot_for old) met.before =
       filter-append (λ call. is_put_off (hot_for old) call.1) stash met.before ∙ ap (λ cs. cs ++ put_off (hot_for old) met.before) go in
       let longer : length (stash ++ met.before) ≡ length stash + length met.before = length-append stash met.before in record {
+        same = same_after old mid new so_far met.same;
         before = stash ++ met.before;
         call = met.call;
         left = met.left;

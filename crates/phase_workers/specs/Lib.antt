@@ -1,4 +1,3 @@
 pub mod inner
 pub mod Working
-pub mod Threads
 pub mod Tasks

@@ -1,13 +1,11 @@
 -- What the workers of a phase have to do, and what they have done.
-use Rattle.std.specs.Prelude.{◌≡◌, ℕ, ◌+◌, ◌-◌, ◌<◌, ◌≤◌, ◌⊎◌, Bool, List, [], ◌∷◌, ◌++◌, length, ⊤}
+use Rattle.std.specs.Prelude.{◌≡◌, ℕ, ◌+◌, ◌-◌, ◌≤◌, ◌⊎◌, Bool, List, [], ◌∷◌, ◌++◌, length}
 use Rattle.auction_rows.specs.declared.limits.TheConstants.{MOST_TRIES, MOST_OF_A_WORKER}
 use Rattle.auction_rows.specs.declared.requests.Request.{Request}
 use Rattle.shard_boxes.specs.{Keys.{BoxId}, States.{ShardState}}
 use Rattle.phase_transactions.specs.{Performing.{HaveOpening}, Workers.{WorkerState}}
 use Rattle.phase_transactions.specs.declared.fault.PermitFault.{PermitFault}
 use Rattle.phase_workers.specs.Working.{calls_from, committed, stashed, taken, still_waiting, hot_for, put_off, not_put_off, IsSamePermit, HasStopped}
-use Rattle.phase_workers.specs.declared.round.ServingFault.{ServingFault}
-use Rattle.phase_workers.specs.declared.round.ServingFault.TheVariants.{Worker, Spawn, Memory}
 
 -- a worker's permit as the phase begins, its script, and the index from which on it is given
 -- requests
@@ -60,17 +58,14 @@ pub record HasDoneTask (takes : Bool) (t : Task) (receipt : WorkerState) : Type 
 abbrev pub HasMetFault : Bool → List ShardState → Task → WorkerState → PermitFault → Type 0
 HasMetFault takes initial t = HasStopped takes initial (to_do takes t) t.permit
 
--- the first task that was not done met this fault
-abbrev pub IsFirstFault : Bool → List ShardState → List Task → PermitFault → Type 0
-IsFirstFault takes initial [] fault = ⊥
-IsFirstFault takes initial (t ∷ more) fault =
-    ((receipt : WorkerState) × HasMetFault takes initial t receipt fault)
-    ⊎ (((receipt : WorkerState) × HasDoneTask takes t receipt)
-    × IsFirstFault takes initial more fault)
+-- the receipt is of the task's permit
+abbrev pub IsReceiptFor : Task → WorkerState → Type 0
+IsReceiptFor t receipt = IsSamePermit t.permit receipt
 
--- why so many workers' tasks are not done: a thread could not be started, or no memory was left, or
--- a worker met this fault
-abbrev pub IsFaultBy : ℕ → (PermitFault → Type 0) → ServingFault → Type 0
-IsFaultBy workers HasMet Spawn = 1 < workers
-IsFaultBy workers HasMet Memory = ⊤
-IsFaultBy workers HasMet (Worker fault) = HasMet fault
+-- the first task that was not done met this fault
+abbrev pub IsFirstFault : Bool → List ShardState → List Task → List WorkerState → PermitFault →
+    Type 0
+IsFirstFault takes initial (t ∷ more) (receipt ∷ receipts) fault =
+    HasMetFault takes initial t receipt fault
+    ⊎ (HasDoneTask takes t receipt × IsFirstFault takes initial more receipts fault)
+IsFirstFault takes initial given receipts fault = ⊥

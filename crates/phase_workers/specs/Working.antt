@@ -91,6 +91,8 @@ pub record HasPerformedStash (takes : Bool) (old new : WorkerState) : Type 0 whe
 -- others wait behind what it did not take of the stash or did not reach.
 pub record HasStopped (takes : Bool) (initial : List ShardState) (calls : List (ℕ × Request))
     (old new : WorkerState) (fault : PermitFault) : Type 0 where
+  -- what the permit is of is unchanged
+  pub same : IsSamePermit old new
   -- the calls that were dealt with
   pub before : List (ℕ × Request)
   -- the one at which it stopped

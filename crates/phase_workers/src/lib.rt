@@ -6,5 +6,5 @@ mod meeting;
 mod round;
 mod worker;
 
-pub use round::{Round, ServingFault, serve_all};
+pub use round::{Round, serve_all};
 pub use worker::{FreeGate, Gate};

@@ -1,11 +1,11 @@
 //! The workers of a phase, each but the first on a thread of its own, unless threads save no time;
-//! and why they are not done.
+//! and what they leave.
 ghost use Rattle.std.specs.List.{AllByRecursion, AllZip};
-ghost use Rattle.std.specs.Prelude.{◌≡◌, ◌≤◌, Some, length, map, vec_len, vec_capacity, IfOk, IfErr, OnOk};
+ghost use Rattle.std.specs.Prelude.{◌≡◌, ◌≤◌, length, map, vec_len, vec_capacity, IfOk, IfErr, OnOk};
 ghost use Rattle.job_threads.specs.Threads.{IsUnstarted};
-ghost use Rattle.phase_workers.specs.Tasks.{task, tasks, CanBeDone, HasDoneTask, HasMetFault, IsFirstFault, IsFaultBy};
+ghost use Rattle.phase_workers.specs.Tasks.{task, tasks, CanBeDone, HasDoneTask, HasMetFault, IsFirstFault, IsReceiptFor};
 ghost use Rattle.phase_workers.specs.Working.{IsPermitOf, ArePermitsOf};
-ghost use Rattle.phase_workers.specs.inner.Answers.{without_fault, first_fault};
+ghost use Rattle.phase_workers.specs.inner.Answers.{done_by_all, receipt_in};
 
 use crate::meeting::is_for_one_thread;
 use crate::worker::{Gate, Post, perform_task};
@@ -13,70 +13,11 @@ use auction_rows::MOST_WORKERS;
 use job_threads::{Job, JobFault, work_all, work_in_turn};
 use phase_permits::{Kind, Permit, PermitFault, Receipt};
 use shard_boxes::{Boxes, PhaseName};
-use std::alloc::{AllocError, AllocFailed, Global};
+use std::alloc::{AllocError, Global};
 use std::sync::Wait;
 use std::thread::Threads;
 use std::vec::IntoIter;
-use thiserror::Error;
 use worker_journals::Script;
-
-/// Why a phase's workers leave no receipts. Every worker that was started has ended, and all
-/// permits are spent.
-#[derive(Clone, Copy, Debug, PartialEq, Eq, Drop, Error)]
-pub enum ServingFault {
-    /// A worker met this fault, and none before it met one.
-    #[error("{0}")]
-    Worker(PermitFault),
-    /// A worker's thread could not be started, whatever the cause.
-    #[error("thread not started")]
-    Spawn,
-    /// No memory was left for the workers' tasks, threads or answers.
-    #[error("no memory")]
-    Memory,
-}
-
-impl From<AllocError> for ServingFault {
-    ghost use Rattle.phase_workers.specs.declared.round.ServingFault.TheVariants.{Memory};
-
-    ghost from_gives = { λ _ fault. fault ≡ Memory };
-
-    fn from(_refused: AllocError) -> ServingFault {
-        ServingFault::Memory
-    }
-}
-
-impl<T: Drop> From<AllocFailed<T>> for ServingFault {
-    ghost use Rattle.phase_workers.specs.declared.round.ServingFault.TheVariants.{Memory};
-
-    ghost from_gives = { λ _ fault. fault ≡ Memory };
-
-    fn from(_refused: AllocFailed<T>) -> ServingFault {
-        ServingFault::Memory
-    }
-}
-
-impl From<JobFault> for ServingFault {
-    ghost use Rattle.phase_workers.specs.Threads.{fault_of_jobs};
-
-    ghost from_gives = { λ job fault. fault ≡ fault_of_jobs job };
-
-    fn from(job: JobFault) -> ServingFault {
-        match job {
-            JobFault::Spawn => ServingFault::Spawn,
-            JobFault::Memory => ServingFault::Memory,
-        }
-    }
-}
-
-impl From<PermitFault> for ServingFault {
-    ghost use Rattle.phase_workers.specs.declared.round.ServingFault.TheVariants.{Worker};
-
-    ghost from_gives = { λ met fault. fault ≡ Worker met };
-
-    fn from(met: PermitFault) -> ServingFault {
-        ServingFault::Worker(met)
-    }
-}
 
 /// A phase, as its workers are told of it.
 #[derive(Drop)]
@@ -149,16 +90,17 @@ impl<'a, N: PhaseName, K: Kind, R: Wait, G: Gate> Job for WorkerTask<'a, N, K, R
 }
 
 /// Does the first worker's task of a round, and each other's by a thread of its own, or all in turn
-/// if threads would save no time and the gate needs none, and gives their receipts in order. If a
-/// thread can't be started the fault is `Spawn`, else that of the least worker that met one; all
-/// threads have ended, and all permits are spent.
+/// if threads would save no time and the gate needs none, and gives their receipts in order, with
+/// the fault of the least worker that met one. If a thread can't be started, or no memory is left
+/// for tasks, threads or answers, there are no receipts; all threads have ended, and all permits are
+/// spent.
 pub fn serve_all<N, K, R, G>(
     rt: &R,
     alloc: Global,
     boxes: &Boxes<N>,
     permits: Vec<Permit<N, K>>,
     round: Round<'_, G>,
-) -> Result<Vec<Receipt<N, K>>, ServingFault>
+) -> Result<(Vec<Receipt<N, K>>, Result<(), PermitFault>), JobFault>
 where
     N: PhaseName + Send + Sync,
     K: Kind + Send,
@@ -169,20 +111,20 @@ where
     requires can { AllByRecursion (CanBeDone N.initial boxes.now)
         (tasks permits.items round.scripts.now round.first) }
     requires of { ArePermitsOf round.phase 0 permits.items }
-    ensures done { IfOk result (λ receipts.
-        AllZip (HasDoneTask K.IS_JOINED)
-        (tasks permits.items round.entry.scripts.now round.entry.first)
-        receipts.items) }
-    ensures fault { IfErr result (IsFaultBy (length round.entry.scripts.now)
-        (IsFirstFault K.IS_JOINED N.initial
-        (tasks permits.items round.entry.scripts.now round.entry.first))) }
+    ensures receipts { IfOk result (λ served. AllZip IsReceiptFor
+        (tasks permits.items round.entry.scripts.now round.entry.first) served.0.items) }
+    ensures done { IfOk result (λ served. OnOk served.1 (AllZip (HasDoneTask K.IS_JOINED)
+        (tasks permits.items round.entry.scripts.now round.entry.first) served.0.items)) }
+    ensures stopped { IfOk result (λ served. IfErr served.1 (IsFirstFault K.IS_JOINED N.initial
+        (tasks permits.items round.entry.scripts.now round.entry.first) served.0.items)) }
+    ensures fault { IfErr result (IsUnstarted (length round.entry.scripts.now)) }
 {
     let in_turn = !round.gate.needs_threads()
         && is_for_one_thread(&permits, &round, boxes.shards());
     let own_tasks = own_tasks(rt, alloc, boxes, permits, round)?;
     let room = Vec::with_capacity(alloc, own_tasks.len())?;
     let answers = answers_of(rt, alloc, own_tasks, in_turn)?;
-    Ok(receipts_of(answers, room)?)
+    Ok(receipts_of(answers, room))
 }
 
 // What jobs give that are done in turn, or else side by side.
@@ -256,22 +198,21 @@ fn spend_all<N: PhaseName, K: Kind>(mut permits: IntoIter<Permit<N, K>>) {
     permits.destroy_empty();
 }
 
-// The receipts, in order, or the first fault.
+// The receipts, in order, and the first fault, if any.
 fn receipts_of<T: Drop>(
     answers: Vec<WorkerAnswer<T>>,
     mut receipts: Vec<T>,
-) -> Result<Vec<T>, PermitFault>
+) -> (Vec<T>, Result<(), PermitFault>)
     requires empty { vec_len receipts ≡ 0 }
     requires room { vec_len answers ≤ vec_capacity receipts }
-    ensures receipts { IfOk result (λ receipts. answers.items ≡ map without_fault receipts.items) }
-    ensures fault { IfErr result (λ fault. first_fault answers.items ≡ Some fault) }
+    ensures receipts { result.0.items ≡ map receipt_in answers.items }
+    ensures done { result.1 ≡ done_by_all answers.items }
 {
+    let mut done = Ok(());
     for answer in answers {
-        let WorkerAnswer { receipt, done } = answer;
-        match done {
-            Ok(()) => receipts.push_reserved(receipt),
-            Err(fault) => return Err(fault),
-        }
+        let WorkerAnswer { receipt, done: own } = answer;
+        receipts.push_reserved(receipt);
+        done = done.and(own);
     }
-    Ok(receipts)
+    (receipts, done)
 }

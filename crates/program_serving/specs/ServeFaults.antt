@@ -2,7 +2,7 @@
 use Rattle.std.specs.Prelude.{ℕ, ◌≡◌, ◌<◌, ◌≤◌, ◌+◌, ◌++◌, ◌∷◌, ◌⊎◌, List, [], false, true, length, slice_index_or}
 use Rattle.auction_rows.specs.Book.{Book}
 use Rattle.auction_rows.specs.declared.{values.Opening.Opening, requests.Request.Request, requests.Opened.Opened}
-use Rattle.auction_run.specs.{Beginning.{AreShortFor, HasQuotas}, Phases.{HaveMetLastNumber}}
+use Rattle.auction_run.specs.Beginning.{AreShortFor, HasQuotas}
 use Rattle.auction_run.specs.RunFault.{RunFault}
 use Rattle.auction_run.specs.RunFault.TheVariants as run
 use Rattle.auction_text.specs.{LineFault.{LineFault}, LiveReading.{records_said}}
@@ -39,8 +39,7 @@ pub record IsFirstBadRow (workers limit : ℕ) (opening : Opening) (book : Book)
   pub first : IsFirstRefused limit fault workers opening book asked place
   pub number_is : number ≡ before + place + 1
 
--- why scripts are not run from a book: for NumberFull a worker met the end of commit numbers, and
--- of Memory no clause says when
+-- why scripts are not run from a book: of Memory no clause says when, and commit numbers suffice
 abbrev pub IsNotRunOn : Options → RunFault → Book → List (List Request) → Type 0
 IsNotRunOn options run.Workers book scripts = ⊥
 IsNotRunOn options run.Shards book scripts = ⊥
@@ -48,7 +47,7 @@ IsNotRunOn options run.Quota book scripts = ¬ HasQuotas (policy_of options)
 IsNotRunOn options run.TooLong book scripts = ⊥
 IsNotRunOn options run.Spawn book scripts = 1 < length scripts
 IsNotRunOn options run.Memory book scripts = Unit {0}
-IsNotRunOn options run.NumberFull book scripts = HaveMetLastNumber scripts
+IsNotRunOn options run.NumberFull book scripts = ⊥
 
 -- why scripts are not run from a book: the limit is told if one is past it
 abbrev pub AreNotRunOn : Options → Fault → Book → List (List Request) → Type 0

@@ -12,7 +12,8 @@ use Rattle.run_laws.specs.Run.{first_index, calls_of, calls_given, IsPhasePerfor
 use Rattle.run_laws.specs.{Serving.{call_of, script_of}, Turns.{numbered}}
 use Rattle.shard_boxes.specs.{Keys.{BoxId}, States.{ShardState, state_of}}
 use Rattle.worker_slices.specs.{Slicing.{hot_objects, stocks_of, slices_of}, Stashes.{StashState}}
-use Rattle.phase_transactions.specs.{Performing.{HaveOpening}, Workers.{WorkerState}}
+use Rattle.item_shards.specs.CommitNumbers.{last_number}
+use Rattle.phase_transactions.specs.{Performing.{HaveOpening, greatest_seen}, Workers.{WorkerState}}
 use Rattle.phase_transactions.specs.declared.fault.PermitFault.TheVariants as permit
 use Rattle.closing_laws.specs.Phases.{no_receipt, receipt_at, journal_of, counters_of}
 use Rattle.closing_laws.specs.Standing.{StandFor, counters_at}
@@ -25,13 +26,13 @@ use Rattle.phase_floor.specs.declared.floor.BeginFault.{BeginFault}
 use Rattle.phase_floor.specs.declared.floor.BeginFault.TheVariants.{UnknownHot, TooLong, Memory}
 use Rattle.run_phases.proofs.{AskedLemmas.{all_journals, done_asked}, ScriptLemmas.{past_stashes}}
 use Rattle.run_phases.specs.{Phases.{told, IsMet}, inner.Closed.{HasClosedPhase}}
+use Rattle.job_threads.specs.{Threads.{IsUnstarted}, declared.fault.JobFault.{JobFault}}
+use Rattle.job_threads.specs.declared.fault.JobFault.TheVariants as job
 use Rattle.run_phases.specs.inner.Plans.{IsCallOf, MayPerform, waiting_in, quota_of}
 use Rattle.run_phases.specs.inner.Serving.{CanPerform, HasBegunPhase, HasEnded}
 use Rattle.phase_workers.proofs.WorkLemmas.{cold_kept, cold_off}
-use Rattle.phase_workers.specs.Tasks.{Task, task, tasks, to_do, calls_for, CanBeDone, HasDoneTask, IsFaultBy, IsFirstFault}
+use Rattle.phase_workers.specs.Tasks.{Task, task, tasks, to_do, calls_for, CanBeDone, HasDoneTask, IsFirstFault, IsReceiptFor}
 use Rattle.phase_workers.specs.Working.{committed, stashed, taken, still_waiting, hot_for, put_off, not_put_off, AreOfPhase, IsSamePermit, IsPermitOf, ArePermitsOf}
-use Rattle.phase_workers.specs.declared.round.ServingFault.{ServingFault}
-use Rattle.phase_workers.specs.declared.round.ServingFault.TheVariants as serving
 
 -- ---- tasks, by worker
 
@@ -83,13 +84,21 @@ given_quotas policy scripts phase first given quotas split is at same are w less
 
 -- ---- the answer of a phase
 
--- what the workers of a phase met is told
-pub fault_met : (takes : Bool) (initial : List ShardState) (permits : List WorkerState) (scripts : List (List Request)) (first : ℕ) (fault : ServingFault) → length permits ≡ length scripts →
-    IsFaultBy (length scripts) (IsFirstFault takes initial (tasks permits scripts first)) fault → IsMet scripts (told fault)
-fault_met takes initial permits scripts first serving.Spawn same is = is
-fault_met takes initial permits scripts first (serving.Worker permit.NumberFull) same is =
-    record { takes = takes; initial = initial; permits = permits; first = first; permits_are = same; met = is }
-fault_met takes initial permits scripts first fault same is = tt
+-- why no receipts are left is told
+pub unstarted_met : (scripts : List (List Request)) (fault : JobFault) → IsUnstarted (length scripts) fault → IsMet scripts (told fault)
+unstarted_met scripts job.Spawn is = is
+unstarted_met scripts job.Memory is = tt
+
+-- where numbers suffice no worker met their end
+pub none_met_the_end : (takes : Bool) (initial : List ShardState) (given : List Task) (receipts : List WorkerState) → IsFirstFault takes initial given receipts permit.NumberFull →
+    ((w : ℕ) → w < length receipts → (request : Request) → greatest_seen initial (receipt_at receipts w) (receipt_at receipts w).key request < last_number) → ⊥
+none_met_the_end takes initial (t ∷ ts) (r ∷ rs) met suffice = at met (λ later. none_met_the_end takes initial ts rs later (λ w less request. suffice (suc w) (omega (arith, less)) request)) where
+  at : IsFirstFault takes initial (t ∷ ts) (r ∷ rs) permit.NumberFull → (IsFirstFault takes initial ts rs permit.NumberFull → ⊥) → ⊥
+  at (inl stopped) again =
+      let few : greatest_seen initial r r.key stopped.call.1 < last_number = suffice 0 (omega arith) stopped.call.1 in
+      let many : last_number ≤ greatest_seen initial r r.key stopped.call.1 = stopped.cause in omega (arith, few, many)
+  at (inr more) again = again more.1
+none_met_the_end takes initial ts rs met suffice = absurd met
 
 -- ---- small facts
 
@@ -309,9 +318,6 @@ module _ {policy : Policy} {scripts : List (List Request)} {state : JoinedState}
     same : (w : ℕ) → w < length scripts → IsSamePermit (receipt_at permits w) (receipt_at receipts w)
     same w less = (done w less).same
 
-    own_receipts : AreReceiptsOf floor receipts
-    own_receipts = are_receipts receipts count same
-
     -- all that a run knows of the phase, once it is closed
     closed_phase : {initial : List ShardState} → states_of state ≡ initial → is_split state.phase ≡ not takes → {entries : List Entry} {next : JoinedState} {kept : List StashState} →
         Leaves initial floor receipts entries next kept → HasClosedPhase policy scripts state stashes hot entries next kept
@@ -355,7 +361,8 @@ module _ {policy : Policy} {scripts : List (List Request)} {state : JoinedState}
     counters_are = workers_are;
     of = own_permits now;
     can = can_all initial;
-    receipts_are = own_receipts takes;
+    receipts_are = λ receipts all.
+        are_receipts receipts (done_count IsReceiptFor permits receipts scripts first as_many all) (λ w less. done_at IsReceiptFor permits receipts scripts first as_many all w (omega (arith, less, as_many)));
     asked = own_asked takes;
   }
 

@@ -1,9 +1,8 @@
 //! Why a run gives no outcome.
 ghost use Rattle.std.specs.Prelude.{◌≡◌};
 
+use job_threads::JobFault;
 use phase_floor::FloorFault;
-use phase_permits::PermitFault;
-use phase_workers::ServingFault;
 use std::alloc::{AllocError, AllocFailed};
 use thiserror::Error;
 
@@ -31,7 +30,7 @@ pub enum RunFault {
     /// No memory was left.
     #[error("no memory")]
     Memory,
-    /// A worker found the end of commit numbers, 2^59.
+    /// A worker found the end of commit numbers, 2^59. No run is long enough for it.
     #[error("commit numbers used up")]
     NumberFull,
 }
@@ -56,16 +55,15 @@ impl<T: Drop> From<AllocFailed<T>> for RunFault {
     }
 }
 
-impl From<ServingFault> for RunFault {
+impl From<JobFault> for RunFault {
     ghost use Rattle.run_phases.specs.Phases.{told};
 
     ghost from_gives = { λ fault run. run ≡ told fault };
 
-    fn from(fault: ServingFault) -> RunFault {
+    fn from(fault: JobFault) -> RunFault {
         match fault {
-            ServingFault::Spawn => RunFault::Spawn,
-            ServingFault::Memory | ServingFault::Worker(PermitFault::Memory) => RunFault::Memory,
-            ServingFault::Worker(PermitFault::NumberFull) => RunFault::NumberFull,
+            JobFault::Spawn => RunFault::Spawn,
+            JobFault::Memory => RunFault::Memory,
         }
     }
 }

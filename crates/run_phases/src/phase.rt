@@ -14,7 +14,9 @@ use crate::plan::PhasePlan;
 use auction_rows::{Object, Policy};
 use indexmap::IndexSet;
 use phase_floor::{BeginFault, Floor, Joined, JoinedFloor, SplitFloor};
-use phase_permits::{JoinedPermit, JoinedPhase, Kind, Permit, SplitPermit, SplitPhase, Stash};
+use phase_permits::{
+    JoinedPermit, JoinedPhase, Kind, Permit, PermitFault, SplitPermit, SplitPhase, Stash,
+};
 use phase_workers::{Gate, serve_all};
 use shard_boxes::PhaseName;
 use std::alloc::{AllocError, Global};
@@ -236,7 +238,19 @@ where
     ensures fault { IfErr result (IsMet plan.entry.round.scripts.now) }
 {
     let (floor, permits) = begun;
-    let receipts = serve_all(rt, alloc, floor.boxes(), permits, plan.round)?;
-    let ended = floor.close_on(rt, alloc, history, receipts, Some(plan.scripts))?;
-    Ok(ended)
+    let (receipts, done) = serve_all(rt, alloc, floor.boxes(), permits, plan.round)?;
+    match done {
+        Ok(()) => {
+            let ended = floor.close_on(rt, alloc, history, receipts, Some(plan.scripts))?;
+            Ok(ended)
+        }
+        Err(met) => match met {
+            PermitFault::Memory => Err(RunFault::Memory),
+            // A phase that closes had numbers enough.
+            PermitFault::NumberFull => match floor.close(rt, alloc, history, receipts) {
+                Ok(_) => unreachable!(),
+                Err(fault) => Err(fault.into()),
+            },
+        },
+    }
 }

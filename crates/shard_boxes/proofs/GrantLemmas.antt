@@ -1,17 +1,17 @@
 -- The grants of a key, and the grants of all boxes.
-use Rattle.std.proofs.Common.{◌≡◌, ℕ, zero, suc, ◌+◌, ◌<◌, false, List, [], ◌∷◌, ◌++◌, length, map, get_or, take, refl, sym, ap, ◌∙◌, subst, arith, append_assoc, length-append, zero-lt-suc, true}
+use Rattle.std.proofs.Common.{◌≡◌, ℕ, zero, suc, ◌+◌, ◌<◌, ◌≤◌, Bool, cond, ltb, ltb-true, ltb-false, false, List, [], ◌∷◌, ◌++◌, length, map, get_or, take, refl, sym, ap, ◌∙◌, subst, arith, append_assoc, length-append, zero-lt-suc, true}
 use Rattle.std.proofs.lemmas.List.{get_or-map, length-map, take_more, get_or_default, map_push}
 use Rattle.shard_boxes.proofs.{BoxSteps.{maker_spare}, Each.{each_push}, KeySteps.{read}}
-use Rattle.shard_boxes.{proofs.LineLemmas.{history_of}, specs.Closed.{IsSpent, AreSpent}}
+use Rattle.shard_boxes.{proofs.LineLemmas.{clock_grows, history_of}, specs.{Closed.{IsSpent, AreSpent}, Helds.{taken_at}}}
 use Rattle.shard_boxes.specs.Keys.{BoxId, KeyState, key_at, no_seat, holds_at, lines_at, IsNewKey}
-use Rattle.shard_boxes.specs.Lines.{Line, after_lines, IsShardHistory, lines_of}
+use Rattle.shard_boxes.specs.Lines.{Line, after_lines, IsShardHistory, StartsWith, lines_of}
 use Rattle.shard_boxes.specs.Passes.{start_of, GrantState}
 use Rattle.shard_boxes.specs.inner.Passing.{SpeaksForAll, IsSpare}
 use Rattle.shard_boxes.specs.Seats.{own_of, seat_of, boxes_of, key_of, IsFor, AreFor}
 use Rattle.shard_boxes.specs.States.{ShardState, state_of, state_at, no_shard, IsInitial}
 use Rattle.shard_boxes.specs.declared.shard_box.Knowledge.{Knowledge}
-use Rattle.shard_boxes.specs.inner.Grants.{AreSpare, IsNewView, IsFree, AreFree, own_at, IsTaken}
-use Rattle.shard_boxes.specs.inner.Rule.{IsLawfulList, HasParts}
+use Rattle.shard_boxes.specs.inner.Grants.{AreSpare, IsNewView, IsFree, AreFree, clock_at, clock_seen, own_at, IsTaken}
+use Rattle.shard_boxes.specs.inner.Rule.{AreLawful, IsLawfulList, HasParts}
 use Rattle.shard_boxes.specs.inner.Steps.{maker, ready, opened, first_of, rest_of, joined, spent}
 use Rattle.item_shards.specs.declared.shard.Shard.{Shard}
 
@@ -41,6 +41,12 @@ pub key_own : (initial : List ShardState) (workers worker : ℕ) (grants : List 
 key_own initial workers worker grants x s d is each low =
     let seat = read worker grants s (get_or grants s d) x is low (get_or_default grants s d (get_or grants s d) low) in
     own_one (own_at grants s d) (each s d low).as_many ∙ ap (λ l. l ∷ []) (ap (λ t. t.lines) (sym seat))
+
+pub key_seen : (initial : List ShardState) (workers worker : ℕ) (grants : List GrantState) (x : KeyState) (s : ℕ) (d : GrantState) → key_of worker grants ≡ x → AreFor initial workers grants worker → s < length grants
+    → clock_at grants s d ≡ (taken_at initial x s).clock
+key_seen initial workers worker grants x s d is each low =
+    let seat = read worker grants s (get_or grants s d) x is low (get_or_default grants s d (get_or grants s d) low) in
+    ap (λ (o : ShardState). (after_lines o (get_or grants s d).knows.seen).clock) (each s d low).start_is ∙ ap (λ t. (after_lines (state_at initial s) t.seen).clock) (sym seat)
 
 -- the grant at a box is for that box
 pub place_is : (grants : List GrantState) (boxes : List BoxId) (s : ℕ) (l : GrantState) (p : BoxId) → boxes_of grants ≡ boxes → s < length grants → l ≡ get_or grants s l → p ≡ get_or boxes s p → l.box_id ≡ p
@@ -114,6 +120,18 @@ joined_free start workers first v w h = record {
   free = h.free;
 }
 
+-- of two passes that are united neither has seen a greater clock
+greater_is : {A : Type 0} (clock : A → ℕ) (a b : A) → (clock a ≤ clock (cond (ltb (clock a) (clock b)) b a)) × (clock b ≤ clock (cond (ltb (clock a) (clock b)) b a))
+greater_is clock a b = at (ltb (clock a) (clock b)) refl where
+  at : (t : Bool) → ltb (clock a) (clock b) ≡ t → (clock a ≤ clock (cond t b a)) × (clock b ≤ clock (cond t b a))
+  at true less = (omega (arith, ltb-true (clock a) (clock b) less), omega arith)
+  at false more = (omega arith, omega (arith, ltb-false (clock a) (clock b) more))
+
+pub joined_clocks : (v w : Knowledge) → start_of w ≡ start_of v → (clock_seen v ≤ clock_seen (joined v w)) × (clock_seen w ≤ clock_seen (joined v w))
+joined_clocks v w same =
+    let both = greater_is (λ (lines : List (ℕ × Line)). (after_lines (start_of v) lines).clock) v.seen w.seen in
+    (both.0, subst (λ (o : ShardState). (after_lines o w.seen).clock ≤ clock_seen (joined v w)) (sym same) both.1)
+
 pub no_grant : GrantState
 no_grant = record { box_id = record { words = 0; slots = 0; views_name = 0; atom = 0; block = 0; offset = 0; slot_names = [] }; knows = spent }
 
@@ -170,11 +188,13 @@ history_by initial workers s v lines state low is_opened start many kept now =
 
 -- the shard that a grant for all workers takes
 pub taken_is : (initial : List ShardState) (workers s : ℕ) (v : Knowledge) (own : List (List Line)) (lines : List (ℕ × Line)) (state : ShardState) → s < length initial → IsInitial (length initial) s (state_at initial s)
-    → IsFree (state_at initial s) workers 0 v → own ≡ v.own → length own ≡ workers → IsLawfulList (start_of v) v.workers lines → state ≡ after_lines (start_of v) lines → HasParts v lines → IsTaken initial workers own s state
-taken_is initial workers s v own lines state low is_opened free is long kept now parts = (
+    → IsFree (state_at initial s) workers 0 v → own ≡ v.own → length own ≡ workers → IsLawfulList (start_of v) v.workers lines → state ≡ after_lines (start_of v) lines → StartsWith lines v.seen → HasParts v lines → IsTaken initial workers own (clock_seen v) s state
+taken_is initial workers s v own lines state low is_opened free is long kept now later parts = (
   lines,
   history_by initial workers s v lines state low is_opened free.start_is free.workers_are kept now,
   λ w lower.
       let below : w < length v.own = omega (arith, lower, long, ap length is) in
       ap (λ n. lines_of n lines) (zero_plus v.first w free.from) ∙ sym (parts w below) ∙ ap (λ l. get_or l w []) (sym is),
+  subst (λ n. clock_seen v ≤ n) (ap (λ (o : ShardState). o.clock) (ap (after_lines (start_of v)) (sym later.1) ∙ sym now))
+      (clock_grows v.workers (start_of v) v.seen later.0 (subst (AreLawful v.workers (start_of v)) later.1 kept.lawful)),
 )

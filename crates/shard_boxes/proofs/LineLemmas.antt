@@ -51,6 +51,15 @@ workers_of : (workers : ℕ) (o : ShardState) (lines : List (ℕ × Line)) → A
 workers_of workers o [] h = tt
 workers_of workers o (e ∷ lines) h = (h.0, workers_of workers (after_line o e.1) lines h.2)
 
+-- the clock grows from line to line
+clock_from : (workers : ℕ) (o : ShardState) (lines : List (ℕ × Line)) → AreLawful workers o lines → o.clock ≤ (after_lines o lines).clock
+clock_from workers o [] h = omega arith
+clock_from workers o (e ∷ lines) h = omega (arith, h.1.later, clock_from workers (after_line o e.1) lines h.2)
+
+pub clock_grows : (workers : ℕ) (o : ShardState) (lines more : List (ℕ × Line)) → AreLawful workers o (lines ++ more) → (after_lines o lines).clock ≤ (after_lines o (lines ++ more)).clock
+clock_grows workers o [] more h = clock_from workers o more h
+clock_grows workers o (e ∷ lines) more h = clock_grows workers (after_line o e.1) lines more h.2
+
 later_all : (workers n : ℕ) (o : ShardState) (lines : List (ℕ × Line)) → n ≤ o.clock → AreLawful workers o lines → AllByRecursion (λ (e : ℕ × Line). n < e.1.number) lines
 later_all workers n o [] low h = tt
 later_all workers n o (e ∷ lines) low h = (omega (arith, low, h.1.later), later_all workers n (after_line o e.1) lines (omega (arith, low, h.1.later)) h.2)

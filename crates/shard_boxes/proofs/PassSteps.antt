@@ -7,11 +7,11 @@ use lib.ListN.{get_elem?}
 use Rattle.crossbeam_queue.{proofs.Lists.{at_longer, set_else}, specs.Fifo.{Forks, Merges}}
 use Rattle.item_shards.specs.declared.shard.Shard.{Shard}
 use Rattle.shard_boxes.proofs.BoxSteps.{Each, at_snoc_index, both_ways, each_set, tail_at, length-tail, length-head, head_at, plus_zero}
-use Rattle.shard_boxes.specs.Lines.{Line, lines_of, StartsWith}
+use Rattle.shard_boxes.specs.{Lines.{Line, after_lines, lines_of, StartsWith}, Passes.{start_of}, States.{ShardState}}
 use Rattle.shard_boxes.specs.inner.Passing.{Speaks}
 use Rattle.shard_boxes.specs.declared.shard_box.Knowledge.{Knowledge}
 use Rattle.shard_boxes.specs.inner.Rule.{BoxState, FitsBox, IsIn, IsOut, BoxRule}
-use Rattle.shard_boxes.specs.inner.Steps.{head_of, tail_of, first_of, rest_of, longer, joined, spent}
+use Rattle.shard_boxes.specs.inner.Steps.{head_of, tail_of, first_of, rest_of, later_of, joined, spent}
 
 pub other_number : (n m : ℕ) → n ≢ m → (n == m) ≡ false
 other_number n m ne = ne_eqb n m ne
@@ -119,8 +119,8 @@ forks pass v speaks free items views h at =
       fits = λ j u e. ⊎_elim (λ x. of_middle j u x) (λ (x : (j ≡ fresh) × (right ≡ u)). subst (λ (y : ℕ × Knowledge). F y.0 y.1) (λ i. (sym x.0 i, x.1 i)) of_right) (at_snoc_index middle right u j e);
     }
 
-longer_is : (list a b : List (ℕ × Line)) → StartsWith list a → StartsWith list b → StartsWith list (longer a b)
-longer_is list a b p q = elim (ltb (length a) (length b)) as (λ t. StartsWith list (cond t b a)) [ true ↦ q | false ↦ p ]
+later_is : (start : ShardState) (list a b : List (ℕ × Line)) → StartsWith list a → StartsWith list b → StartsWith list (later_of start a b)
+later_is start list a b p q = elim (ltb (after_lines start a).clock (after_lines start b).clock) as (λ t. StartsWith list (cond t b a)) [ true ↦ q | false ↦ p ]
 
 -- a pass takes in the workers that follow its own
 pub merges : (pass : ℕ) (v : Knowledge) (other : ℕ) (u : Knowledge) → Speaks v → Speaks u → v.holds ≡ false → u.holds ≡ false → u.first ≡ v.first + length v.own → Merges BoxRule pass v other u (joined v u) spent
@@ -141,7 +141,7 @@ merges pass v other u speaks speaks' free free' next items views h at two at' =
       knows = λ _. record {
         start = mine.start;
         workers = mine.workers;
-        prefix = longer_is list v.seen u.seen mine.prefix theirs.prefix;
+        prefix = later_is (start_of v) list v.seen u.seen mine.prefix theirs.prefix;
         known = fits_end;
         seats = λ i below. ⊎_elim
             (λ (lt : i < length v.own). let e = mine.seats i lt in seat_else (v.first + i) (λ x. two (sym x ∙ e)) ∙ e)

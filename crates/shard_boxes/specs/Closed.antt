@@ -1,5 +1,6 @@
 -- What closed boxes give.
-use Rattle.std.specs.Prelude.{◌≡◌, ℕ, ◌<◌, List, length, false}
+use Rattle.std.specs.Prelude.{◌≡◌, ℕ, ◌<◌, ◌≤◌, List, length, false}
+use Rattle.shard_boxes.specs.Helds.{taken_at}
 use Rattle.shard_boxes.specs.Keys.{BoxId, KeyState, key_at, lines_at, holds_at}
 use Rattle.shard_boxes.specs.{Lines.{Line, IsShardHistory, lines_of}, States.{ShardState, state_at}}
 
@@ -26,6 +27,8 @@ pub record IsClosedBox (initial : List ShardState) (workers : ℕ) (keys : List 
   pub history : IsShardHistory initial workers s lines state
   -- each worker's lines are those of its key
   pub own : (w : ℕ) → w < workers → lines_of w lines ≡ lines_at (key_at keys w) s
+  -- no key has seen a greater clock of the shard
+  pub seen : (w : ℕ) → w < workers → (taken_at initial (key_at keys w) s).clock ≤ state.clock
 
 -- closed boxes give a shard each, in order
 abbrev pub AreClosed : List ShardState → ℕ → List KeyState → List ShardState → Type 0

@@ -2,10 +2,11 @@
 //! which the shard is taken, and by which the box can open for another phase. All memory is asked
 //! for before the first shard lies in its box.
 ghost use Rattle.std.specs.Prelude.{◌≡◌, ◌+◌, ◌-◌, ◌<◌, ◌≤◌, ◌^◌, ℕ, length, map, slice_index_or, vec_len, vec_capacity, IfOk, IfErr, ◌∷◌, false};
+ghost use Rattle.std.specs.List.{AllByRecursion};
 ghost use Rattle.shard_boxes.specs.Closed.{AreClosed, AreSpent};
-ghost use Rattle.shard_boxes.specs.Keys.{IsNewKey, AreNewKeys, KeyState, lines_at, holds_at};
+ghost use Rattle.shard_boxes.specs.{Helds.{taken_at}, Keys.{IsNewKey, AreNewKeys, KeyState, lines_at, holds_at}};
 ghost use Rattle.shard_boxes.specs.{Passes.{GrantState}, States.{state_of, AreInitial, state_at}};
-ghost use Rattle.shard_boxes.specs.inner.Grants.{AreSpare, AreNewGrants, AreFree, own_at, IsTaken};
+ghost use Rattle.shard_boxes.specs.inner.Grants.{AreSpare, AreNewGrants, AreFree, clock_at, own_at, IsTaken};
 
 use crate::boxes::{Boxes, PhaseName};
 use crate::key::Key;
@@ -206,6 +207,9 @@ fn collect_all<N: PhaseName>(boxes: &[ShardBox], mut keys: Vec<Key<N>>) -> Vec<G
     ensures free { AreFree N.initial N.workers boxes.now 0 result.items }
     ensures own { (s : ℕ) (d : GrantState) → s < length result.items →
         own_at result.items s d ≡ map (λ (k : KeyState). lines_at k s) keys.items }
+    ensures seen { (s : ℕ) (d : GrantState) → s < length result.items →
+        AllByRecursion (λ key. (taken_at N.initial key s).clock ≤ clock_at result.items s d)
+        keys.items }
 {
     let Some(last) = keys.pop() else {
         unreachable!()
@@ -226,6 +230,9 @@ fn collect<N: PhaseName>(boxes: &[ShardBox], key: Key<N>, others: Vec<Grant>) ->
     ensures free { AreFree N.initial N.workers boxes.now key.worker result.items }
     ensures own { (s : ℕ) (d : GrantState) → s < length result.items →
         own_at result.items s d ≡ lines_at key s ∷ own_at others.items s d }
+    ensures seen { (s : ℕ) (d : GrantState) → s < length result.items →
+        ((taken_at N.initial key s).clock ≤ clock_at result.items s d)
+        × (clock_at others.items s d ≤ clock_at result.items s d) }
 {
     let mut grants = key.grants();
     let mut s = 0;
@@ -252,7 +259,7 @@ fn take_all<N: PhaseName, R: Wait>(
         × (length N.initial ≤ vec_capacity closed_shards) }
     ensures len { length result.0.items ≡ length N.initial }
     ensures each { (s : ℕ) (d : GrantState) → s < length N.initial →
-        IsTaken N.initial N.workers (own_at grants.items s d) s
+        IsTaken N.initial N.workers (own_at grants.items s d) (clock_at grants.items s d) s
         (state_at (map state_of result.0.items) s) }
     ensures spare { AreSpare boxes.now result.1.items }
 {

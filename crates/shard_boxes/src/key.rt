@@ -6,7 +6,7 @@ ghost use Rattle.shard_boxes.specs.inner.Passing.{MayPut};
 ghost use Rattle.shard_boxes.specs.Keys.{taking, putting, lines_at, seen_at, holds_at};
 ghost use Rattle.shard_boxes.specs.Lines.{bid_refusal_on, line_of, line_of_bid, lines_of, seen_line, StartsWith, IsShardHistory};
 ghost use Rattle.shard_boxes.specs.{Passes.{GrantState}, States.{state_of, AreInitial}};
-ghost use Rattle.shard_boxes.specs.inner.Grants.{IsBoxAt, AreFree, own_at};
+ghost use Rattle.shard_boxes.specs.inner.Grants.{IsBoxAt, AreFree, clock_at, own_at};
 
 use crate::boxes::PhaseName;
 use crate::held::Held;
@@ -179,6 +179,8 @@ impl<N: PhaseName> Key<N> {
         ensures free { AreFree N.initial N.workers self.boxes self.worker result.items }
         ensures own { (s : ℕ) (d : GrantState) → s < length result.items →
             own_at result.items s d ≡ lines_at self s ∷ [] }
+        ensures seen { (s : ℕ) (d : GrantState) → s < length result.items →
+            clock_at result.items s d ≡ (taken_at N.initial self s).clock }
     {
         let Key {
             worker: _,

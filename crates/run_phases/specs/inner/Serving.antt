@@ -7,7 +7,7 @@ use Rattle.phase_transactions.specs.{Performing.{HaveOpening}, Workers.{WorkerSt
 use Rattle.worker_slices.specs.{Slicing.{hot_objects}, Stashes.{StashState}}
 use Rattle.phase_floor.specs.Closings.{AreOfScripts, AreReceiptsOf, Leaves}
 use Rattle.phase_floor.specs.{Floors.{FloorState, AreBegun, stash_at}, States.{JoinedState}}
-use Rattle.phase_workers.specs.{Tasks.{Task, tasks, CanBeDone, HasDoneTask}, Working.{ArePermitsOf}}
+use Rattle.phase_workers.specs.{Tasks.{Task, tasks, CanBeDone, HasDoneTask, IsReceiptFor}, Working.{ArePermitsOf}}
 use Rattle.run_laws.specs.Serving.{script_of}
 use Rattle.run_phases.specs.inner.Plans.{waiting_in, quota_of}
 
@@ -40,11 +40,10 @@ pub record CanPerform (takes : Bool) (initial : List ShardState) (floor : FloorS
   -- each worker can do its task
   pub can : HaveOpening initial floor.opening →
       AllByRecursion (CanBeDone initial floor.boxes) (tasks permits scripts first)
-  -- when all have done theirs, they have the receipts of the phase
+  -- the receipts of their permits are those of the phase
   pub receipts_are : (receipts : List WorkerState) →
-      AllZip (HasDoneTask takes) (tasks permits scripts first) receipts →
-      AreReceiptsOf floor receipts
-  -- with entries whose requests are the scripts'
+      AllZip IsReceiptFor (tasks permits scripts first) receipts → AreReceiptsOf floor receipts
+  -- when all have done theirs, the requests of the entries are the scripts'
   pub asked : (receipts : List WorkerState) →
       AllZip (HasDoneTask takes) (tasks permits scripts first) receipts →
       AreOfScripts scripts receipts

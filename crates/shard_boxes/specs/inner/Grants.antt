@@ -1,6 +1,6 @@
 -- One grant for each box, as the boxes are opened and closed.
-use Rattle.std.specs.Prelude.{◌≡◌, ℕ, ◌+◌, ◌<◌, false, List, [], length, slice_index_or}
-use Rattle.shard_boxes.specs.{Keys.{BoxId}, Lines.{Line, IsShardHistory, lines_of}}
+use Rattle.std.specs.Prelude.{◌≡◌, ℕ, ◌+◌, ◌<◌, ◌≤◌, false, List, [], length, slice_index_or}
+use Rattle.shard_boxes.specs.{Keys.{BoxId}, Lines.{Line, IsShardHistory, after_lines, lines_of}}
 use Rattle.shard_boxes.specs.{Passes.{start_of, GrantState}, Seats.{boxes_of}}
 use Rattle.shard_boxes.specs.inner.Passing.{Speaks, IsSpare}
 use Rattle.shard_boxes.specs.States.{ShardState, state_at}
@@ -65,11 +65,21 @@ AreFree initial workers boxes first grants =
 abbrev pub own_at : List GrantState → ℕ → GrantState → List (List Line)
 own_at grants s d = (knows_at grants s d).own
 
--- the shard is the initial one of this number after some lines, of which each worker's are these
-abbrev pub IsTaken : List ShardState → ℕ → List (List Line) → ℕ → ShardState → Type 0
-IsTaken initial workers own s state =
+-- the clock of the shard, as the pass has seen it
+abbrev pub clock_seen : Knowledge → ℕ
+clock_seen v = (after_lines (start_of v) v.seen).clock
+
+-- the clock of the shard of this box, as its grant has seen it
+abbrev pub clock_at : List GrantState → ℕ → GrantState → ℕ
+clock_at grants s d = clock_seen (knows_at grants s d)
+
+-- the shard is the initial one of this number after some lines, of which each worker's are these,
+-- and its clock is no less than this one
+abbrev pub IsTaken : List ShardState → ℕ → List (List Line) → ℕ → ℕ → ShardState → Type 0
+IsTaken initial workers own seen s state =
     (lines : List (ℕ × Line)) × IsShardHistory initial workers s lines state
     × ((w : ℕ) → w < workers → lines_of w lines ≡ slice_index_or own w [])
+    × (seen ≤ state.clock)
 
 -- the box of this number is this one
 abbrev pub IsBoxAt : List BoxId → ℕ → BoxId → Type 0

@@ -1,8 +1,8 @@
 -- What a pass knows at first, and after each of its steps.
-use Rattle.std.specs.Prelude.{◌≡◌, ℕ, ◌+◌, ltb, cond, true, false, List, [], ◌∷◌, ◌++◌, length, replicate, Option, Some, None}
+use Rattle.std.specs.Prelude.{◌≡◌, ℕ, ◌+◌, ltb, cond, true, false, List, [], ◌∷◌, ◌++◌, replicate, Option, Some, None}
 use Rattle.item_shards.specs.declared.shard.Shard.{Shard}
 use Rattle.shard_boxes.specs.{Keys.{added, entries}, Lines.{Line, after_lines, StartsWith}}
-use Rattle.shard_boxes.specs.{Passes.{start_of}, States.{state_of}}
+use Rattle.shard_boxes.specs.{Passes.{start_of}, States.{ShardState, state_of}}
 use Rattle.shard_boxes.specs.declared.shard_box.Knowledge.{Knowledge}
 use Rattle.shard_boxes.specs.inner.Rule.{IsLawfulList, HasParts}
 
@@ -69,13 +69,13 @@ first_of v = record v { own = head_of v.own }
 abbrev pub rest_of : Knowledge → Knowledge
 rest_of v = record v { first = v.first + 1; own = tail_of v.own }
 
--- the longer one of two lists
-abbrev pub longer : List (ℕ × Line) → List (ℕ × Line) → List (ℕ × Line)
-longer a b = cond (ltb (length a) (length b)) b a
+-- the one of two lists after which the clock of the shard is greater
+abbrev pub later_of : ShardState → List (ℕ × Line) → List (ℕ × Line) → List (ℕ × Line)
+later_of start a b = cond (ltb (after_lines start a).clock (after_lines start b).clock) b a
 
 -- the pass speaks for the workers of both, and has seen what either has
 abbrev pub joined : Knowledge → Knowledge → Knowledge
-joined v w = record v { own = v.own ++ w.own; seen = longer v.seen w.seen }
+joined v w = record v { own = v.own ++ w.own; seen = later_of (start_of v) v.seen w.seen }
 
 -- a pass that speaks for nobody
 abbrev pub spent : Knowledge

@@ -46,7 +46,7 @@ returns-in_err-perform_next-clause-stopped g c =
     let new : WorkerState = c.perform_next.new.permit in
     err_as c.from_residual.result c.in_err-perform_next.field-0.0 (HasStopped false g.N.PhaseName.initial calls old new) c.from_residual.ensures.1
     (stopped_next g.N.PhaseName.initial old c.loop-place.permit new c.in_err-perform_next.field-0.0 k calls (first + k, request) next
-    was.1 was.2 (c.in_err-perform_next.ensures.failed request there.1))
+    was.0 was.1 was.2 (c.in_err-perform_next.ensures.failed request there.1))
 
 pub loop-place-init : goal.loop-place-init
 loop-place-init g c =

@@ -48,7 +48,7 @@ returns-in_err-perform_first-clause-stopped g c =
     err_as c.from_residual.result c.in_err-perform_first.field-0.0 (HasStopped takes g.N.PhaseName.initial (taken takes old) old new) c.from_residual.ensures.1
     (stopped_first g.N.PhaseName.initial old c.loop-call.permit new c.in_err-perform_first.field-0.0 takes c.loop-call._call
     (takes_some takes old c.loop-call._call (subst (λ n. c.loop-call._call < n) c.waiting-call-end.ensures c.loop-call-test.true))
-    was.1 was.2 was.5 c.in_err-perform_first.ensures.failed)
+    was.0 was.1 was.2 was.5 c.in_err-perform_first.ensures.failed)
 
 pub perform_first-requires-clause-joined : goal.perform_first-requires-clause-joined
 perform_first-requires-clause-joined g c =

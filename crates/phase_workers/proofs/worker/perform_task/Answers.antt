@@ -43,5 +43,5 @@ returns-clause-stopped g c =
     let calls : List (ℕ × Request) = calls_from c.args.first mid.left c.args.script.now in
     IfErr-weaker c.perform_quota.result (HasStopped false g.N.PhaseName.initial calls mid new) (HasMetFault takes g.N.PhaseName.initial (task old c.args.script.now c.args.first) new)
     (λ fault. stopped_late g.N.PhaseName.initial old mid new fault takes calls (calls_from c.args.first old.left c.args.script.now)
-    stash.go stash.calls stash.stash stash.same.hot (ap (λ n. calls_from c.args.first n c.args.script.now) stash.left))
+    stash.go stash.calls stash.stash stash.same (ap (λ n. calls_from c.args.first n c.args.script.now) stash.left))
     c.perform_quota.ensures.stopped

@@ -1,12 +1,12 @@
-use Rattle.std.proofs.Common.{◌≡◌, ℕ, ◌+◌, ◌<◌, [], ◌∷◌, ◌++◌, length, le_refl, zero-add, zero-lt-suc, refl, sym, ap, ◌∙◌, subst, arith}
+use Rattle.std.proofs.Common.{◌≡◌, ℕ, ◌+◌, ◌<◌, ◌≤◌, slice_index_or, [], ◌∷◌, ◌++◌, length, le_refl, zero-add, zero-lt-suc, refl, sym, ap, ◌∙◌, subst, arith}
 use Rattle.std.specs.Vec.Iter.{into_iter_items}
 use Rattle.shard_boxes.proofs.Each.{drop_next, at_head, is_next, one_on, all_gone}
-use Rattle.shard_boxes.proofs.{GrantLemmas.{place_is, as_many, joined_free}, KeySteps.{same_places}}
-use Rattle.shard_boxes.{proofs.Sweeps.{swept_more}, specs.Keys.{lines_at}}
-use Rattle.shard_boxes.specs.{Passes.{GrantState}, States.{state_at}}
+use Rattle.shard_boxes.proofs.{GrantLemmas.{place_is, as_many, joined_free, joined_clocks}, KeySteps.{same_places}}
+use Rattle.shard_boxes.{proofs.Sweeps.{swept_more}, specs.{Helds.{taken_at}, Keys.{lines_at}}}
+use Rattle.shard_boxes.specs.{Passes.{start_of, GrantState}, States.{state_at}}
 use Rattle.shard_boxes.specs.inner.Passing.{Speaks}
 use Rattle.shard_boxes.specs.declared.shard_box.Knowledge.{Knowledge}
-use Rattle.shard_boxes.specs.inner.Grants.{IsFree, own_at}
+use Rattle.shard_boxes.specs.inner.Grants.{IsFree, clock_at, clock_seen, own_at}
 use Rattle.shard_boxes.proofs.grants.collect.Goals as goal
 
 pub loop-other-init : goal.loop-other-init
@@ -16,7 +16,7 @@ loop-other-init g c =
       zero-add _ ∙ gives.1 ∙ c.args.others.ok.0 ∙ as_many others boxes c.requires.others.0 ∙ c.requires.boxes,
       gives.0,
       mine.free.0 ∙ c.requires.of,
-      ((λ k d low. absurd (omega arith)), λ k d from low. (mine.free.1 k d low, mine.own k d low)),
+      ((λ k d low. absurd (omega arith)), λ k d from low. (mine.free.1 k d low, mine.own k d low, mine.seen k d low)),
     )
 
 pub collect-requires : goal.collect-requires
@@ -49,16 +49,25 @@ loop-other-preserved g c =
     let at = c.index_mut.ensures.value in
     let low : s < length boxes = is_next _ _ _ _ _ step.1 was.0 c.requires.boxes in
     let below : s < length grants = subst (λ n. s < n) (sym (as_many grants boxes was.2)) low in
-    let mine = subst (λ (l : GrantState). IsFree (state_at initial s) workers key.worker l.knows × (l.knows.own ≡ lines_at key s ∷ [])) (sym at) (was.3.1 s grant (le_refl s) below) in
+    let mine = subst (λ (l : GrantState). IsFree (state_at initial s) workers key.worker l.knows × (l.knows.own ≡ lines_at key s ∷ []) × (clock_seen l.knows ≡ (taken_at initial key s).clock)) (sym at) (was.3.1 s grant (le_refl s) below) in
     let new = ap (λ (l : GrantState). l.knows) c.collect.ensures in
-    let head : (e : GrantState) → own_at others s e ≡ other.knows.own = (λ e. ap (λ (l : GrantState). l.knows.own) (at_head others s other (into_iter_items c.next.new.self) e (sym step.0 ∙ was.1))) in (
+    let at_other : (e : GrantState) → slice_index_or others s e ≡ other = (λ e. at_head others s other (into_iter_items c.next.new.self) e (sym step.0 ∙ was.1)) in
+    let head : (e : GrantState) → own_at others s e ≡ other.knows.own = (λ e. ap (λ (l : GrantState). l.knows.own) (at_other e)) in
+    let theirs : (e : GrantState) → clock_at others s e ≡ clock_seen other.knows = (λ e. ap (λ (l : GrantState). clock_seen l.knows) (at_other e)) in
+    let below' : s < length others = subst (λ n. s < n) (sym (as_many others boxes c.requires.others.0)) low in
+    let start : start_of other.knows ≡ state_at initial s = ap (λ (l : GrantState). start_of l.knows) (sym (at_other other)) ∙ (c.requires.others.1 s other below').start_is in
+    let clocks = joined_clocks grant.knows other.knows (start ∙ sym mine.0.start_is) in (
       one_on _ _ _ _ step.1 was.0,
       drop_next others s (s + 1) other (into_iter_items c.next.new.self) (sym step.0 ∙ was.1) refl,
       same_places grants s grant c.collect.new.grant at (ap (λ (l : GrantState). l.box_id) c.collect.ensures) ∙ was.2,
-      swept_more (λ k (x : GrantState). IsFree (state_at initial k) workers key.worker x.knows × ((e : GrantState) → x.knows.own ≡ lines_at key k ∷ own_at others k e))
-          (λ k (x : GrantState). IsFree (state_at initial k) workers key.worker x.knows × (x.knows.own ≡ lines_at key k ∷ [])) grants s (s + 1) c.collect.new.grant below was.3 (
+      swept_more (λ k (x : GrantState). IsFree (state_at initial k) workers key.worker x.knows × ((e : GrantState) → (x.knows.own ≡ lines_at key k ∷ own_at others k e) × ((taken_at initial key k).clock ≤ clock_seen x.knows) × (clock_at others k e ≤ clock_seen x.knows)))
+          (λ k (x : GrantState). IsFree (state_at initial k) workers key.worker x.knows × (x.knows.own ≡ lines_at key k ∷ []) × (clock_seen x.knows ≡ (taken_at initial key k).clock)) grants s (s + 1) c.collect.new.grant below was.3 (
             subst (IsFree (state_at initial s) workers key.worker) (sym new) (joined_free (state_at initial s) workers key.worker grant.knows other.knows mine.0),
-            λ e. ap (λ (v : Knowledge). v.own) new ∙ (λ i. mine.1 i ++ sym (head e) i),
+            λ e. (
+              ap (λ (v : Knowledge). v.own) new ∙ (λ i. mine.1 i ++ sym (head e) i),
+              subst (λ n. n ≤ clock_seen c.collect.new.grant.knows) mine.2 (subst (λ (v : Knowledge). clock_seen grant.knows ≤ clock_seen v) (sym new) clocks.0),
+              subst (λ n. n ≤ clock_seen c.collect.new.grant.knows) (sym (theirs e)) (subst (λ (v : Knowledge). clock_seen other.knows ≤ clock_seen v) (sym new) clocks.1),
+            ),
           ) refl,
     )
 
@@ -68,7 +77,8 @@ returns g c =
     let swept : (s : ℕ) → s < length grants → s < c.loop-other.s = λ s low. all_gone _ _ _ _ _ c.in-None.ensures.steps.0 was.0 (as_many grants c.args.boxes.now was.2 ∙ c.requires.boxes) low in
     record {
       free = (was.2, λ s d low. (was.3.0 s d (swept s low)).0);
-      own = λ s d low. (was.3.0 s d (swept s low)).1 d;
+      own = λ s d low. ((was.3.0 s d (swept s low)).1 d).0;
+      seen = λ s d low. let made = (was.3.0 s d (swept s low)).1 d in (made.1, made.2);
     }
 
 pub bounds-boxes-s : goal.bounds-boxes-s

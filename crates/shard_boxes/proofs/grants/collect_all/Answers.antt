@@ -1,4 +1,6 @@
-use Rattle.std.proofs.Common.{◌≡◌, ◌+◌, ◌<◌, List, [], ◌∷◌, length, append-nil, sym, ap, ◌∙◌, subst}
+use Rattle.std.proofs.Common.{arith, ◌≡◌, ◌+◌, ◌<◌, le_of_eq, le_trans, List, [], ◌∷◌, ◌++◌, length, append-nil, sym, ap, ◌∙◌, subst}
+use Rattle.std.{proofs.lemmas.List.{nil_from_length}, specs.List.{AllByRecursion}}
+use Rattle.phase_laws.proofs.OrderLemmas.{all-weaker}
 use Rattle.shard_boxes.proofs.{Each.{shorter}, GrantLemmas.{spent_at, whole_is, one_more, as_many}}
 use Rattle.shard_boxes.specs.{Keys.{BoxId, lines_at}, inner.Grants.{AreFree}}
 use Rattle.shard_boxes.proofs.grants.collect_all.Goals as goal
@@ -30,6 +32,10 @@ loop-key-preserved g c =
       λ s d low.
           let same : length c.collect-grants.result.items ≡ length c.loop-key.grants.items = as_many c.collect-grants.result.items boxes made.free.0 ∙ sym (as_many c.loop-key.grants.items boxes was.2.0) in
           made.own s d low ∙ ap (λ l. lines_at key s ∷ l) (was.3 s d (subst (λ n. s < n) same low)),
+      λ s d low.
+          let same : length c.collect-grants.result.items ≡ length c.loop-key.grants.items = as_many c.collect-grants.result.items boxes made.free.0 ∙ sym (as_many c.loop-key.grants.items boxes was.2.0) in
+          let seen = made.seen s d low in
+          (seen.0, all-weaker _ _ (λ k less. le_trans less seen.1) was.0 (was.4 s d (subst (λ n. s < n) same low))),
     )
 
 pub grants-grants-requires : goal.grants-grants-requires
@@ -46,7 +52,14 @@ loop-key-init g c =
       sym c.in-Some.ensures.items,
       subst (λ n. AreFree g.N.PhaseName.initial g.N.PhaseName.workers boxes n grants) spent.worker_is (subst (λ (boxes : List BoxId). AreFree g.N.PhaseName.initial g.N.PhaseName.workers boxes last.worker grants) spent.boxes_are made.free),
       made.own,
+      λ s d low. (le_of_eq (sym (made.seen s d low)), tt),
     )
 
 pub loop-key-smaller : goal.loop-key-smaller
 loop-key-smaller g c = shorter _ _ c.in-Some-pop.ensures.len
+
+pub returns-clause-seen : goal.returns-clause-seen
+returns-clause-seen g c =
+    let was = c.loop-key.invariant in
+    let none : c.loop-key.keys.items ≡ [] = nil_from_length c.loop-key.keys.items (grind (arith, c.loop-key.keys.ok.0, c.in_default-pop.ensures.variant)) in
+    λ s d low. subst (AllByRecursion _) (sym (ap (λ keys. keys ++ was.0) none) ∙ was.1) (was.4 s d low)

@@ -5,7 +5,7 @@ use Rattle.shard_boxes.proofs.GrantLemmas.{place_is, as_many, for_all, taken_spa
 use Rattle.shard_boxes.proofs.{KeySteps.{same_places}, Sweeps.{swept_more}}
 use Rattle.shard_boxes.specs.{Passes.{GrantState}, States.{state_of, state_at, no_shard}}
 use Rattle.shard_boxes.specs.inner.Passing.{IsSpare}
-use Rattle.shard_boxes.specs.inner.Grants.{IsFree, IsTaken, own_at}
+use Rattle.shard_boxes.specs.inner.Grants.{IsFree, IsTaken, clock_at, clock_seen, own_at}
 use Rattle.shard_boxes.proofs.grants.take_all.Goals as goal
 
 pub loop-s-init : goal.loop-s-init
@@ -51,8 +51,9 @@ loop-s-preserved g c =
       p.len ∙ ap (λ n. n + 1) was.0,
       subst (λ n. length initial ≤ n) (sym p.capacity) was.1,
       same_places grants s grant after at c.take_last-shard.ensures.place ∙ was.2,
-      (λ k d lower. each_push (λ j state. IsTaken initial workers (own_at all j d) j state) (map state_of c.loop-s.closed_shards.items) (map state_of c.push_reserved.new.self.items) (state_of shard) no_shard s many grown (λ j lo. was.3 j d lo)
-          (taken_is initial workers s grant.knows (own_at all s d) after.knows.seen (state_of shard) here (c.requires.opened s here) free (own d) (c.requires.own s d low) took.kept took.state took.own) k lower),
+      (λ k d lower. each_push (λ j state. IsTaken initial workers (own_at all j d) (clock_at all j d) j state) (map state_of c.loop-s.closed_shards.items) (map state_of c.push_reserved.new.self.items) (state_of shard) no_shard s many grown (λ j lo. was.3 j d lo)
+          (subst (λ n. IsTaken initial workers (own_at all s d) n s (state_of shard)) (ap (λ (l : GrantState). clock_seen l.knows) (sym (is d)))
+          (taken_is initial workers s grant.knows (own_at all s d) after.knows.seen (state_of shard) here (c.requires.opened s here) free (own d) (c.requires.own s d low) took.kept took.state took.later took.own)) k lower),
       swept_more (λ k (x : GrantState). IsSpare x.knows) (λ k (x : GrantState). (d : GrantState) → slice_index_or all k d ≡ x) grants s (s + 1) after below was.4
           (taken_spare grant.knows after.knows (for_all (state_at initial s) workers grant.knows free (ap length (sym (own grant)) ∙ c.requires.own s grant low)) took.view) refl,
     )

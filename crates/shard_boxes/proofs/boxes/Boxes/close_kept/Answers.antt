@@ -1,5 +1,6 @@
-use Rattle.std.proofs.Common.{◌≡◌, ◌<◌, List, [], length, map, slice_index_or, sym, ap, ◌∙◌, subst}
+use Rattle.std.proofs.Common.{◌≡◌, ◌<◌, le_trans, List, [], length, map, slice_index_or, sym, ap, ◌∙◌, subst}
 use Rattle.std.proofs.lemmas.List.{get_or-map, length-map}
+use Rattle.phase_laws.proofs.ListLemmas.{all-get_or}
 use Rattle.shard_boxes.{proofs.GrantLemmas.{no_grant, as_many}, specs.Closed.{AreSpent}}
 use Rattle.shard_boxes.specs.{Keys.{BoxId, KeyState, no_key, lines_at}, States.{state_of}}
 use Rattle.shard_boxes.specs.inner.Grants.{AreFree, AreSpare}
@@ -17,6 +18,8 @@ returns-clause-closed g c =
             own = λ w lower.
                 box.2 w lower ∙ ap (λ l. slice_index_or l w []) (c.collect_all-grants.ensures.own s no_grant below)
                 ∙ get_or-map (λ (k : KeyState). lines_at k s) keys w no_key [] (subst (λ n. w < n) (sym c.requires.0) lower);
+            seen = λ w lower.
+                le_trans (all-get_or _ keys w no_key (subst (λ n. w < n) (sym c.requires.0) lower) (c.collect_all-grants.ensures.seen s no_grant below)) box.3;
           },
     )
 
