@@ -4,7 +4,7 @@ ghost use Rattle.phase_floor.specs.Adding.{HasBook};
 
 use crate::testing::line_of;
 use auction_program::{
-    ErrorWriter, Joined, LiveTeller, LoggedInput, NoLog, Options, Teller, serve,
+    ErrorWriter, Fault, Joined, LiveTeller, LoggedInput, NoLog, Options, Teller, serve,
 };
 use auction_rows::{Facts, Opening, Request, Stars};
 use std::alloc::Global;
@@ -86,6 +86,23 @@ fn options(rows: bool, ends_at_fault: bool) -> Options {
     }
 }
 
+// Serves these lines. The faults are what is told apart from the replies.
+fn serve_lines<R: Abort + Alloc<A = Global> + Threads + Wait + Sync>(
+    rt: &R,
+    options: &Options,
+    replies: &mut Vec<u8>,
+    faults: &mut Vec<u8>,
+) -> Result<(), Fault> {
+    let alloc = rt.alloc();
+    let source = LoggedInput {
+        auction: almost_full(rt, alloc),
+        reader: LINES,
+    };
+    let texts = Teller::new(NoLog, replies);
+    let mut teller = LiveTeller::of(alloc, texts, ErrorWriter::of(faults));
+    serve(rt, alloc, source, &mut teller, options)
+}
+
 // Asserts how these lines are served: what is written, what is told apart from it, and the line of
 // the fault that ends them.
 fn assert_served<R: Abort + Alloc<A = Global> + Threads + Wait + Sync>(
@@ -96,15 +113,9 @@ fn assert_served<R: Abort + Alloc<A = Global> + Threads + Wait + Sync>(
     ended: &[u8],
 ) {
     let alloc = rt.alloc();
-    let source = LoggedInput {
-        auction: almost_full(rt, alloc),
-        reader: LINES,
-    };
     let mut replies = Vec::new(alloc);
     let mut faults = Vec::new(alloc);
-    let texts = Teller::new(NoLog, &mut replies);
-    let mut teller = LiveTeller::of(alloc, texts, ErrorWriter::of(&mut faults));
-    let served = serve(rt, alloc, source, &mut teller, options);
+    let served = serve_lines(rt, options, &mut replies, &mut faults);
     assert_eq!(rt; line_of(rt, alloc, &served).as_slice(), ended);
     assert_eq!(rt; replies.as_slice(), written);
     assert_eq!(rt; faults.as_slice(), errors);
