@@ -30,7 +30,8 @@ LAYERS = {
     },
     "texts": {
         "program_options": 420, "byte_texts": 700, "record_reading": 880, "auction_reading": 810, "live_reading": 960,
-        "auction_text": 880, "part_log": 640, "application_log": 150, "log_opening": 700, "history_check": 230,
+        "auction_text": 880, "part_log": 640, "log_file": 640, "application_log": 150, "log_opening": 700,
+        "history_check": 230,
     },
     "programs": {
         "example_ledger": 212, "program_opening": 680, "program_serving": 700, "auction_program": 680,

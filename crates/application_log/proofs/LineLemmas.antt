@@ -36,9 +36,9 @@ same_line (x ∷ line) (y ∷ other) rest more h g e =
     let head : x ≡ y = cc in let both = same_line line other rest more h.1 g.1 (cc) in
     ((λ i. head i ∷ both.0 i), both.1)
 
--- what was read does not end a line: then there is none
-pub unended_read : (bytes through rest : List ℕ) → IsThrough bytes through rest → ((line : List ℕ) → through ≡ line ++ 10 ∷ [] → ⊥) → HasNoEnd bytes
-unended_read bytes through rest (inl all) other = all.0
+-- what was read does not end a line: then there is none, and all was read
+pub unended_read : (bytes through rest : List ℕ) → IsThrough bytes through rest → ((line : List ℕ) → through ≡ line ++ 10 ∷ [] → ⊥) → HasNoEnd bytes × (through ≡ bytes)
+unended_read bytes through rest (inl all) other = all
 unended_read bytes through rest (inr one) other = absurd (other one.0 one.2)
 
 but_last : (line : List ℕ) (last : ℕ) → take (length (line ++ last ∷ []) - 1) (line ++ last ∷ []) ≡ line
@@ -55,13 +55,14 @@ before_last old read line last none stops is =
     recursion_from_All (λ byte. byte ≢ 10) line
     (subst (All (λ byte. byte ≢ 10)) (but_last line last) (subst (λ bytes. StopsAt bytes 10) whole stops))
 
--- what was read into an empty buffer ends no line: then none ends any more
+-- what was read into an empty buffer ends no line: then none ends any more, and all was read
 pub none_read : (known : Option (List ℕ)) (old read : List ℕ) → old ≡ [] → IfSome known (λ all. read ≡ old ++ take_through 10 all) →
-    ((line : List ℕ) → read ≡ line ++ 10 ∷ [] → ⊥) → IfSome known HasNoEnd
+    ((line : List ℕ) → read ≡ line ++ 10 ∷ [] → ⊥) → IfSome known (λ all. HasNoEnd all × (read ≡ all))
 none_read None old read none is other = tt
 none_read (Some all) old read none is other =
-    unended_read all (take_through 10 all) (drop_through 10 all) (through all)
-    (λ line ends. other line (is ∙ ap (λ o. o ++ take_through 10 all) none ∙ ends))
+    let same = is ∙ ap (λ o. o ++ take_through 10 all) none in
+    let both = unended_read all (take_through 10 all) (drop_through 10 all) (through all) (λ line ends. other line (same ∙ ends)) in
+    (both.0, same ∙ both.1)
 
 -- nothing is written of a request without a line
 pub unwritten : (o : Option (List ℕ)) (old new : List ℕ) → IsWritten o old new false → (o ≡ None) × (new ≡ old)

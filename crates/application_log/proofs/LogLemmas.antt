@@ -1,5 +1,5 @@
 -- Texts of requests, and the tables that they leave.
-use Rattle.std.proofs.Common.{◌≡◌, inl, inr, ◌+◌, ◌-◌, ◌≤◌, ◌<◌, ℕ, zero, suc, List, [], ◌∷◌, ◌++◌, length, length-append, take, drop, ◌^◌, append_assoc, get_or, true, false, Option, None, Some, IfSome, refl, sym, ap, ◌∙◌, subst, arith}
+use Rattle.std.proofs.Common.{Bool, ◌≡◌, inl, inr, ◌+◌, ◌-◌, ◌≤◌, ◌<◌, ℕ, zero, suc, List, [], ◌∷◌, ◌++◌, length, length-append, take, drop, ◌^◌, append_assoc, get_or, true, false, Option, None, Some, IfSome, refl, sym, ap, ◌∙◌, subst, arith}
 use Rattle.std.proofs.{KnownBytes.{Appends-nil}, Math.Numerals.{add-one}}
 use Rattle.std.proofs.{Math.Seq.{take-append-add, take-suc}, lemmas.Bool.{cases_lt}}
 use Rattle.std.proofs.lemmas.Grind.{flat_map-append}
@@ -11,11 +11,11 @@ use Rattle.split_engine.specs.Serial.{next, looks_at, after_acts, table_after, I
 use Rattle.split_engine.specs.declared.entry.Entry.{Entry}
 use Rattle.application_log.proofs.LineLemmas.{no_line, same_line, unwritten, written}
 use Rattle.application_log.specs.Faults.{HasLine, IsForMemory, IsOpenFault}
-use Rattle.application_log.specs.Lines.{HasNoEnd, IsWritten, text_of}
+use Rattle.application_log.specs.Lines.{HasNoEnd, IsTail, IsWritten, text_of}
 use Rattle.application_log.specs.Logs.{after_requests, lines_of, log_text, requests_of, HasOpened, IsReadBack}
 use Rattle.application_log.specs.declared.loggable.TheConstants.{MOST_LINES}
 use Rattle.application_log.specs.declared.opening.OpenFault.{OpenFault}
-use Rattle.application_log.specs.declared.opening.OpenFault.TheVariants.{NoRequest, NoSuchKey, TooLong}
+use Rattle.application_log.specs.declared.opening.OpenFault.TheVariants.{NoRequest, NoSuchKey, Tail, TooLong}
 use Rattle.phase_laws.proofs.ListLemmas.{all-append, all-take}
 
 pub text_of-append : (xs ys : List (List ℕ)) → text_of (xs ++ ys) ≡ text_of xs ++ text_of ys
@@ -45,9 +45,9 @@ module _ {Request : Type 0} (line : Request → Option (List ℕ)) where
   text_behind qs q text rest is =
       sym (ap (λ t. t ++ rest) (log_text-push qs q text is) ∙ append_assoc (log_text line qs) (text ++ 10 ∷ []) rest ∙ ap (λ t. log_text line qs ++ t) (append_assoc text (10 ∷ []) rest))
 
-  -- a prefix of a text of requests is that of the first requests, and behind it a line that has no end
-  abbrev pub IsCut : ℕ → List Request → Type 0
-  IsCut n qs = (k : ℕ) × (behind : List ℕ) × HasNoEnd behind × (take n (log_text line qs) ≡ log_text line (take k qs) ++ behind)
+  -- a prefix of a text of requests is that of the first requests, and behind it a line that has no end and may be cut
+  abbrev pub IsCut : (List ℕ → Bool) → ℕ → List Request → Type 0
+  IsCut is_cut n qs = (k : ℕ) × (behind : List ℕ) × HasNoEnd behind × (take n (log_text line qs) ≡ log_text line (take k qs) ++ behind) × IsTail is_cut behind
 
 zip_none : {K X : Type 0} (ks : List K) (xs : List X) → xs ≡ [] → zip ks xs ≡ []
 zip_none [] xs is = refl
@@ -179,11 +179,16 @@ module _ {Record Slice Look Request Reply Act : Type 0} (rules : Rules Record Sl
       fewer_first q qs before rest behind all.0 are read e
       (λ os fit back eq. fewer_lines qs os rest behind all.1 fit back cut eq) (line q) refl
 
-  cut_first : (q : Request) (qs : List Request) (n : ℕ) → IsInRange q → ((m : ℕ) → IsCut line m qs) → (o : Option (List ℕ)) → line q ≡ o → IsCut line n (q ∷ qs)
-  cut_first q qs n fits rest None is =
+  -- a line may be cut at each of its bytes
+  abbrev pub IsCutAnywhere : (List ℕ → Bool) → Type 0
+  IsCutAnywhere is_cut = (q : Request) (n : ℕ) → IsInRange q → IfSome (line q) (λ text. is_cut (take n text) ≡ true)
+
+  cut_first : (is_cut : List ℕ → Bool) → IsCutAnywhere is_cut → (q : Request) (qs : List Request) (n : ℕ) → IsInRange q → ((m : ℕ) → IsCut line is_cut m qs) → (o : Option (List ℕ)) → line q ≡ o
+      → IsCut line is_cut n (q ∷ qs)
+  cut_first is_cut anywhere q qs n fits rest None is =
       let r = rest n in let eq = log_text-unlogged line q in
-      (suc r.0, r.1, r.2, ap (take n) (eq qs is) ∙ r.3 ∙ ap (λ t. t ++ r.1) (sym (eq (take r.0 qs) is)))
-  cut_first q qs n fits rest (Some text) is =
+      (suc r.0, r.1, r.2, ap (take n) (eq qs is) ∙ r.3 ∙ ap (λ t. t ++ r.1) (sym (eq (take r.0 qs) is)), r.4)
+  cut_first is_cut anywhere q qs n fits rest (Some text) is =
       elim (cases_lt (length text) n) [
         | inl more ↦
             let m : ℕ = n - (length text + 1) in let r = rest m in
@@ -195,37 +200,43 @@ module _ {Record Slice Look Request Reply Act : Type 0} (rules : Rules Record Sl
                   ∙ take-append-add text (10 ∷ log_text line qs) (suc m) ∙ ap (λ t. text ++ 10 ∷ t) r.3
                   ∙ sym (append_assoc text (10 ∷ log_text line (take r.0 qs)) r.1)
                   ∙ ap (λ t. t ++ r.1) (sym (log_text-logged line q (take r.0 qs) text is)),
+              r.4,
             )
         | inr less ↦ (
           0,
           take n text,
           all-take _ n text (is_one_line q text fits is),
           ap (take n) (log_text-logged line q qs text is) ∙ take-append-le n text (10 ∷ log_text line qs) less,
+          inr (subst (λ o. IfSome o (λ own. is_cut (take n own) ≡ true)) is (anywhere q n fits)),
         )
       ]
 
-  pub cut_text : (qs : List Request) (n : ℕ) → AllByRecursion IsInRange qs → IsCut line n qs
-  cut_text [] n all = (0, [], tt, take_none n [] refl)
-  cut_text (q ∷ qs) n all = cut_first q qs n all.0 (λ m. cut_text qs m all.1) (line q) refl
+  pub cut_text : (is_cut : List ℕ → Bool) → IsCutAnywhere is_cut → (qs : List Request) (n : ℕ) → AllByRecursion IsInRange qs → IsCut line is_cut n qs
+  cut_text is_cut anywhere [] n all = (0, [], tt, take_none n [] refl, inl refl)
+  cut_text is_cut anywhere (q ∷ qs) n all = cut_first is_cut anywhere q qs n all.0 (λ m. cut_text is_cut anywhere qs m all.1) (line q) refl
 
   -- the text of requests whose keys are there is refused only for want of memory
-  pub never : (size : ℕ) (fault : OpenFault) (qs : List Request) (behind bytes : List ℕ) → AllByRecursion IsInRange qs → AllByRecursion (IsWithin rules size) qs →
-      length (lines_of line qs) < MOST_LINES → length bytes < 2 ^ 64 → HasNoEnd behind → bytes ≡ log_text line qs ++ behind →
-      IsOpenFault rules line IsInRange size fault bytes → IsForMemory fault
-  never size (NoRequest number) qs behind bytes all within few short cut is why =
+  pub never : (is_cut : List ℕ → Bool) (size : ℕ) (fault : OpenFault) (qs : List Request) (behind bytes : List ℕ) → AllByRecursion IsInRange qs → AllByRecursion (IsWithin rules size) qs →
+      length (lines_of line qs) < MOST_LINES → length bytes < 2 ^ 64 → HasNoEnd behind → IsTail is_cut behind → bytes ≡ log_text line qs ++ behind →
+      IsOpenFault rules line IsInRange is_cut size fault bytes → IsForMemory fault
+  never is_cut size (NoRequest number) qs behind bytes all within few short cut tail is why =
       let h = why.1 in
       let n = next_line (IsWithin rules size) qs h.before why.0 h.rest behind all within h.read.in_range h.read.read_back h.is_one cut (sym h.read.split ∙ is) in
       absurd (why.2 n.0 n.2 n.1)
-  never size (NoSuchKey number) qs behind bytes all within few short cut is why =
+  never is_cut size (NoSuchKey number) qs behind bytes all within few short cut tail is why =
       let back = why.1 in let h = why.2 in
       let n = next_line (IsWithin rules size) qs h.before back.text h.rest behind all within h.read.in_range h.read.read_back h.is_one cut (sym h.read.split ∙ is) in
       absurd (why.3 (subst (IsWithin rules size) (back.only n.0 n.2 n.1) n.3))
-  never size TooLong qs behind bytes all within few short cut is (inl long) = absurd (omega (arith, short, long))
-  never size TooLong qs behind bytes all within few short cut is (inr why) =
+  never is_cut size (Tail number) qs behind bytes all within few short cut tail is why =
+      let h = why.1 in
+      let same = same_table qs h.before [] why.0 behind all h.read.in_range h.read.read_back h.no_end cut (sym h.read.split ∙ is) in
+      absurd (why.2 (subst (IsTail is_cut) (sym same.2) tail))
+  never is_cut size TooLong qs behind bytes all within few short cut tail is (inl long) = absurd (omega (arith, short, long))
+  never is_cut size TooLong qs behind bytes all within few short cut tail is (inr why) =
       let read = why.2 in
       let fewer = fewer_lines qs why.0 why.1 behind all read.in_range read.read_back cut (sym read.split ∙ is) in
       absurd (omega (arith, few, fewer, why.3))
-  never size fault qs behind bytes all within few short cut is _ = tt
+  never is_cut size fault qs behind bytes all within few short cut tail is _ = tt
 
 pub lines_of-take-le : {Request : Type 0} (line : Request → Option (List ℕ)) (hs ps : List Request) (k : ℕ) → length (lines_of line (hs ++ take k ps)) ≤ length (lines_of line (hs ++ ps))
 lines_of-take-le line hs ps k =

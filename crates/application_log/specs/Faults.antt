@@ -3,11 +3,11 @@ use Rattle.std.specs.List.{AllByRecursion}
 use Rattle.std.specs.Prelude.{◌≡◌, ◌⊎◌, ◌≤◌, ◌+◌, ◌^◌, ℕ, Bool, List, ◌∷◌, ◌++◌, Option, Some, length, ⊤}
 use Rattle.part_log.specs.Files.{IsEndedAfter, IsFoundAfter}
 use Rattle.split_engine.specs.{Rules.{Rules}, Serial.{IsWithin}}
-use Rattle.application_log.specs.{Lines.{HasNoEnd}, Logs.{log_text, IsReadBack}}
+use Rattle.application_log.specs.{Lines.{HasNoEnd, IsTail}, Logs.{log_text, IsReadBack}}
 use Rattle.application_log.specs.declared.commit_log.CommitFault.{CommitFault}
 use Rattle.application_log.specs.declared.loggable.TheConstants.{MOST_LINES}
 use Rattle.application_log.specs.declared.opening.OpenFault.{OpenFault}
-use Rattle.application_log.specs.declared.opening.OpenFault.TheVariants.{NoRequest, NoSuchKey, TooLong, Read, Memory}
+use Rattle.application_log.specs.declared.opening.OpenFault.TheVariants.{NoRequest, NoSuchKey, Tail, TooLong, Read, Memory}
 use Rattle.application_log.specs.declared.commit_log.CommitFault.TheVariants as commit
 
 -- whether a fault is one of the log
@@ -48,17 +48,26 @@ module _ {Record Slice Look Request Reply Act : Type 0}
     pub is_one : HasNoEnd text
     pub number_is : number ≡ length before + 1
 
-  -- why bytes open no table of so many records
-  abbrev pub IsOpenFault : ℕ → OpenFault → List ℕ → Type 0
-  IsOpenFault size (NoRequest number) bytes = (text : List ℕ) × HasLine number text bytes
+  -- Bytes have a last line with this number, which has no end, and before it the lines of requests.
+  pub record HasTail (number : ℕ) (text bytes : List ℕ) : Type 0 where
+    pub before : List Request
+    pub read : BeginsWith before text bytes
+    pub no_end : HasNoEnd text
+    pub number_is : number ≡ length before + 1
+
+  -- why bytes open no table of so many records, by what may be cut
+  abbrev pub IsOpenFault : (List ℕ → Bool) → ℕ → OpenFault → List ℕ → Type 0
+  IsOpenFault is_cut size (NoRequest number) bytes = (text : List ℕ) × HasLine number text bytes
       × ((q : Request) → IsInRange q → line q ≡ Some text → ⊥)
-  IsOpenFault size (NoSuchKey number) bytes = (q : Request) × (back : IsReadBack line IsInRange q)
+  IsOpenFault is_cut size (NoSuchKey number) bytes = (q : Request) × (back : IsReadBack line IsInRange q)
       × HasLine number back.text bytes × (IsWithin rules size q → ⊥)
-  IsOpenFault size TooLong bytes = (2 ^ 64 ≤ length bytes)
+  IsOpenFault is_cut size (Tail number) bytes = (text : List ℕ) × HasTail number text bytes
+      × (IsTail is_cut text → ⊥)
+  IsOpenFault is_cut size TooLong bytes = (2 ^ 64 ≤ length bytes)
       ⊎ ((before : List Request) × (rest : List ℕ) × BeginsWith before rest bytes
       × (MOST_LINES ≤ length before))
-  IsOpenFault size (Read why) bytes = ⊤
-  IsOpenFault size Memory bytes = ⊤
+  IsOpenFault is_cut size (Read why) bytes = ⊤
+  IsOpenFault is_cut size Memory bytes = ⊤
 
 -- whether a log was not opened for want of memory, or because it could not be read
 abbrev pub IsForMemory : OpenFault → Type 0

@@ -1,6 +1,6 @@
 -- The lines of a text.
 use Rattle.std.specs.List.{AllByRecursion}
-use Rattle.std.specs.Prelude.{◌≡◌, ◌≢◌, ℕ, Bool, true, false, List, [], ◌∷◌, ◌++◌, Option, None, Some}
+use Rattle.std.specs.Prelude.{◌≡◌, ◌≢◌, ◌⊎◌, ℕ, Bool, true, false, List, [], ◌∷◌, ◌++◌, Option, None, Some}
 
 -- no line ends in a text
 abbrev pub HasNoEnd : List ℕ → Type 0
@@ -10,6 +10,10 @@ HasNoEnd = AllByRecursion (λ byte. byte ≢ 10)
 abbrev pub text_of : List (List ℕ) → List ℕ
 text_of [] = []
 text_of (line ∷ lines) = line ++ 10 ∷ text_of lines
+
+-- bytes behind the last line are nothing, or may be the beginning of a line
+abbrev pub IsTail : (List ℕ → Bool) → List ℕ → Type 0
+IsTail is_cut bytes = (bytes ≡ []) ⊎ (is_cut bytes ≡ true)
 
 -- a line was appended, if there is one
 abbrev pub IsWritten : Option (List ℕ) → List ℕ → List ℕ → Bool → Type 0

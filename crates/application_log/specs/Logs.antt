@@ -1,8 +1,9 @@
 -- What a log of requests says, and which table it opens.
 use Rattle.std.specs.List.{filter_map, AllByRecursion}
-use Rattle.std.specs.Prelude.{◌≡◌, ℕ, List, ◌++◌, Option, Some, fold, length, map}
+use Rattle.std.specs.Prelude.{◌≡◌, ℕ, Bool, List, ◌++◌, Option, Some, drop, fold, length, map, take}
 use Rattle.split_engine.specs.{Rules.{Rules}, Serial.{next}, declared.entry.Entry.{Entry}}
-use Rattle.application_log.specs.Lines.{HasNoEnd, text_of}
+use Rattle.part_log.specs.Files.{LogState}
+use Rattle.application_log.specs.Lines.{HasNoEnd, IsTail, text_of}
 
 -- the requests of a history
 abbrev pub requests_of : {Request Reply : Type 0} → List (Entry Request Reply) → List Request
@@ -47,3 +48,13 @@ module _ {Record Slice Look Request Reply Act : Type 0}
     pub opened : HasOpened table requests left lines kept
     pub text : bytes ≡ log_text line requests ++ behind
     pub cut : HasNoEnd behind
+
+  -- What bytes opened of a file, by what may be cut: so many of them were cut off, and the log has
+  -- accepted just those before.
+  pub record IsOpenedFrom (is_cut : List ℕ → Bool) (table left : List Record) (lines cut : ℕ)
+      (log : LogState) (bytes : List ℕ) : Type 0 where
+    pub kept : ℕ
+    pub opens : Opens table left lines kept bytes
+    pub accepted : log.accepted ≡ Some (take kept bytes)
+    pub cut_is : cut ≡ length (drop kept bytes)
+    pub tail : IsTail is_cut (drop kept bytes)

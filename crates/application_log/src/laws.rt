@@ -52,5 +52,5 @@ pub fn a_log_is_never_refused<A: Loggable>()
         length bytes < 2 ^ 64 →
         bytes ≡ log_text A.line (requests_of history)
         ++ take n (log_text A.line (requests_of part)) →
-        IsOpenFault A.rules A.line A.is_in_range size fault bytes → IsForMemory fault }
+        IsOpenFault A.rules A.line A.is_in_range A.is_cut size fault bytes → IsForMemory fault }
 {}

@@ -1,14 +1,15 @@
 //! How a log is read: line by line, each as the request whose line it is.
-ghost use Rattle.std.specs.Prelude.{◌≡◌, ◌++◌, ◌∷◌, List, ℕ, true, false, Some, IfErr, IfOk, IfSome};
+ghost use Rattle.std.specs.Prelude.{◌≡◌, ◌↔◌, ◌++◌, ◌∷◌, List, ℕ, IsTrue, true, false, Some, IfErr, IfOk, IfSome};
 ghost use Rattle.std.specs.declared.io.Error.{Error as IoError};
-ghost use Rattle.application_log.specs.Lines.{HasNoEnd};
+ghost use Rattle.application_log.specs.Lines.{HasNoEnd, IsTail};
 
 use crate::loggable::Loggable;
 use crate::opening::OpenFault;
 use std::alloc::AllocError;
 use std::io::BufRead;
 
-/// Reads the next line, without its end. If no line ends any more, it gives false.
+/// Reads the next line, without its end. If no line ends any more, it reads what is left, and gives
+/// false.
 pub(crate) fn read_whole_line<R: BufRead>(
     reader: &mut R,
     line: &mut Vec<u8>,
@@ -18,7 +19,7 @@ pub(crate) fn read_whole_line<R: BufRead>(
         R.remaining reader.old ≡ Some all → (rest : List ℕ)
         × (R.remaining reader.new ≡ Some rest) × (all ≡ line.new.items ++ 10 ∷ rest)) }
     ensures cut { IfOk result (λ is_whole. is_whole ≡ false →
-        IfSome (R.remaining reader.old) HasNoEnd) }
+        IfSome (R.remaining reader.old) (λ all. HasNoEnd all × (line.new.items ≡ all))) }
     ensures fault { IfErr result (λ fault. (why : IoError) × (fault ≡ OpenFault.Read why)) }
 {
     line.clear();
@@ -28,7 +29,19 @@ pub(crate) fn read_whole_line<R: BufRead>(
     let Some(last) = line.pop() else {
         return Ok(false);
     };
-    Ok(last == b'\n')
+    if last == b'\n' {
+        return Ok(true);
+    }
+    // It is no line's end, and stays.
+    line.push_reserved(last);
+    Ok(false)
+}
+
+/// Whether bytes behind the last line are nothing, or the beginning of a line.
+pub(crate) fn is_tail<A: Loggable>(bytes: &[u8]) -> bool
+    ensures { IsTrue result ↔ IsTail A.is_cut bytes.now }
+{
+    bytes.is_empty() || A::is_cut_line(bytes)
 }
 
 /// The request whose line this is, if there is one.

@@ -1,6 +1,7 @@
 -- The lines of requests, such as `add 2 30`.
-use Rattle.std.specs.Prelude.{◌≢◌, ℕ, ◌<◌, ◌^◌, length, slice_index, List, ◌∷◌, ◌++◌, Option, None, Some, codes, decimal, ⊤}
-use Rattle.example_ledger.specs.declared.ledger.LedgerRequest.{LedgerRequest}
+use Rattle.std.specs.{Char.{is_ascii_digit}, List.{list_all, starts_with}}
+use Rattle.std.specs.Prelude.{◌≢◌, ◌==◌, ◌&&◌, ◌||◌, Bool, ℕ, ◌<◌, ◌^◌, drop, length, nat_le, slice_index, List, ◌∷◌, ◌++◌, Option, None, Some, codes, decimal, if◌then◌else◌, ⊤}
+use Rattle.example_ledger.specs.declared.ledger.{LedgerRequest.{LedgerRequest}, TheConstants.{LONGEST}}
 use Rattle.example_ledger.specs.declared.ledger.LedgerRequest.TheVariants.{Add, Take, Held}
 
 -- two numbers with a blank between them
@@ -20,6 +21,21 @@ abbrev pub line_of : LedgerRequest → Option (List ℕ)
 line_of (Add to amount) = Some (words (codes "add") to amount)
 line_of (Take from amount) = Some (words (codes "take") from amount)
 line_of (Held of) = None
+
+-- a byte is of a number, or the blank before one
+abbrev pub is_of_numbers : ℕ → Bool
+is_of_numbers byte = is_ascii_digit byte || (byte == 32)
+
+-- bytes may be the beginning of a word and two numbers
+abbrev pub begins : List ℕ → List ℕ → Bool
+begins word text =
+    if starts_with (λ x y. x == y) text word then list_all is_of_numbers (drop (length word) text)
+    else starts_with (λ x y. x == y) word text
+
+-- bytes may be the beginning of a line that was being written: they are no longer than a line, and
+-- begin as one does
+abbrev pub is_cut : List ℕ → Bool
+is_cut text = nat_le (length text) LONGEST && (begins (codes "add ") text || begins (codes "take ") text)
 
 -- the numbers of a request are u32
 abbrev pub IsInRange : LedgerRequest → Type 0

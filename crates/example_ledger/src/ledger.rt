@@ -1,7 +1,7 @@
 //! A ledger of accounts, whose requests are lines of a log.
-ghost use Rattle.std.specs.List.{AllByRecursion};
+ghost use Rattle.std.specs.List.{list_all, AllByRecursion};
 ghost use Rattle.std.specs.Prelude.{◌≡◌, ◌++◌, ◌<◌, ◌^◌, ℕ, List, Some, IsSomeAnd, IsUtf8, OnOk, codes, decimal};
-ghost use Rattle.example_ledger.specs.Log.{numbers, words, HasNoBlank};
+ghost use Rattle.example_ledger.specs.Log.{begins, is_of_numbers, numbers, words, HasNoBlank};
 ghost use Rattle.example_ledger.specs.Model.{refused, taken, IsSmall};
 ghost use Rattle.example_ledger.specs.declared.ledger.LedgerRequest.TheVariants.{Add, Take};
 
@@ -41,6 +41,9 @@ pub enum Change {
 
 /// The ledger. A slice of an account is what a worker added to it.
 pub struct Ledger;
+
+// The most bytes that a line has, without its end: a word of four letters and two u32.
+const LONGEST: usize = 26;
 
 // Nothing is done.
 fn refused(reply: LedgerReply) -> Decision<LedgerReply, Change>
@@ -221,13 +224,50 @@ fn request_of(word: &str, account: u32, amount: u32) -> Option<LedgerRequest>
     }
 }
 
+/// The request of a line of standard input: `add` or `take` with an account and an amount, or `held`
+/// with an account.
+pub fn read_request(line: &str) -> Option<LedgerRequest> {
+    if let Some(account) = line.strip_prefix("held ") {
+        return number(account).map(|of| LedgerRequest::Held { of });
+    }
+    let (word, account, amount) = words_of(line)?;
+    request_of(word, account, amount)
+}
+
+// Whether a byte is of a number, or the blank before one.
+fn is_of_numbers(byte: u8) -> bool
+    ensures { result ≡ is_of_numbers byte }
+{
+    byte.is_ascii_digit() || byte == b' '
+}
+
+// Whether each byte is of numbers.
+fn are_of_numbers(bytes: &[u8]) -> bool
+    ensures { result ≡ list_all is_of_numbers bytes.now }
+{
+    bytes.iter().all(|byte| is_of_numbers(*byte))
+}
+
+// Whether bytes may be the beginning of this word and two numbers.
+fn begins(word: &[u8], text: &[u8]) -> bool
+    ensures { result ≡ begins word.now text.now }
+{
+    if text.starts_with(word) {
+        are_of_numbers(&text[word.len()..])
+    } else {
+        word.starts_with(text)
+    }
+}
+
 impl Loggable for Ledger {
-    ghost use Rattle.example_ledger.specs.Log.{line_of, IsInRange};
-    ghost use Rattle.example_ledger.specs.LogLaws.{ledger_one_line, ledger_does_nothing};
+    ghost use Rattle.example_ledger.specs.Log.{line_of, is_cut, IsInRange};
+    ghost use Rattle.example_ledger.specs.LogLaws.{ledger_one_line, ledger_cut_anywhere, ledger_does_nothing};
 
     ghost line = { line_of };
 
     ghost is_in_range = { IsInRange };
+
+    ghost is_cut = { is_cut };
 
     fn write_line(request: &LedgerRequest, buffer: &mut Vec<u8>) -> Result<bool, AllocError> {
         match *request {
@@ -243,6 +283,12 @@ impl Loggable for Ledger {
         let (word, account, amount) = words_of(line)?;
         request_of(word, account, amount)
     }
+
+    fn is_cut_line(text: &[u8]) -> bool {
+        text.len() <= LONGEST && (begins(b"add ", text) || begins(b"take ", text))
+    }
+
+    ghost cut_anywhere = { ledger_cut_anywhere };
 
     ghost one_line = { ledger_one_line };
 

@@ -1,6 +1,10 @@
-//! A ledger that is there after a restart: a run is logged before its replies are told, and what
-//! was logged is performed again at the next start. Between both, a line is cut.
+//! A ledger that is there after a restart: `example_ledger LOG < REQUESTS` performs requests, a line
+//! each, on what the log leaves, and logs them before their replies are told.
 #![tactic(auto)]
+
+ghost use Rattle.std.specs.{List.{AllByRecursion}, Prelude.{◌<◌, ℕ}};
+ghost use Rattle.split_engine.specs.Rules.{most_before};
+ghost use Rattle.example_ledger.specs.Model.{Fits};
 
 #[cfg(test)]
 mod calls;
@@ -8,25 +12,22 @@ mod ledger;
 #[cfg(test)]
 mod tests;
 
-use crate::ledger::Ledger;
-use crate::ledger::LedgerRequest::{Add, Held, Take};
-use anyhow::Result;
-use application_log::{CommitLog, OpenedLog, open_log};
-use ledger::LedgerRequest;
-use part_log::{FileLog, NamedFile};
+use crate::ledger::{Ledger, LedgerRequest, read_request};
+use anyhow::{Result, bail};
+use application_log::{LoggedTable, open_log_file};
+use part_log::NamedFile;
 use split_engine::{Outcome, Policy, check_scripts, run};
 use std::alloc::Global;
-use std::fs::{File, OpenOptions};
-use std::io::{BufReader, ErrorKind, Write};
-use std::rt::Files;
+use std::fmt::Display;
+use std::fs::File;
+use std::io::{Eprint, Read};
+use std::process::ExitCode;
+use std::rt::{Env, Files};
 use std::sync::Wait;
 use std::thread::Threads;
-use std::{fs, io};
+use std::{env, io};
 
-// The log, which is made anew and removed at the end.
-const PATH: &str = "ledger.log";
-
-// A joined phase with a request of each script and a split one with two, twice.
+// A joined phase with a request and a split one with two, twice.
 const POLICY: Policy = Policy {
     joined_quota: 1,
     split_quota: 2,
@@ -34,83 +35,96 @@ const POLICY: Policy = Policy {
     threshold: 1,
 };
 
-fn main(rt: HostRuntime) -> Result<()> {
-    let alloc = rt.alloc();
-    forget(&rt)?;
-    let first = vec![in alloc;
-        Add { to: 0, amount: 5 },
-        Held { of: 0 },
-        Add { to: 2, amount: 7 },
-    ]?;
-    let second = vec![in alloc; Add { to: 0, amount: 8 }, Take { from: 0, amount: 6 }]?;
-    start(&rt, &[first, second])?;
-    cut_a_line(&rt)?;
-    let third = vec![in alloc; Held { of: 0 }, Take { from: 2, amount: 9 }, Held { of: 2 }]?;
-    start(&rt, &[third])?;
-    start(&rt, &[])?;
-    forget(&rt)
+fn main(rt: HostRuntime) -> ExitCode {
+    match perform(&rt) {
+        Ok(status) => status,
+        Err(why) => failed(&rt, why),
+    }
 }
 
-// Opens the log, runs scripts on the accounts that it leaves, and tells their replies once they are
-// logged.
-fn start<R>(rt: &R, scripts: &[Vec<LedgerRequest>]) -> Result<()>
+// Tells why nothing more is done.
+fn failed<E: Display + Drop>(rt: &impl Eprint, why: E) -> ExitCode {
+    // What can't be written still has its status.
+    let _ = eprintln!(rt; "example_ledger: {why}");
+    ExitCode::FAILURE
+}
+
+// Opens the log that the program's words name, and serves standard input.
+fn perform<R>(rt: &R) -> Result<ExitCode>
 where
-    R: Files<File = File> + Threads + Wait + Sync + Print + Alloc<A = Global>,
+    R: Env
+        + Files<File = File>
+        + Threads
+        + Wait
+        + Sync
+        + Input
+        + Print
+        + Eprint
+        + Alloc<A = Global>,
 {
     let alloc = rt.alloc();
-    let file = open(rt)?;
-    let accounts = vec![in alloc; 0, 0, 0]?;
-    let mut reader = BufReader::new(alloc, &file)?;
-    let OpenedLog { table, lines, kept } = open_log::<Ledger, _>(alloc, &mut reader, accounts)?;
-    println!(rt; "the log has {lines} lines and {kept} bytes")?;
-    let file = NamedFile {
-        files: rt,
-        path: PATH,
-        file,
+    let words: Vec<String> = env::args(rt)?.collect(alloc)?;
+    let Some(path) = words.get(1) else {
+        bail!("no log is named");
     };
-    let mut log = CommitLog::new(alloc, FileLog::open(file, kept)?, lines);
-    check_scripts::<Ledger>(scripts, table.len())?;
-    let outcome = run::<Ledger, R>(rt, alloc, table, scripts, POLICY)?;
+    let accounts = vec![in alloc; 0, 0, 0]?;
+    match open_log_file::<Ledger, _>(rt, alloc, path.as_str(), accounts) {
+        Ok(opened) => serve(rt, path.as_str(), opened)?,
+        // This can't be told, since its line would stand in the log.
+        Err(fault) if fault.is_of_errors() => return Ok(ExitCode::FAILURE),
+        Err(fault) => return Ok(failed(rt, fault)),
+    }
+    Ok(ExitCode::SUCCESS)
+}
+
+// Performs the requests of standard input, and tells their replies once they are logged.
+fn serve<R>(rt: &R, path: &str, opened: LoggedTable<Ledger, NamedFile<'_, R>>) -> Result<()>
+where
+    R: Files<File = File> + Threads + Wait + Sync + Input + Print + Alloc<A = Global>,
+    requires { (n : ℕ) × (n < most_before) × AllByRecursion (Fits n) opened.table.items }
+{
+    let alloc = rt.alloc();
+    let LoggedTable {
+        table,
+        mut log,
+        cut,
+    } = opened;
+    println!(rt; "the log has {} lines", log.lines)?;
+    if cut > 0 {
+        println!(rt; "{cut} bytes of a cut line taken off the log, kept in {path}.cut")?;
+    }
+    let scripts = [read_requests(rt)?];
+    check_scripts::<Ledger>(&scripts, table.len())?;
+    let outcome = run::<Ledger, R>(rt, alloc, table, &scripts, POLICY)?;
     log.log_commits::<Ledger>(&outcome.history)?;
     tell(rt, &outcome)?;
     Ok(())
+}
+
+// The requests of standard input.
+fn read_requests<R: Input + Alloc<A = Global>>(rt: &R) -> Result<Vec<LedgerRequest>> {
+    let alloc = rt.alloc();
+    let mut text = String::new(alloc);
+    rt.reader().read_to_string(&mut text)?;
+    let mut requests = Vec::new(alloc);
+    for (index, line) in text.lines().enumerate() {
+        let Some(request) = read_request(line) else {
+            bail!("request {index}: neither add, take nor held");
+        };
+        requests.push(request)?;
+    }
+    Ok(requests)
 }
 
 // The replies of a run, and what the accounts hold after it.
 fn tell(rt: &impl Print, outcome: &Outcome<Ledger>) -> io::Result<()> {
     for piece in outcome.history.pieces() {
         for entry in piece {
-            println!(rt;
-                "worker {}, request {}: {:?}",
-                entry.worker, entry.index, entry.reply
-            )?;
+            println!(rt; "request {}: {:?}", entry.index, entry.reply)?;
         }
     }
     for (account, held) in outcome.table.iter().enumerate() {
         println!(rt; "account {account}: {held}")?;
     }
     Ok(())
-}
-
-// The file of the log, to read it and to add to its end.
-fn open<R: Files<File = File>>(rt: &R) -> Result<File> {
-    let mut how = OpenOptions::new();
-    let file = how.read(true).append(true).create(true).open(rt, PATH)?;
-    Ok(file)
-}
-
-// A line that a crash has cut.
-fn cut_a_line<R: Files<File = File>>(rt: &R) -> Result<()> {
-    let mut file = open(rt)?;
-    file.write_all(b"add 0 10")?;
-    Ok(())
-}
-
-// Removes the log, if there is one.
-fn forget<R: Files>(rt: &R) -> Result<()> {
-    match fs::remove_file(rt, PATH) {
-        Ok(()) => Ok(()),
-        Err(why) if why.kind() == ErrorKind::NotFound => Ok(()),
-        Err(why) => Err(why.into()),
-    }
 }

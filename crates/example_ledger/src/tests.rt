@@ -81,6 +81,44 @@ fn a_cut_line_is_not_performed(rt: HostRuntime) -> Result<(), Fail> {
     assert_eq!(rt; log.table.as_slice(), [3, 4294967295].as_slice());
     assert_eq!(rt; log.lines, 3);
     assert_eq!(rt; log.kept, 34);
+    assert_eq!(rt; log.tail.as_slice(), b"add 1 7".as_slice());
+    Ok(())
+}
+
+// What no crash leaves of a line: the file is no log, or another program has written to it.
+#[test]
+fn an_end_that_begins_no_line_is_named(rt: HostRuntime) -> Result<(), Fail> {
+    let alloc = rt.alloc();
+    for end in [
+        r#"{"accounts": [1, 2, 3]}"#,
+        "adds",
+        "held 0",
+        "add 0 5\0",
+        "take 0 5\r",
+        "take the bus",
+        "take 4294967295 42949672950",
+    ] {
+        for (before, number) in [("", 1), ("add 0 5\n", 2)] {
+            let text = format!(in alloc; "{before}{end}")?;
+            let fault = opened(alloc, text.as_bytes())?.err();
+            assert!(rt;
+                matches!(fault, Some(OpenFault::Tail(line)) if line == number),
+                "{end}"
+            );
+        }
+    }
+    Ok(())
+}
+
+#[test]
+fn each_beginning_of_a_line_may_be_cut(rt: HostRuntime) -> Result<(), Fail> {
+    let alloc = rt.alloc();
+    for line in ["add 0 0", "take 4294967295 4294967295"] {
+        for end in 0..line.len() {
+            let log = opened(alloc, &line.as_bytes()[..end])??;
+            assert_eq!(rt; log.tail.as_slice(), &line.as_bytes()[..end]);
+        }
+    }
     Ok(())
 }
 

@@ -1,7 +1,6 @@
 pub mod AcceptedLemmas
 pub mod BookReadLemmas
 pub mod DifferenceLemmas
-pub mod FileLemmas
 pub mod NeverLemmas
 pub mod OpenedLemmas
 pub mod PartLemmas

@@ -1,3 +1,2 @@
 -- What no contract of a public function names.
-pub mod Files
 pub mod Reading

@@ -4,35 +4,15 @@ ghost use Rattle.auction_rows.specs.Book.{Book};
 ghost use Rattle.phase_floor.specs.Adding.{IsSameAuction, IsStartOf};
 ghost use Rattle.auction_text.specs.RowLines.{rows_text};
 ghost use Rattle.log_opening.specs.Opening.{IsRefusedBy, Opens, OpensWith, TellsFirst};
-ghost use Rattle.log_opening.specs.inner.Files.{bytes_from};
 
 use crate::opening::{LoggedAuction, OpenFault, open_parts};
 use byte_texts::UntilEnd;
+use log_file::FromStart;
 use part_log::{AppendFile, FileLog};
 use phase_floor::Joined;
 use std::alloc::Global;
 use std::io;
-use std::io::{Read, Write};
-
-// A file that is read from its start: the next byte is at this place.
-#[derive(Drop)]
-struct FromStart<'a, F> {
-    file: &'a F,
-    at: u64,
-}
-
-impl<F: AppendFile> Read for FromStart<'_, F> {
-    ghost remaining = { λ r. bytes_from r.at (F.held r.file.now) };
-
-    fn read(&mut self, buf: &mut [u8]) -> io::Result<usize> {
-        let given = self.file.read_at(self.at, buf)?;
-        let Some(at) = self.at.checked_add(given as u64) else {
-            return Err(io::Error::from(io::ErrorKind::FileTooLarge));
-        };
-        self.at = at;
-        Ok(given)
-    }
-}
+use std::io::Write;
 
 /// Reads the file of a log, as `open_parts` does. The file stays as it is: what is behind the rows
 /// is cut off by `cut_log`, once it is kept elsewhere.
@@ -50,7 +30,7 @@ pub fn read_log<F: AppendFile, W: Write>(
     ensures told { IfErr result (λ _. TellsFirst (F.held file.now)
         (W.contents told.old) (W.contents told.new)) }
 {
-    let mut reader = UntilEnd::of(FromStart { file, at: 0 });
+    let mut reader = UntilEnd::of(FromStart::of(file));
     open_parts(alloc, &mut reader, auction, told)
 }
 

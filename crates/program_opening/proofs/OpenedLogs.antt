@@ -3,14 +3,14 @@ use Rattle.std.proofs.Common.{◌≡◌, ◌++◌, ◌∙◌, [], ℕ, List, Opt
 use Rattle.std.{proofs.lemmas.List.{take-append-drop, take_all}, specs.Io.KnownBytes.{Appends}}
 use Rattle.auction_rows.specs.Book.{Book}
 use Rattle.auction_text.specs.RowLines.{rows_text}
+use Rattle.log_file.specs.Faults.{NamesFile, text_cause}
+use Rattle.log_file.specs.declared.faults.{LogCause.{LogCause}, LogFileFault.{LogFileFault}}
+use Rattle.log_file.specs.declared.faults.LogFileFault.TheVariants.{At, Memory}
 use Rattle.log_opening.specs.Opening.{HasRowsAndTail, Opens, OpensWith, TellsFirst}
 use Rattle.log_opening.specs.declared.opening.{LoggedAuction.{LoggedAuction}, OpenFault.{OpenFault}}
 use Rattle.part_log.specs.Files.{LogState}
-use Rattle.program_opening.specs.Opened.{IsOpenedFrom, IsTextOf, NamesFile, text_cause, text_fault}
+use Rattle.program_opening.specs.Opened.{IsOpenedFrom, IsTextOf, text_fault}
 use Rattle.program_opening.specs.declared.faults.Fault.{TheVariants.{OpenLog}, Fault}
-use Rattle.program_opening.specs.declared.log_file.LogCause.{LogCause}
-use Rattle.program_opening.specs.declared.log_file.LogFileFault.{LogFileFault}
-use Rattle.program_opening.specs.declared.log_file.LogFileFault.TheVariants.{At, Memory}
 
 -- a text is what its rows and its tail are
 split_at : (text : List ℕ) (book : Book) (logged : LoggedAuction) → HasRowsAndTail text book logged → text ≡ rows_text book [] ++ logged.tail.items
@@ -52,11 +52,11 @@ told_whole text told now logged was =
       text_is = front text was.book logged was.opens;
     }
 
-of_file : (path : List ℕ) (cause : LogCause) (told : LogFileFault) (Q : OpenFault → Type 0) → NamesFile path cause told → IfSome (text_cause cause) Q → IfSome (text_fault (OpenLog told)) Q
+of_file : (path : List ℕ) (cause : LogCause OpenFault) (told : LogFileFault OpenFault) (Q : OpenFault → Type 0) → NamesFile path cause told → IfSome (text_cause cause) Q → IfSome (text_fault (OpenLog told)) Q
 of_file path cause (At name is) Q names holds = subst (λ c. IfSome (text_cause c) Q) (sym names.1) holds
 of_file path cause Memory Q names holds = tt
 
 -- a fault that names a log and a cause tells what is wrong with its text if the cause does
-pub tells_cause : (path : List ℕ) (cause : LogCause) (told : LogFileFault) (fault : Fault) (Q : OpenFault → Type 0) → NamesFile path cause told → fault ≡ OpenLog told
+pub tells_cause : (path : List ℕ) (cause : LogCause OpenFault) (told : LogFileFault OpenFault) (fault : Fault) (Q : OpenFault → Type 0) → NamesFile path cause told → fault ≡ OpenLog told
     → IfSome (text_cause cause) Q → IfSome (text_fault fault) Q
 tells_cause path cause told fault Q names same holds = subst (λ f. IfSome (text_fault f) Q) (sym same) (of_file path cause told Q names holds)

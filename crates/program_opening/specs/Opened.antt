@@ -1,25 +1,14 @@
 -- What a start opens of a log.
 use Rattle.std.specs.Io.KnownBytes.{Appends}
-use Rattle.std.specs.Prelude.{◌≡◌, ◌++◌, ℕ, true, false, List, [], Option, None, Some, IfSome, length, string_bytes}
+use Rattle.std.specs.Prelude.{◌≡◌, ◌++◌, ℕ, true, false, List, [], Option, None, Some, IfSome, length}
 use Rattle.auction_rows.specs.Book.{Book}
 use Rattle.phase_floor.specs.{Adding.{IsStartOf}, States.{JoinedState}}
 use Rattle.auction_text.specs.RowLines.{rows_text}
+use Rattle.log_file.specs.Faults.{text_cause}
+use Rattle.log_file.specs.declared.faults.LogFileFault.TheVariants.{At}
 use Rattle.part_log.specs.Files.{LogState}
 use Rattle.log_opening.specs.{CutRows.{is_cut_row}, declared.opening.OpenFault.{OpenFault}}
 use Rattle.program_opening.specs.declared.faults.Fault.{TheVariants.{OpenLog}, Fault}
-use Rattle.program_opening.specs.declared.log_file.LogCause.{TheVariants.{Text}, LogCause}
-use Rattle.program_opening.specs.declared.log_file.LogFileFault.{LogFileFault}
-use Rattle.program_opening.specs.declared.log_file.LogFileFault.TheVariants.{At, Memory}
-
--- a fault names a file and what is wrong with it, unless it is one of memory
-abbrev pub NamesFile : List ℕ → LogCause → LogFileFault → Type 0
-NamesFile path cause (At name told) = (string_bytes name ≡ path) × (told ≡ cause)
-NamesFile path cause Memory = Unit {0}
-
--- what is wrong with the text of a log, if this cause is of it
-abbrev pub text_cause : LogCause → Option OpenFault
-text_cause (Text fault) = Some fault
-text_cause _ = None
 
 -- what is wrong with the text of a log, if this fault tells it
 abbrev pub text_fault : Fault → Option OpenFault

@@ -3,11 +3,12 @@ ghost use Rattle.std.specs.{Io.KnownBytes.{Appends}, Prelude.{◌≡◌, IfErr, 
 ghost use Rattle.byte_texts.specs.declared.writing.WriteFault.{WriteFault};
 ghost use Rattle.program_opening.specs.Faults.{status, parser_words};
 
-use crate::log_file::LogFileFault;
 use auction_text::ReadFault;
 use auction_window::MakeFault;
 use byte_texts::WriteFault;
 use item_shards::ResumeFault;
+use log_file::LogFileFault;
+use log_opening::OpenFault;
 use part_log::{LogFault, TellFault};
 use phase_floor::AddFault;
 use program_options::UsageFault;
@@ -47,7 +48,7 @@ pub enum Fault {
     Report,
     /// The log could not be opened, or took no more rows.
     #[error("{0}")]
-    OpenLog(LogFileFault),
+    OpenLog(LogFileFault<OpenFault>),
     /// Rows could not be logged.
     #[error("log {0}")]
     Log(LogFault),
@@ -103,12 +104,12 @@ impl From<WriteFault> for Fault {
     }
 }
 
-impl From<LogFileFault> for Fault {
+impl From<LogFileFault<OpenFault>> for Fault {
     ghost use Rattle.program_opening.specs.declared.faults.Fault.TheVariants.{OpenLog};
 
     ghost from_gives = { λ cause fault. fault ≡ OpenLog cause };
 
-    fn from(cause: LogFileFault) -> Fault {
+    fn from(cause: LogFileFault<OpenFault>) -> Fault {
         Fault::OpenLog(cause)
     }
 }
@@ -142,7 +143,8 @@ pub fn status(fault: &Fault) -> u8
 }
 
 /// Writes the line of a fault. The words of the parser of options stand as they are, without the
-/// program's name. It takes no memory, so `Write` is the only fault.
+/// program's name. Nothing is written of a log that is standard error, which would have the line. It
+/// takes no memory, so `Write` is the only fault.
 pub fn write_fault<W: Write>(writer: &mut W, fault: &Fault) -> Result<(), WriteFault>
     ensures words { OnOk result (IfSome (parser_words fault.now)
         (Appends (W.contents writer.old) (W.contents writer.new))) }
@@ -150,6 +152,7 @@ pub fn write_fault<W: Write>(writer: &mut W, fault: &Fault) -> Result<(), WriteF
 {
     let written = match fault {
         Fault::Usage(UsageFault::Text(text)) => writer.write_all(text.as_bytes()),
+        Fault::OpenLog(fault) if fault.is_of_errors() => Ok(()),
         _ => writeln!(writer, "rubis_auction: {fault}"),
     };
     written.map_err(|_| WriteFault::Write)

@@ -3,7 +3,7 @@
 #![tactic(auto)]
 
 mod faults;
-mod log_file;
+mod opened_log;
 mod opening;
 mod options;
 
@@ -12,8 +12,9 @@ pub use auction_window::MakeFault;
 pub use byte_texts::WriteFault;
 pub use faults::{Fault, status, write_fault};
 pub use item_shards::ResumeFault;
-pub use log_file::{LogCause, LogFileFault, OpenedLog, open_log};
+pub use log_file::{LogCause, LogFileFault};
 pub use log_opening::OpenFault;
+pub use opened_log::{OpenedLog, open_log};
 pub use opening::new_auction;
 pub use options::{Options, read_options};
 pub use part_log::{FileLog, LogFault, NamedFile};

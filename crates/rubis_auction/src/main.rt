@@ -164,15 +164,6 @@ where
     serve_input(rt, errors, source, NoLog, user, options)
 }
 
-// Files that are open to the end. If standard input, output or error is closed, the first have its
-// place, and the log cannot get it: a folder can be neither read nor written.
-fn held_places<R: Files<File = File>>(rt: &R) -> io::Result<(File, File, File)> {
-    let first = File::open(rt, "/")?;
-    let second = File::open(rt, "/")?;
-    let third = File::open(rt, "/")?;
-    Ok((first, second, third))
-}
-
 // Serves standard input after the rows of the log at a path, and logs those that are added.
 fn serve_logged<R, E>(
     rt: &R,
@@ -189,10 +180,6 @@ where
     requires { IsStartOf auction [] }
 {
     let alloc = rt.alloc();
-    let _places = match held_places(rt) {
-        Ok(places) => places,
-        Err(why) => return Err(LogFileFault::at(alloc, path, LogCause::Read(why)).into()),
-    };
     let opened = if options.rows {
         open_log(rt, alloc, path, auction, &mut io::writer(rt))?
     } else {

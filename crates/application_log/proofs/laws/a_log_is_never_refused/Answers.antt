@@ -15,7 +15,7 @@ returns g c size n bytes history part fault all within few short is why =
     let both = subst (AllByRecursion fits) split all in
     let in_table = subst (AllByRecursion (IsWithin s.rules size)) split within in
     let one = g.met.A.Loggable.one_line in let nothing = g.met.A.Loggable.does_nothing in
-    let cut = cut_text s.rules line fits one nothing ps n (all-right fits hs ps both) in
+    let cut = cut_text s.rules line fits one nothing g.A.Loggable.is_cut g.met.A.Loggable.cut_anywhere ps n (all-right fits hs ps both) in
     let qs = hs ++ take cut.0 ps in
     let are = all-append fits hs (take cut.0 ps) (all-left fits hs ps both) (all-take fits cut.0 ps (all-right fits hs ps both)) in
     let have = all-append (IsWithin s.rules size) hs (take cut.0 ps) (all-left (IsWithin s.rules size) hs ps in_table)
@@ -25,4 +25,4 @@ returns g c size n bytes history part fault all within few short is why =
     let text : bytes ≡ log_text line qs ++ cut.1 =
     is ∙ ap (λ t. log_text line hs ++ t) cut.3 ∙ sym (append_assoc (log_text line hs) (log_text line (take cut.0 ps)) cut.1)
     ∙ ap (λ t. t ++ cut.1) (sym (log_text-append line hs (take cut.0 ps))) in
-    never s.rules line fits one nothing size fault qs cut.1 bytes are have (omega (arith, few_taken, few_all)) short cut.2 text why
+    never s.rules line fits one nothing g.A.Loggable.is_cut size fault qs cut.1 bytes are have (omega (arith, few_taken, few_all)) short cut.2 cut.4 text why

@@ -20,7 +20,7 @@ returns-clause-crashed g c opened left lines kept n bytes history part all is o 
     let s = g.A.Application in let line = g.A.Loggable.line in let fits = g.A.Loggable.is_in_range in
     let hs = requests_of history in let ps = requests_of part in
     let both = subst (AllByRecursion fits) (requests_of-append history part) all in
-    let cut = cut_text s.rules line fits g.met.A.Loggable.one_line g.met.A.Loggable.does_nothing ps n (all-right fits hs ps both) in
+    let cut = cut_text s.rules line fits g.met.A.Loggable.one_line g.met.A.Loggable.does_nothing g.A.Loggable.is_cut g.met.A.Loggable.cut_anywhere ps n (all-right fits hs ps both) in
     let k = cut.0 in
     let same = same_table s.rules line fits g.met.A.Loggable.one_line g.met.A.Loggable.does_nothing (hs ++ take k ps) o.requests opened o.behind cut.1
     (all-append fits hs (take k ps) (all-left fits hs ps both) (all-take fits k ps (all-right fits hs ps both)))

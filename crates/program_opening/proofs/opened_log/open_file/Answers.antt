@@ -1,7 +1,7 @@
 use Rattle.std.proofs.Common.{◌≡◌, ◌∙◌, length}
 use Rattle.program_opening.proofs.OpenedLogs.{opened_from, tells_cause, told_whole}
-use Rattle.program_opening.specs.declared.log_file.LogCause.TheVariants.{Text}
-use Rattle.program_opening.proofs.log_file.open_file.Goals as goal
+use Rattle.log_file.specs.declared.faults.LogCause.TheVariants.{Text}
+use Rattle.program_opening.proofs.opened_log.open_file.Goals as goal
 
 pub cut_log-requires : goal.cut_log-requires
 cut_log-requires g c = let was = c.in-Ok.ensures.opens in (was.book, was.opens)

@@ -1,6 +1,6 @@
 use Rattle.std.proofs.{Common.{rules, ◌≡◌, ◌+◌, take}, lemmas.List.{length-take-le}}
-use Rattle.log_opening.proofs.FileLemmas.{ends_at, read_from}
-use Rattle.log_opening.proofs.files.FromStartRead.read.Goals as goal
+use Rattle.log_file.proofs.FileLemmas.{ends_at, read_from}
+use Rattle.log_file.proofs.reading.FromStartRead.read.Goals as goal
 
 pub returns-clause-bytes : goal.returns-clause-bytes
 returns-clause-bytes g c =

@@ -1,6 +1,6 @@
 use Rattle.std.proofs.lemmas.Result.{IfOk-weaker}
 use Rattle.phase_floor.specs.Adding.{HasBook}
-use Rattle.program_opening.proofs.log_file.open_log.Goals as goal
+use Rattle.program_opening.proofs.opened_log.open_log.Goals as goal
 
 pub returns-in-Ok-clause-opens : goal.returns-in-Ok-clause-opens
 returns-in-Ok-clause-opens g c = c.open_file.ensures.opens
