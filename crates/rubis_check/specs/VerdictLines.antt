@@ -1,5 +1,6 @@
 -- The line that says what is found of a history.
-use Rattle.std.specs.Prelude.{ℕ, List, [], ◌++◌, Option, Some, None, codes, decimal}
+use Rattle.std.specs.Prelude.{ℕ, List, [], ◌++◌, Option, Some, None, codes, decimal, map, if◌then◌else◌}
+use Rattle.auction_text.specs.Fields.{is_printing}
 use Rattle.auction_text.specs.Replies.{reply_text}
 use Rattle.byte_texts.specs.Labels.{labelled}
 use Rattle.history_check.specs.{CommitIds.{IsLineOf}, declared.lines.CommitId.{CommitId}}
@@ -13,13 +14,17 @@ abbrev pub place_text : CommitId → List ℕ
 place_text commit_id =
     decimal commit_id.worker ++ labelled (codes ",") commit_id.index ++ codes " "
 
+-- a byte as it is shown: a question mark, which is 63, in place of one that does not print
+abbrev pub shown_byte : ℕ → ℕ
+shown_byte byte = if is_printing byte then byte else 63
+
 -- what is wrong with a line that has this reply
 abbrev pub reason_text : List ℕ → Wrong → List ℕ
 reason_text reply Unreadable = codes "not PHASE NUMBER WORKER INDEX TEXT and a line feed\n"
 reason_text reply NoRequest = codes "stands in no script\n"
 reason_text reply Again = codes "stands in an earlier line\n"
 reason_text reply Late = codes "stands after a later request of its script\n"
-reason_text reply (Due due) = reply ++ codes " but " ++ reply_text due ++ codes " was due\n"
+reason_text reply (Due due) = map shown_byte reply ++ codes " but " ++ reply_text due ++ codes " was due\n"
 
 -- what is said of a wrong line, by the commit and the reply that it has, if it can be read
 abbrev pub wrong_text : Option CommitId → List ℕ → Wrong → List ℕ

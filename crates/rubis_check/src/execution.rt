@@ -1,12 +1,12 @@
 //! From the bytes of rows and scripts and those of a history to what is found of the history, as a
 //! line and as an exit status.
 ghost use Rattle.std.specs.Io.KnownBytes.{Appends};
-ghost use Rattle.std.specs.Prelude.{◌≡◌, ◌≤◌, ◌++◌, Err, IfErr, IfOk, IfSome, OnOk};
+ghost use Rattle.std.specs.Prelude.{◌≡◌, ◌≤◌, ◌++◌, Err, IfErr, IfOk, IfSome, OnOk, map};
 ghost use Rattle.byte_texts.specs.Writing.{IsPartWritten};
 ghost use Rattle.byte_texts.specs.declared.writing.WriteFault.{WriteFault};
 ghost use Rattle.rubis_check.specs.{Causes.{IsCausedBy}, Faults.{verdict_status}};
 ghost use Rattle.rubis_check.specs.Finding.{Tells, TellsSome};
-ghost use Rattle.rubis_check.specs.VerdictLines.{place_text, reason_text, Says, SaysWrong};
+ghost use Rattle.rubis_check.specs.VerdictLines.{place_text, reason_text, shown_byte, Says, SaysWrong};
 
 use crate::faults::Fault;
 use crate::options::Options;
@@ -70,6 +70,28 @@ pub fn verdict_status(verdict: &Verdict) -> u8
     }
 }
 
+// A byte as it is shown: a question mark in place of one that does not print, which could steer a
+// terminal.
+fn shown(byte: u8) -> u8
+    ensures { result ≡ shown_byte byte }
+{
+    if 0x20 <= byte && byte <= 0x7E {
+        byte
+    } else {
+        b'?'
+    }
+}
+
+// Adds a text as it is shown.
+fn push_shown(text: &mut Vec<u8>, bytes: &[u8]) -> Result<(), AllocError>
+    ensures { OnOk result (text.new.items ≡ text.old.items ++ map shown_byte bytes.now) }
+{
+    for at in 0..bytes.len() {
+        text.push(shown(bytes[at]))?;
+    }
+    Ok(())
+}
+
 // Adds what is wrong with a line of a history that has this reply.
 fn push_reason(text: &mut Vec<u8>, reply: &[u8], wrong: &Wrong) -> Result<(), AllocError>
     ensures { OnOk result (text.new.items ≡ text.old.items ++ reason_text reply.now wrong.now) }
@@ -83,7 +105,7 @@ fn push_reason(text: &mut Vec<u8>, reply: &[u8], wrong: &Wrong) -> Result<(), Al
         Wrong::Again => push_text(text, b"stands in an earlier line\n"),
         Wrong::Late => push_text(text, b"stands after a later request of its script\n"),
         Wrong::Due(due) => {
-            push_text(text, reply)?;
+            push_shown(text, reply)?;
             push_text(text, b" but ")?;
             push_reply(text, due)?;
             push_text(text, b" was due\n")

@@ -5,12 +5,14 @@
 mod execution;
 mod faults;
 mod options;
+mod short_lines;
 
 ghost use Rattle.std.specs.Prelude.{◌≤◌};
 
 use crate::execution::{execute, verdict_status};
 use crate::faults::{Fault, status, write_fault};
 use crate::options::{Options, read_options};
+use crate::short_lines::ShortLines;
 use byte_texts::UntilEnd;
 use history_check::{CheckFault, Verdict};
 use program_options::program_words;
@@ -57,7 +59,7 @@ where
 {
     let alloc = rt.alloc();
     let file = match File::open(rt, options.history.as_str()) {
-        Ok(file) => file,
+        Ok(file) => ShortLines::of(file),
         Err(why) => return Err(Fault::History(options.history, why)),
     };
     let Ok(mut history) = BufReader::with_capacity(alloc, HISTORY_ROOM, file) else {
