@@ -12,6 +12,7 @@ written by hand says which reply was due.
 import itertools
 import os
 import random
+import resource
 import sys
 from argparse import Namespace
 from dataclasses import replace
@@ -28,6 +29,7 @@ from lib.program import (
     BUILT,
     DOCUMENTS,
     EXAMPLES,
+    LITTLE_MEMORY,
     TESTS,
     Tally,
     build_shim,
@@ -204,7 +206,7 @@ NO_LINES = (
     (b"0 8 1 4294967296 comment 1.0\n", "an index past 32 bits"),
     (b"\xef\xbb\xbf0 8 1 3 comment 1.0\n", "a byte order mark"),
     (b"\0\n", "a byte 0"),
-    (b"9" * 1_000_000 + b"\n", "a long line"),
+    (b"9" * READ_AT_ONCE + b"\n", "a long line"),
     (b"\xff\xfe 8 1 3 comment 1.0\n", "bytes that are no text"),
 )
 
@@ -282,7 +284,8 @@ def by_hand(tester: CheckerTester) -> None:
     for number, text, what in OTHER_REPLIES:
         *place, due = RIGHT[number - 1].split(" ", 4)
         changed = [*RIGHT[: number - 1], " ".join([*place, text]), *RIGHT[number:]]
-        tester.finds(what, SCRIPTS, lines(changed), f"line {number}: {place[2]},{place[3]} {text} but {due} was due")
+        found = f"line {number}: {place[2]},{place[3]} {printed(text.encode())} but {due} was due"
+        tester.finds(what, SCRIPTS, lines(changed), found)
     for number, count, other, found, what in OTHER_LINES:
         changed = [*RIGHT[: number - 1], *other, *RIGHT[number - 1 + count :]]
         tester.finds(what, SCRIPTS, lines(changed), found)
@@ -322,6 +325,38 @@ def across_reads(tester: CheckerTester) -> None:
         ):
             history = lines([*right[: at - 1], longer, text, *right[at + 1 :]])
             tester.finds(f"{before} bytes of a line before the end of a read, {text!r}", scripts, history, found)
+
+
+def endless_lines(tester: CheckerTester) -> None:
+    """a history with a line longer than 65,536 bytes: a fault at once, in little memory"""
+    endless, long = tester.folder / "endless", tester.folder / "long"
+    long.write_bytes(lines(RIGHT) + b"0 0 0 0 " + b"x" * (READ_AT_ONCE + 1))
+    endless.symlink_to("/dev/zero")
+    for path in (endless, long):
+        got = run(
+            [tester.checker, *words_of(FEW), "--history", path],
+            SCRIPTS,
+            preexec_fn=little_memory,
+        )
+        words = f"rubis_check: {path}: cannot be read: a line has more than 65536 bytes\n".encode()
+        tester.tally.same(f"{path.name} as a history", got, Outcome(2, b"", words))
+
+
+def little_memory() -> None:
+    resource.setrlimit(resource.RLIMIT_AS, (LITTLE_MEMORY, LITTLE_MEMORY))
+
+
+def quoted_bytes(tester: CheckerTester) -> None:
+    """a wrong reply with bytes that steer a terminal: a question mark is shown in place of each"""
+    replies = (b"item \x1b[2J0.0", b"\x1b]0;title\x07", b"item\t0.0\r", bytes(range(1, 10)), b"\x9b2J", b"item 0.0\x7f")
+    for reply in replies:
+        found = f"line 1: 0,0 {printed(reply)} but item 0.0 was due"
+        tester.finds(f"{reply!r} as a reply", SCRIPTS, b"0 0 0 0 " + reply + b"\n", found)
+
+
+def printed(reply: bytes) -> str:
+    """A reply as the referee shows it."""
+    return "".join(chr(byte) if 0x20 <= byte <= 0x7E else "?" for byte in reply)
 
 
 def orders(tester: CheckerTester) -> None:
@@ -613,6 +648,8 @@ CHECKS = (
     by_hand,
     malformed_lines,
     across_reads,
+    endless_lines,
+    quoted_bytes,
     orders,
     opening_rows,
     faults,

@@ -1,9 +1,9 @@
 #!/usr/bin/env python3
 """Shows what the log of `--log` keeps, as docs/FORMATS.md and docs/SERVING.md say: a log that is locked, forbidden,
 cut, changed, moved, or none; writes, syncs and cuts of it that fail, full disks and no memory, after which nothing
-answered is lost; and a start right after a kill.
+answered is lost; and a start right after a kill. What is said of any log is shown of the example of a ledger too.
 
-    tests/logs.py [PROGRAM] [--only CHECK]
+    tests/logs.py [PROGRAM [LEDGER]] [--only CHECK]
 """
 
 import errno
@@ -15,14 +15,27 @@ import resource
 import shutil
 import signal
 import subprocess
+from argparse import Namespace
 from contextlib import suppress
+from dataclasses import dataclass
 from functools import partial
 from pathlib import Path
-from typing import Iterable
+from typing import Any, Iterable
 
-from lib.checks import AuctionTester, main, with_shim
+from lib.checks import AuctionTester, make_all, with_shim
 from lib.model import Options, Outcome, expected
-from lib.program import NOBODY, become_nobody, build_shim, described, run
+from lib.program import (
+    BUILT,
+    NOBODY,
+    Tally,
+    become_nobody,
+    build_shim,
+    built,
+    described,
+    executable,
+    parser_of,
+    run,
+)
 from lib.refusing import UNREACHED_IN_A_ROW, Refusing
 from lib.sessions import (
     FIRST,
@@ -52,6 +65,179 @@ REFUSED_ROWS = (
 SEEN = "user rating=0 comments=0"
 UNREAD, UNWRITTEN, UNSYNCED, UNCUT = "cannot be read", "cannot be written", "cannot be synced", "cannot be cut back"
 CHANGED = "changed, moved or removed by another program"
+
+
+# Any log.
+
+
+@dataclass(frozen=True)
+class Logged:
+    """A program that has a log: its command but for the log's name, a log's lines, the beginning of another line, a
+    request and the line that it adds, and the status where the log is refused."""
+
+    name: str
+    command: tuple[str | Path, ...]
+    lines: bytes
+    cut: bytes
+    asked: bytes
+    added: bytes
+    refused: int
+
+    def run(self, log: Path, asked: bytes | None = None, **how: Any) -> Outcome:
+        return run([*self.command, log], self.asked if asked is None else asked, **how)
+
+    def redirected(self, log: Path, words: str) -> Outcome:
+        """A run of a shell that redirects its streams."""
+        return run(["sh", "-c", f'exec "$@" {words}', "sh", *self.command, log], self.asked)
+
+    def told(self, log: Path, words: str) -> bytes:
+        return f"{self.name}: {log}: {words}\n".encode()
+
+
+class LogTester(AuctionTester):
+    """Has the example of a ledger too."""
+
+    def __init__(self, asked: Namespace, folder: Path, tally: Tally) -> None:
+        super().__init__(asked, folder, tally)
+        auction = (asked.program, "--live", "1", "--log")
+        bid = b"bid,1,0.0,20,5\n"
+        self.ledger = Logged(
+            "example_ledger", (asked.ledger,), b"add 0 5\ntake 0 2\n", b"add 1 ", b"add 1 3\n", b"add 1 3\n", 1
+        )
+        self.logged = (
+            Logged("rubis_auction", auction, rows_of(FIRST), b"0,+bi", b"0," + bid, b"0,+" + bid, 5),
+            self.ledger,
+        )
+
+
+def own_streams(tester: LogTester) -> None:
+    """a log that is the program's own standard input, output or error, under each of its names: a fault, which is told
+    if it can be, and the log is as it was"""
+    for one in tester.logged:
+        log = tester.folder / f"{one.name}-stream"
+        link, other = log.with_name(f"{one.name}-link"), log.with_name(f"{one.name}-name")
+        log.write_bytes(one.lines)
+        link.symlink_to(log)
+        other.hardlink_to(log)
+        for name, (words, why) in itertools.product(
+            (log, link, other),
+            (
+                (f"< {log}", "is the input"),
+                (f"<> {log}", "is the input"),
+                (f">> {log}", "is the output"),
+                (f"2>> {log}", None),
+            ),
+        ):
+            got = one.redirected(name, words)
+            told = one.told(name, why) if why else b""
+            tester.tally.check(
+                got == Outcome(one.refused, b"", told) and log.read_bytes() == one.lines,
+                f"{one.name} {name.name} {words}: {described(got)}, {len(log.read_bytes())} bytes",
+            )
+            log.write_bytes(one.lines)
+
+
+def closed_streams(tester: LogTester) -> None:
+    """standard input, output or error closed: the log has no more than what was asked for, and the next start accepts
+    it"""
+    for one in tester.logged:
+        log = tester.folder / f"{one.name}-closed"
+        for closed in ("<&-", ">&-", "2>&-", "<&- >&-", ">&- 2>&-", "<&- >&- 2>&-"):
+            for end in (b"", one.cut):
+                log.write_bytes(one.lines + end)
+                got = one.redirected(log, closed)
+                left = log.read_bytes()
+                tester.tally.check(
+                    left in (one.lines, one.lines + one.added) and one.run(log).status == 0,
+                    f"{one.name} with {closed}: {described(got)}, {left[len(one.lines):]!r}",
+                )
+
+
+def foreign_ends(tester: LogTester) -> None:
+    """a file that is no log, and a log with an end that no crash leaves: refused, and each byte is as it was; a line
+    that was being written is kept beside it"""
+    for one in tester.logged:
+        log = tester.folder / f"{one.name}-foreign"
+        kept = log.with_name(f"{log.name}.cut")
+        for before, end in itertools.product(
+            (b"", one.lines),
+            (b'{"accounts": [1, 2, 3]}', b"Dear Sir", one.cut + bytes(3), one.cut + b"\x1b[2J", one.cut + b"9" * 300),
+        ):
+            log.write_bytes(before + end)
+            got = one.run(log)
+            tester.tally.check(
+                (got.status, got.stdout) == (one.refused, b"")
+                and got.stderr.startswith(one.told(log, "line")[:-1])
+                and log.read_bytes() == before + end
+                and not kept.exists(),
+                f"{one.name}, {(before + end)[-40:]!r} as a log: {described(got)}",
+            )
+        for size in range(1, len(one.cut) + 1):
+            log.write_bytes(one.lines + one.cut[:size])
+            got = one.run(log, b"")
+            tester.tally.check(
+                got.status == 0 and log.read_bytes() == one.lines and kept.read_bytes() == one.cut[:size] + b"\n",
+                f"{one.name}, a line cut at byte {size}: {described(got)}",
+            )
+            kept.unlink(missing_ok=True)
+
+
+def cuts_that_lead_elsewhere(tester: LogTester) -> None:
+    """a file for what is cut off that is a link, a pipe or the log itself: a fault, and nothing is written"""
+    other = tester.folder / "elsewhere"
+    for one in tester.logged:
+        log = tester.folder / f"{one.name}-cut"
+        kept, nothing = log.with_name(f"{log.name}.cut"), log.with_name(f"{log.name}.nothing")
+        for what, make, words in (
+            ("a link", lambda: kept.symlink_to(other), "not a regular file"),
+            ("a link to nothing", lambda: kept.symlink_to(nothing), "not a regular file"),
+            ("a link to the log", lambda: kept.symlink_to(log), "not a regular file"),
+            ("a pipe", lambda: os.mkfifo(kept), "not a regular file"),
+            ("another name of the log", lambda: kept.hardlink_to(log), "it is the log"),
+        ):
+            log.write_bytes(one.lines + one.cut)
+            other.write_bytes(b"mine\n")
+            make()
+            got = one.run(log)
+            tester.tally.check(
+                got == Outcome(one.refused, b"", one.told(log, f"cut bytes cannot be kept: {words}"))
+                and log.read_bytes() == one.lines + one.cut
+                and other.read_bytes() == b"mine\n"
+                and not nothing.exists(),
+                f"{one.name}, {what} for what is cut off: {described(got)}",
+            )
+            kept.unlink()
+
+
+def special_ledgers(tester: LogTester) -> None:
+    """a ledger whose log is a device, a folder, locked or without locks: a fault that names it; its folder has no file
+    but the log"""
+    one, folder = tester.ledger, tester.folder / "ledger"
+    folder.mkdir()
+    log = folder / "log"
+    for path, words in (
+        (Path("/dev/zero"), "not a regular file"),
+        (folder, "cannot be read: Is a directory (os error 21)"),
+    ):
+        got = one.run(path)
+        tester.tally.check(got == Outcome(1, b"", one.told(path, words)), f"{path} as a ledger: {described(got)}")
+    with subprocess.Popen([*one.command, log], stdin=subprocess.PIPE, stdout=subprocess.PIPE) as first:
+        first.stdout.readline()
+        got = one.run(log)
+        tester.tally.check(got == Outcome(1, b"", one.told(log, "in use")), f"a ledger in use: {described(got)}")
+        first.communicate(one.asked)
+    tester.tally.check(log.read_bytes() == one.added, "the first ledger goes on")
+    if tester.shim is not None:
+        got = one.run(log, env=os.environ | {"LD_PRELOAD": str(tester.shim), "LOCK_FAILS": "1"})
+        told = one.told(log, f"cannot be locked: {os.strerror(errno.ENOLCK)} (os error {errno.ENOLCK})")
+        tester.tally.check(got == Outcome(1, b"", told), f"a ledger without locks: {described(got)}")
+    mine = folder / "ledger.log"
+    mine.write_bytes(b"mine")
+    got = one.run(log, b"", cwd=folder)
+    tester.tally.check(
+        got.status == 0 and mine.read_bytes() == b"mine" and sorted(folder.iterdir()) == sorted((mine, log)),
+        f"a file of mine beside a ledger: {described(got)}, {sorted(folder.iterdir())}",
+    )
 
 
 # How it is opened.
@@ -241,7 +427,7 @@ def special_files(tester: AuctionTester) -> None:
     log.write_bytes(text)
     (tester.folder / "uncut.cut").mkdir()
     tester.tally.check(
-        fault_of(tester.program, log) == told_of(log, "cut bytes cannot be kept", errno.EISDIR)
+        fault_of(tester.program, log) == told_of(log, "cut bytes cannot be kept: not a regular file")
         and log.read_bytes() == text,
         "a cut row that cannot be kept",
     )
@@ -597,6 +783,11 @@ def refused_memory_of_a_cut_row(tester: AuctionTester) -> None:
 
 
 CHECKS = (
+    own_streams,
+    closed_streams,
+    foreign_ends,
+    cuts_that_lead_elsewhere,
+    special_ledgers,
     locked_log,
     without_locks,
     forbidden_logs,
@@ -618,5 +809,14 @@ CHECKS = (
     refused_memory_of_a_cut_row,
 )
 
+
+
+def main() -> None:
+    words = parser_of(__doc__)
+    words.add_argument("program", nargs="?", type=executable, default=str(BUILT))
+    words.add_argument("ledger", nargs="?", type=executable, default=str(built("example_ledger")))
+    make_all(words, CHECKS, LogTester)
+
+
 if __name__ == "__main__":
-    main(__doc__, CHECKS)
+    main()
