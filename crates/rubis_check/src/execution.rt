@@ -86,8 +86,8 @@ fn shown(byte: u8) -> u8
 fn push_shown(text: &mut Vec<u8>, bytes: &[u8]) -> Result<(), AllocError>
     ensures { OnOk result (text.new.items ≡ text.old.items ++ map shown_byte bytes.now) }
 {
-    for at in 0..bytes.len() {
-        text.push(shown(bytes[at]))?;
+    for byte in bytes {
+        text.push(shown(*byte))?;
     }
     Ok(())
 }

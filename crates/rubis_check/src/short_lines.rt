@@ -1,4 +1,5 @@
 //! A history of which no line is endless.
+ghost use Rattle.std.specs.Prelude.{◌≡◌};
 ghost use Rattle.rubis_check.specs.ShortLines.{left_of_lines};
 
 use std::io;
@@ -34,14 +35,14 @@ impl<I: Read> Read for ShortLines<I> {
     ghost remaining = { λ r. left_of_lines I.remaining r };
 
     fn read(&mut self, buf: &mut [u8]) -> io::Result<usize> {
-        let given = self.reader.read(buf)?;
-        let bytes = &buf[..given];
-        let first = bytes.iter().position(ends_line).unwrap_or(given);
-        if self.len.saturating_add(first) > LONGEST_LINE {
+        if self.len > LONGEST_LINE {
             let why = "a line has more than 65536 bytes";
             return Err(io::Error::new(ErrorKind::InvalidData, why));
         }
-        self.len = match bytes.iter().rposition(ends_line) {
+        // One byte more than the longest line has: its line feed, or the sign of a longer one.
+        let room = buf.len().min(LONGEST_LINE + 1 - self.len);
+        let given = self.reader.read(&mut buf[..room])?;
+        self.len = match buf[..given].iter().rposition(ends_line) {
             Some(last) => given.saturating_sub(last + 1),
             None => self.len.saturating_add(given),
         };
