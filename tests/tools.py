@@ -86,7 +86,7 @@ ANSWERS = [
     ([CLIENT, NONE], 1, NONE),
     ([CLIENT, PROGRAM, "--none"], 1, "'--none'"),
     ([CLIENT, "/bin/false"], 1, "/bin/false ended with status 1"),
-    ([FRONT, "--port", "0", NONE], 1, NONE),
+    ([FRONT, "--port", "0", NONE], 2, NONE),
     ([FRONT, "--port", "65536", PROGRAM], 1, "0-65535"),
     ([QUORUM, "--log", NONE, NONE], 2, NONE),
     ([QUORUM, "--log", NONE, "--etcd", "one:two", PROGRAM], 2, "one:two"),
@@ -157,6 +157,35 @@ def tuned(tally: Tally, program: Path) -> None:
         and "does not read all" in told[0]
     )
     tally.check(is_told, f"bench/tune over what reads nothing: {described(got)}")
+
+
+# A program of which one setting takes long once, and is the fastest by its median; all others take longer than that.
+SPREAD = """\
+#!/bin/sh
+cat > /dev/null
+case "$*" in
+*"--fast --hot=0")
+    echo >> "{folder}/calls"
+    [ "$(wc -l < "{folder}/calls")" = 3 ] && sleep 0.6 || sleep 0.05 ;;
+*) sleep 0.2 ;;
+esac
+"""
+
+
+def spread(tally: Tally, _: Path) -> None:
+    """bench/tune over tries whose ranges overlap: the command of the lowest median, and marks at the others"""
+    with TemporaryDirectory() as name:
+        slow = Path(name) / "slow"
+        slow.write_text(SPREAD.format(folder=name))
+        slow.chmod(0o755)
+        got = run([TUNE, "--tries", "3", "--program", slow, SKEWED])
+    lines = got.stdout.decode().splitlines()
+    tally.check(
+        got.status == 0
+        and lines[-1].endswith(f"slow --fast --hot=0 < {SKEWED}")
+        and [line[0] for line in lines[1:-2]].count("=") == 11,
+        f"bench/tune over tries that overlap: {described(got)}",
+    )
 
 
 def starts(tally: Tally, program: Path) -> None:
@@ -407,7 +436,7 @@ def main() -> None:
     parser.add_argument("program", type=executable, nargs="?", default=str(BUILT))
     program = parser.parse_args().program
     tally = Tally()
-    of_programs = (tuned, starts, windows, loads_of_applications, man_pages)
+    of_programs = (tuned, spread, starts, windows, loads_of_applications, man_pages)
     for check in (*of_programs, figures_of_applications, claims_of_figures, answers, interruptions, builds):
         tally.tell(check, tally, program)
     tally.finish()
