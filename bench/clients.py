@@ -82,7 +82,7 @@ class Front:
     def put_up_the_item(self) -> None:
         with socket.create_connection(("127.0.0.1", self.port)) as client:
             client.sendall(redis_server.packed(*ITEM))
-            if not client.recv(100).startswith(b"+item 0.0"):
+            if not client.recv(100).startswith(b"$8\r\nitem 0.0"):
                 raise SystemExit(f"{FRONT}: no item")
 
     def __exit__(self, *_: object) -> None:

@@ -10,7 +10,7 @@ later) that keep nothing else. The front that has the key `leader`, under a leas
 `log/`, and listens; the others wait, so a client tries one after the other, and needs a timeout. If a front dies,
 freezes or is cut off, another leads a few seconds later, with all that was acknowledged. This gives availability, not
 capacity: one front serves, and each reply waits for etcd, whose quota (2 GB, if it is not set) bounds the log. A front
-that can no longer lead ends with status 6.
+that can no longer lead ends with status 6, and one whose own log fails with status 8.
 
 An auction with a log goes on from it, once etcd has its rows:
 
@@ -21,7 +21,6 @@ import asyncio
 import base64
 import json
 import os
-import shutil
 import sys
 import threading
 import time
@@ -30,20 +29,23 @@ from http.client import HTTPConnection, HTTPException
 from itertools import cycle
 from typing import Any, NoReturn
 
-import front
+from front.log import Clock
+from front.program import Engine, Request, say
+from front.server import main, parser, read
 
 LEASE, ANSWER, OUTAGE = 3, 1, 10  # seconds: of the lease, for an answer of a server, and without any answer
 MOST_BYTES, MOST_KEYS = 65536, 100  # bytes put at once, and keys read at once
-LEADER, STARTS, LOG = b"leader", b"starts", b"log/"
+LEADER, STARTS, CLOCK, LOG = b"leader", b"starts", b"clock", b"log/"
+NO_LEADER, NO_LOG = 6, 8  # statuses: it leads no longer; its log is not as it was left, or takes no rows
 FAULTS = (OSError, HTTPException, ValueError)
 # What etcd is asked, and what it answers.
 Json = dict[str, Any]
 
 
-def end(words: object) -> NoReturn:
+def end(words: object, status: int = NO_LEADER) -> NoReturn:
     """Ends at once: nothing more is released."""
-    front.say(words)
-    os._exit(6)
+    say(words)
+    os._exit(status)
 
 
 def encoded(data: bytes) -> str:
@@ -92,14 +94,19 @@ class Etcd:
         return told
 
 
-class Replicated(front.Engine):
+class Replicated(Engine):
     """The program of the front that leads. Its replies are held until etcd has the rows before them and says that the
     front leads, whatever clocks say."""
 
+    another_log, remedy = NO_LOG, "a start writes it anew"
+
     def __init__(self, asked: argparse.Namespace) -> None:
         super().__init__(asked)
-        self.etcd, self.lease, self.is_over, self.held = Etcd(asked.etcd), None, threading.Event(), []
-        self.number = self.at = 0  # the key of the next rows, and where these begin in the file
+        self.etcd, self.lease, self.is_over, self.clock = Etcd(asked.etcd), None, threading.Event(), Clock(None)
+        # Replies that wait for etcd, and how many rows of this start of the program it has.
+        self.held, self.rows = [], 0
+        # The key of the next rows, where these begin in the file, and the time that etcd has.
+        self.number = self.at = self.told = 0
 
     async def ask_etcd(self, path: str, **body: Any) -> Json:
         return await asyncio.to_thread(self.etcd.ask, path, **body)
@@ -107,17 +114,22 @@ class Replicated(front.Engine):
     async def start(self) -> None:
         if self.lease is None:
             await self.lead()
+        # The file that the program will have, wherever its name leads to later.
+        self.file = self.log.open()
         # A program that died may have left rows. What it replied is released already.
         self.putting = asyncio.create_task(self.put_rows())
         await self.putting
         # The version of a key counts how often it was put: starts have numbers over all fronts.
-        _, told = await self.as_leader(put(STARTS, b""), get(STARTS))
+        _, told, clock = await self.as_leader(put(STARTS, b""), get(STARTS), get(CLOCK))
         self.starts = int(told["response_range"]["kvs"][0]["version"]) - 1
+        for pair in clock["response_range"].get("kvs", ()):
+            self.clock.last = max(self.clock.last, int(base64.b64decode(pair["value"])))
+        self.rows = 0
         await super().start()
 
     async def lead(self) -> None:
         """Waits until this front leads."""
-        front.say("waits until it leads")
+        say("waits until it leads")
         self.lease = (await self.ask_etcd("lease/grant", TTL=LEASE))["ID"]
         threading.Thread(target=self.hold, daemon=True).start()
         while (leader := await self.leader())["lease"] != self.lease:
@@ -126,7 +138,7 @@ class Replicated(front.Engine):
             await asyncio.sleep(LEASE / 4)
         self.leads = is_created_at(leader["create_revision"])
         await self.write_log()
-        front.say(f"leads, with {self.at} bytes of rows")
+        say(f"leads, with {self.at} bytes of rows")
 
     async def leader(self) -> Json:
         """The key of the front that leads: of this one, if there was none."""
@@ -168,18 +180,27 @@ class Replicated(front.Engine):
             end("this front leads no longer")
         return told["responses"]
 
-    async def put_rows(self) -> None:
-        """Puts the rows that the file has and etcd has not; if there are none, asks whether this front leads."""
-        is_last = False
-        while not is_last:
-            with self.asked.log.open("rb") as file:
-                file.seek(self.at)
-                data = file.read(MOST_BYTES)
-            rows = data[: data.rfind(b"\n") + 1]
-            await self.as_leader(put(LOG + b"%016d" % self.number, rows) if rows else get(LEADER))
-            self.number, self.at, is_last = self.number + bool(rows), self.at + len(rows), len(data) < MOST_BYTES
+    async def put_rows(self, count: int | None = None) -> None:
+        """Puts rows that the file has and etcd has not: so many, or all; if there are none, it asks whether this front
+        leads. Behind the rows of parts that were replied to there may be rows that the program takes back."""
+        while True:
+            data = os.pread(self.file.fileno(), MOST_BYTES, self.at)
+            rows = first_lines(data, count)
+            if not rows and count or self.at > os.fstat(self.file.fileno()).st_size:
+                end("the log is shorter than what etcd has, or was to have, of it", NO_LOG)
+            count = None if count is None else count - rows.count(b"\n")
+            await self.put(rows)
+            if count == 0 or count is None and (not rows or len(data) < MOST_BYTES):
+                return
 
-    def release(self, lines: list[bytes], requests: list[front.Request]) -> None:
+    async def put(self, rows: bytes) -> None:
+        """Puts rows, with the greatest time that was given to requests."""
+        time = self.clock.last
+        puts = [put(LOG + b"%016d" % self.number, rows)] if rows else [get(LEADER)]
+        await self.as_leader(*puts, *([put(CLOCK, b"%d" % time)] if time > self.told else []))
+        self.number, self.at, self.told = self.number + bool(rows), self.at + len(rows), time
+
+    def release(self, lines: list[bytes], requests: list[Request]) -> None:
         self.held.append((lines, requests))
         if self.putting.done():
             self.putting = asyncio.create_task(self.release_held())
@@ -187,9 +208,10 @@ class Replicated(front.Engine):
     async def release_held(self) -> None:
         """Releases what is held, and what comes meanwhile, each time after a put."""
         while self.held:
-            held, self.held = self.held, []
+            held, self.held, rows = self.held, [], self.log.rows
             try:
-                await self.put_rows()
+                await self.put_rows(rows - self.rows)
+                self.rows = rows
                 for lines, requests in held:
                     super().release(lines, requests)
             except OSError as fault:
@@ -200,25 +222,41 @@ class Replicated(front.Engine):
         ended = super().connection_lost
         self.putting.add_done_callback(lambda _: ended(fault))
 
+    async def settled(self) -> bytes:
+        """A front whose log fails lets another lead, on a disk of its own."""
+        if self.fault:
+            await self.revoke()
+            end(f"the log {self.fault.decode()}", NO_LOG)
+        return await super().settled()
+
     async def go_on(self) -> int:
         """Lets the next front lead at once when this one is stopped."""
         status = await super().go_on()
+        await self.revoke()
+        return status
+
+    async def revoke(self) -> None:
         self.is_over.set()
         with suppress(*FAULTS):
             await asyncio.to_thread(self.etcd.ask_once, "lease/revoke", {"ID": self.lease})
-        return status
+
+
+def first_lines(data: bytes, count: int | None) -> bytes:
+    """The first lines that are whole: so many, or fewer if there are no more; or all."""
+    if count is None:
+        return data[: data.rfind(b"\n") + 1]
+    *lines, rest = data.split(b"\n", count)
+    return data[: len(data) - len(rest)] if lines else b""
 
 
 def arguments() -> argparse.Namespace:
-    words = front.arguments(__doc__)
+    words = parser(__doc__)
     words.add_argument(
         "--etcd", metavar="HOST:PORT,..", default="127.0.0.1:2379", help="the servers of etcd [default: 127.0.0.1:2379]"
     )
-    asked = words.parse_args()
+    asked = read(words)
     if asked.log is None:
         words.error("--log FILE is needed")
-    if shutil.which(asked.program) is None:
-        words.error(f"{asked.program}: no such program")
     try:
         Etcd(asked.etcd)
     except HTTPException as fault:
@@ -227,4 +265,4 @@ def arguments() -> argparse.Namespace:
 
 
 if __name__ == "__main__":
-    front.main(Replicated(arguments()))
+    main(Replicated, arguments())

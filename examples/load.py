@@ -71,10 +71,11 @@ class Client(asyncio.Protocol):
 
     def data_received(self, data: bytes) -> None:
         *lines, self.rest = (self.rest + data).split(b"\r\n")
-        now = CLOCK()
-        for line in lines:
+        # Before each text, which is one line, comes its length.
+        replies, now = [line for line in lines if line[:1] != b"$"], CLOCK()
+        for line in replies:
             self.note(line, self.sent.popleft(), now)
-        self.ask(len(lines))
+        self.ask(len(replies))
 
     def note(self, line: bytes, sent: int, now: int) -> None:
         self.waits.append(now - sent)

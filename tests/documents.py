@@ -19,10 +19,10 @@ from pathlib import Path
 from textwrap import indent
 from typing import Iterator
 
-from lib.program import DOCUMENTS, ROOT, TESTS, Tally, described, run
+from lib.program import DOCUMENTS, EXAMPLES, ROOT, TESTS, Tally, described, run
 from lib.themes import LEAST, faults, smallest
 
-CODE = {".rt", ".rs", ".antt", ".py", ".c", ".sh", ".sql", ".txt", ".edit"}
+CODE = {".rt", ".rs", ".antt", ".py", ".php", ".c", ".sh", ".sql", ".txt", ".edit"}
 TUTORIALS = (DOCUMENTS / "TUTORIAL.md", DOCUMENTS / "APPLICATIONS.md")
 DEFINITIONS = (DOCUMENTS / "DEFINITIONS.md", DOCUMENTS / "ENGINE_DEFINITIONS.md")
 # Which column has the names in a table whose last one has their files.
@@ -57,8 +57,13 @@ OF_USERS = (
     "docs/APPLICATIONS",
 )
 MOST_WORDS, MOST_OF_THE_FIRST = 16_000, 1_200
-# A page tells how many lines of code a script has: those with more than a comment, a docstring or what lays code out.
-LINES = (DOCUMENTS / "SERVING.md", re.compile(r"(\d+) lines of Python code"), ROOT / "examples" / "front.py")
+# A page tells how many lines of code a script and its modules have: those with more than a comment, a docstring or what
+# lays code out.
+LINES = (
+    DOCUMENTS / "SERVING.md",
+    re.compile(r"(\d+) lines of Python code"),
+    (EXAMPLES / "front.py", *sorted((EXAMPLES / "front").glob("*.py"))),
+)
 NO_CODE = {tokenize.COMMENT, tokenize.NL, tokenize.NEWLINE, tokenize.INDENT, tokenize.DEDENT, tokenize.ENDMARKER}
 
 # How many columns a line of Python may have, in any folder.
@@ -285,12 +290,12 @@ def lengths(tally: Tally) -> None:
 
 
 def lines_of_scripts(tally: Tally) -> None:
-    """lines of examples/front.py, at most as many as docs/SERVING.md tells"""
-    page, told, script = LINES
-    most, count = told.search(page.read_text()), lines_of_code(script)
+    """lines of examples/front.py and its modules, at most as many as docs/SERVING.md tells"""
+    page, told, scripts = LINES
+    most, count = told.search(page.read_text()), sum(map(lines_of_code, scripts))
     tally.check(
         most is not None and count <= int(most[1]),
-        f"{script.name} has {count} lines of code, and {page.name} tells {most}",
+        f"{scripts[0].name} has {count} lines of code, and {page.name} tells {most}",
     )
 
 

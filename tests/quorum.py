@@ -21,17 +21,21 @@ from pathlib import Path
 from types import SimpleNamespace
 from typing import Callable
 
-from lib.fronts import ENDS, UNKNOWN, WORKERS, Front, FrontTester, load
+from lib.bidders import Bidders
+from lib.front_logs import DEEDS
+from lib.fronts import ENDS, UNKNOWN, WORKERS, Client, Front, FrontTester, load, script
 from lib.program import BUILT, EXAMPLES, Tally, built, executable, parser_of, run, servers_folder
 from lib.sessions import SECONDS, wait_until
-from lib.watched import PIPELINE, Outcome, Watcher, against_time, judge, judged_by_itself, mix, whole_lines
+from lib.watched import PIPELINE, Outcome, Watcher, against_time, judge, judged_by_itself, mix
 
 MACHINES = (1, 2, 3)
 PORTS = 3  # of a machine: of its front, and two of its server of etcd
 CLIENTS = 50
 MORE = 1000  # replies show that it goes on: more than were under way
 TRIES = 5  # of what a busy machine can spoil
-NO_LEADER = 6  # the status of a front that can lead no longer
+# Statuses: of a front that can lead no longer, and of one whose own log fails or was changed.
+NO_LEADER, NO_LOG = 6, 8
+FAILURES = 20  # syncs that fail
 PATIENCE = 2e9  # nanoseconds in which a client expects a reply
 ELECTION = ("--heartbeat-interval", "200", "--election-timeout", "2000", "--pre-vote")
 LIBC, NEW_NETWORK = ctypes.CDLL(None), 0x40000000
@@ -40,9 +44,9 @@ LIBC, NEW_NETWORK = ctypes.CDLL(None), 0x40000000
 class Network:
     """A namespace for each machine, and this one, on a bridge; or none, and all are on loopback."""
 
-    def __init__(self) -> None:
+    def __init__(self, is_wanted: bool = True) -> None:
         home, self.spaces = os.open("/proc/self/ns/net", os.O_RDONLY), {}
-        if not (shutil.which("ip") and shutil.which("nsenter") and self.make()):
+        if is_wanted and not (shutil.which("ip") and shutil.which("nsenter") and self.make()):
             LIBC.setns(home, NEW_NETWORK)
             self.spaces = {}
 
@@ -106,6 +110,7 @@ class Machine(Front):
         self.number, self.folder, self.inside = number, cluster.folder / str(number), cluster.network.inside(number)
         self.folder.mkdir()
         self.log, self.said, self.address = self.folder / "rows", self.folder / "said", cluster.network.address(number)
+        self.statuses: list[int] = []
         self.port, *ports = (next(cluster.ports) for _ in range(PORTS))
         self.asked_at, self.agrees_at = (f"{self.address}:{port}" for port in ports)
 
@@ -145,16 +150,19 @@ class Machine(Front):
 
 
 class Cluster:
-    """Three machines. Their fronts are started again whenever they end, as by systemd."""
+    """Machines. Their fronts are started again whenever they end, as by systemd."""
 
-    is_over = threading.Event()
+    made: list["Cluster"] = []
 
-    def __init__(self, tester: FrontTester, network: Network) -> None:
-        self.tester, self.network, self.folder = tester, network, tester.folder / "machines"
-        self.audit = self.folder / "audit"
+    def __init__(
+        self, tester: FrontTester, network: Network, machines: tuple[int, ...] = MACHINES, program: Path | None = None
+    ) -> None:
+        self.tester, self.network, self.folder = tester, network, tester.folder / f"{len(machines)}_machines"
+        self.audit, self.program, self.is_over = self.folder / "audit", program or tester.program, threading.Event()
+        self.made.append(self)
         self.folder.mkdir()
-        self.ports = iter(free_ports(PORTS * len(MACHINES)))
-        self.machines = [Machine(number, self) for number in MACHINES]
+        self.ports = iter(free_ports(PORTS * len(machines)))
+        self.machines = [Machine(number, self) for number in machines]
         self.etcd = ",".join(machine.asked_at for machine in self.machines)
         for machine in self.machines:
             machine.start_etcd(self.machines)
@@ -165,7 +173,7 @@ class Cluster:
         """The command of a front."""
         place = ("--host", machine.address, "--port", machine.port, "--log", machine.log, "--audit", self.audit)
         front = (sys.executable, "-B", EXAMPLES / "front_quorum.py", "--etcd", self.etcd, "--workers", WORKERS)
-        words = (*front, *place, self.tester.program, "--fast")
+        words = (*front, *place, self.program, "--fast")
         return [*machine.inside, *map(str, words)]
 
     def start(self, rows: bytes) -> None:
@@ -179,10 +187,15 @@ class Cluster:
         while not self.is_over.wait(0.1):
             for machine in self.machines:
                 if machine.process.poll() is not None:
+                    machine.statuses.append(machine.process.returncode)
                     machine.start()
 
     def etcdctl(self, *words: str, at: str | None = None, stdin: bytes = b"") -> bytes:
         return run(["etcdctl", "--endpoints", at or self.etcd, *words], stdin).stdout
+
+    def rows(self) -> bytes:
+        told = self.etcdctl("get", "log/", "--prefix", "--print-value-only")
+        return b"".join(line for line in told.splitlines(True) if line.strip())
 
     def leader(self) -> Machine:
         """The machine of the front that leads, as the first server of etcd says that can tell."""
@@ -204,7 +217,7 @@ class Cluster:
             leaders = [
                 machine
                 for machine in self.machines
-                if (state := states.get(machine.asked_at)) and state["leader"] == state["header"]["member_id"]
+                if (state := states.get(machine.asked_at)) and state.get("leader") == state["header"]["member_id"]
             ]
             if len(states) == len(self.machines) and len(leaders) == 1:
                 return leaders[0]
@@ -334,6 +347,15 @@ def cut_leader(cluster: Cluster) -> None:
     leads_no_longer(cluster, leader, process, cluster.network.heal)
 
 
+def cut_etcd(cluster: Cluster) -> None:
+    """The machine of the server of etcd that leads, whichever front leads."""
+    if cluster.network.spaces:
+        machine = cluster.leader_of_etcd()
+        cluster.tester.tally.check(cluster.network.cut(machine.number), "the machine of etcd's leader is cut off")
+        cluster.serves("while the server of etcd that led is cut off")
+        cluster.network.heal()
+
+
 def cut_idle_leader(cluster: Cluster) -> None:
     """It has no store that waits for etcd, and views behind it."""
     if cluster.network.spaces:
@@ -382,22 +404,62 @@ def failures(tester: FrontTester) -> None:
     check, cluster = tester.tally.check, Cluster(tester, Network())
     keeps_rows(cluster)
     cluster.start(mix()[0])
-    outcome = followed(cluster, nothing, kill_program, kill_leader, kill_etcd, freeze_leader, cut_leader, stop_leader)
+    kills, cuts = (kill_program, kill_leader, kill_etcd), (freeze_leader, cut_leader, cut_etcd)
+    outcome = followed(cluster, nothing, *kills, *cuts, stop_leader)
     cut_idle_leader(cluster)
     check(set(outcome.refused) <= {UNKNOWN, ENDS}, f"refused: {outcome.refused}")
-    last, rows = cluster.leader(), cluster.etcdctl("get", "log/", "--prefix", "--print-value-only").decode()
+    last, rows = cluster.leader(), cluster.rows()
     statuses = cluster.close()
     check(
         [tried[-1] for tried in statuses] == [0, 0, 0],
         f"statuses of fronts that wait, and of the leader, when they are stopped: {statuses}",
     )
-    log = whole_lines(last.log)
-    check(log == [row for row in rows.split("\n") if row], "the log of the last leader has the rows of etcd")
+    check(last.log.read_bytes() == rows, "the log of the last leader has the rows of etcd")
     served = SimpleNamespace(audit=cluster.audit, log=last.log, folder=last.folder, said=last.said)
     starts = judge(tester, served, outcome)
     judged_by_itself(tester, served, str(starts[-1].number))
     check(len(starts) >= 5 + bool(cluster.network.spaces), f"{len(starts)} starts")
     check("against time" in against_time(starts[::-1], outcome), "leaders in another order are against time")
+
+
+# Syncs that take as long as those of a disk, of which a file tells which one fails.
+SLOW_SYNCS = """\
+#!/bin/sh
+LD_PRELOAD={shim} LOG_SYNC_TAKES=20 LOG_SYNC_FAILS=$(cat {fails}) exec {program} "$@"
+"""
+
+
+def own_log(tester: FrontTester) -> None:
+    """a leader under load whose sync fails, 20 times, and whose log is moved, removed, emptied, cut and replaced: it
+    ends with a status of its own, and the next start leads with all that was acknowledged, once each"""
+    if tester.shim is None:
+        return tester.tally.skip(own_log.__doc__, "there is no C compiler")
+    fails = tester.folder / "fails"
+    words = {"shim": tester.shim, "fails": fails, "program": tester.program}
+    program = script(tester.folder / "slow_syncs", SLOW_SYNCS.format(**words))
+    cluster = Cluster(tester, Network(is_wanted=False), machines=(1,), program=program)
+    (machine,), check = cluster.machines, tester.tally.check
+    fails.write_text("3")
+    cluster.start(b'0,+item,1,2,"Vase",10,99999999999999,1,1\n')
+    with Bidders(lambda: Client(machine.port)) as bidders:
+        for failure in range(FAILURES):
+            wait_until(lambda: len(machine.statuses) > failure)
+            fails.write_text(str(4 + failure % 9))
+        fails.write_text("0")
+        for deed in DEEDS:
+            count, ends = len(bidders.acknowledged), len(machine.statuses)
+            wait_until(lambda: len(bidders.acknowledged) > count + 100)
+            deed(machine.log)
+            wait_until(lambda: len(machine.statuses) > ends)
+            check(machine.statuses[ends:] == [NO_LOG], f"{deed.__name__}: statuses {machine.statuses[ends:]}")
+        wait_until(lambda: len(bidders.acknowledged) > count + 200)
+    rows = cluster.rows()
+    statuses = machine.statuses[:FAILURES]
+    check(statuses == [NO_LOG] * FAILURES, f"statuses after syncs that failed: {statuses}")
+    check(cluster.close() == [[0]], f"the status of the last leader: {machine.said.read_text()[-300:]}")
+    check(machine.log.read_bytes() == rows, "the log of the last leader has the rows of etcd")
+    check(set(bidders.others) <= {UNKNOWN, ENDS}, f"other replies: {set(bidders.others)}")
+    bidders.judge(tester.tally, "rows of etcd", rows)
 
 
 def main() -> None:
@@ -412,9 +474,11 @@ def main() -> None:
     with servers_folder() as folder:
         tester = FrontTester(asked, Path(folder), tally)
         try:
+            tally.tell(own_log, tester)
             tally.tell(failures, tester)
         finally:
-            Cluster.is_over.set()
+            for cluster in Cluster.made:
+                cluster.is_over.set()
             tester.close()
     tally.finish()
 

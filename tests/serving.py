@@ -27,10 +27,12 @@ from pathlib import Path
 from types import SimpleNamespace
 
 from lib.checks import make_all
-from front import Audit
+from front.audit import Audit
 from lib.front_bounds import bounds
-from lib.front_clients import loads, other_clients, shown
-from lib.fronts import ENDS, FRONT, MEGABYTES, SEEN, UNKNOWN, UNKNOWN_COMMAND, Client, Front, FrontTester, packed
+from lib.front_clients import languages, loads, other_clients, shown
+from lib.front_logs import ANOTHER_LOG, LOG_CHECKS
+from lib.front_words import WORD_CHECKS
+from lib.fronts import ENDS, FRONT, MEGABYTES, SEEN, UNKNOWN, Client, Front, FrontTester, packed, script
 from lib.misbehaving import hang_up, keep_asking, read_nothing, send_rubbish
 from lib.program import BUILT, EXAMPLES, Tally, built, executable, parser_of, run
 from lib.sessions import SECONDS, wait_until
@@ -63,23 +65,23 @@ class ServingTester(FrontTester):
 
 
 NAME = b'A, "quoted"  name'
-VIEWED = b"+viewitem seller=1 category=2 start=10 closes=100 highest=500 bidder=3 bids=1 left=1 name="
+VIEWED = b"viewitem seller=1 category=2 start=10 closes=100 highest=500 bidder=3 bids=1 left=1 name="
 # Commands of one connection, and their replies.
 ASKED = (
-    (b"ITEM 1 2 Vase 10 100 1\r", b"+item 0.0"),
-    (b"item 1 2 Vase 10 100 1 1", b"+item 0.1"),
-    (packed(b"Item", b"1", b"2", NAME, b"10", b"100", b"1"), b"+item 0.2"),
-    (b"BID 3 0.0 500 5", b"+bid 0.0"),
-    (packed(b"BID", b"3", b"0.2", b"500", b"5"), b"+bid 0.1"),
+    (b"ITEM 1 2 Vase 10 100 1\r", b"item 0.0"),
+    (b"item 1 2 Vase 10 100 1 1", b"item 0.1"),
+    (packed(b"Item", b"1", b"2", NAME, b"10", b"100", b"1"), b"item 0.2"),
+    (b"BID 3 0.0 500 5", b"bid 0.0"),
+    (packed(b"BID", b"3", b"0.2", b"500", b"5"), b"bid 0.1"),
     (b"VIEWITEM 0.0", VIEWED + b"Vase"),
     (packed(b"VIEWITEM", b"0.2"), VIEWED + NAME),
-    (b"VIEWBIDS 0.0", b"+bids 500:5:3:0.0"),
-    (b"BID 3 0.0 500 *", b"+refused 5 Closed"),
-    (b"BID 3 0.0 9 5", b"+refused 4 BelowStart"),
-    (b"BUYNOW 3 0.1 1 5", b"+buynow 0.0"),
-    (b"COMMENT 3 4 0.1 -5", b"+comment 0.0"),
-    (b"VIEWUSER 4", b"+user rating=-5 comments=1"),
-    (b"VIEWCATEGORY 2", b"+latest 1:0.2 1:0.1 1:0.0"),
+    (b"VIEWBIDS 0.0", b"bids 500:5:3:0.0"),
+    (b"BID 3 0.0 500 *", b"refused 5 Closed"),
+    (b"BID 3 0.0 9 5", b"refused 4 BelowStart"),
+    (b"BUYNOW 3 0.1 1 5", b"buynow 0.0"),
+    (b"COMMENT 3 4 0.1 -5", b"comment 0.0"),
+    (b"VIEWUSER 4", b"user rating=-5 comments=1"),
+    (b"VIEWCATEGORY 2", b"latest 1:0.2 1:0.1 1:0.0"),
     (b"BID 3 0.0", b"-ERR wrong number of fields"),
     (packed(b"BID", b"3,0.0", b"500", b"5"), b"-ERR wrong number of fields"),
     (packed(b"BID", b"3", b"0.0", b'5"00', b"5"), b"-ERR not a number"),
@@ -89,9 +91,9 @@ ASKED = (
     (b"VIEWUSER 04", b"-ERR not a number"),
     (b"VIEWITEM *", b"-ERR not an item id"),
     (b"COMMENT 3 4 0.1 6", b"-ERR not stars"),
-    (b"+ITEM 1 2 Vase 10 100 1", UNKNOWN_COMMAND),
-    (b"0,viewuser,0", UNKNOWN_COMMAND),
-    (b"HELLO 3", UNKNOWN_COMMAND),
+    (b"+ITEM 1 2 Vase 10 100 1", b"-ERR unknown command '+ITEM'"),
+    (b"0,viewuser,0", b"-ERR unknown command '0,viewuser,0'"),
+    (packed(b"\x1b[2J\xff", b"1"), b"-ERR unknown command '?[2J?'"),
     (b"PING", b"+PONG"),
     (b"COMMAND DOCS", b"*0"),
     (b"VIEWUSER 0", SEEN),
@@ -108,15 +110,15 @@ def commands(tester: FrontTester) -> None:
             tester.tally.check(got == [reply], f"{command!r}: {got}, not {reply!r}")
     with front.client() as client:
         got = client.ask(*(command for command, _ in ASKED[3:11]))
-        tester.tally.check(got[0] == b"+bid 1.0", f"a second connection is another worker's: {got}")
+        tester.tally.check(got[0] == b"bid 1.0", f"a second connection is another worker's: {got}")
         got = client.ask(b"PLACES ON", b"VIEWUSER 0", b"BID 3", b"VIEWUSER 0", b"QUIT", b"PING")
         tester.tally.check(
             got
             == [
                 b"+OK",
-                b"+1.1.8 user rating=0 comments=0",
+                b"1.1.8 user rating=0 comments=0",
                 b"-ERR wrong number of fields",
-                b"+1.1.9 user rating=0 comments=0",
+                b"1.1.9 user rating=0 comments=0",
                 b"+OK",
                 b"",
             ],
@@ -154,7 +156,7 @@ AT_ONCE = (
     (b"BID 1", b"-ERR wrong number of fields"),
     (b"VIEWUSER 1", SEEN),
     (b"", None),
-    (b"X", UNKNOWN_COMMAND),
+    (b"X", b"-ERR unknown command 'X'"),
 )
 
 
@@ -166,8 +168,8 @@ def pipelines(tester: FrontTester) -> None:
         for number in range(1500):
             command, reply = draw.choice(AT_ONCE)
             if draw.random() < 0.5:
-                bids = sum(line[:4] == b"+bid" for line in wanted)
-                command, reply = b"BID 1 0.0 500 %d" % number, b"+bid 0.%d" % bids
+                bids = sum(line[:4] == b"bid " for line in wanted)
+                command, reply = b"BID 1 0.0 500 %d" % number, b"bid 0.%d" % bids
             data += packed(*command.split()) + b"\n" if command and draw.random() < 0.5 else command + b"\r\n"
             wanted += [] if reply is None else [reply]
         threading.Thread(target=in_pieces, args=(client, data, draw), daemon=True).start()
@@ -229,7 +231,7 @@ def group_commit(tester: FrontTester) -> None:
     got = sorted(client.reply() for client in clients)
     after = front.info()
     tester.tally.check(
-        len(set(got)) == 100 and all(line.startswith(b"+bid ") for line in got), f"replies to 100 clients: {got[:3]}"
+        len(set(got)) == 100 and all(line.startswith(b"bid ") for line in got), f"replies to 100 clients: {got[:3]}"
     )
     tester.tally.check(after["groups"] - before["groups"] <= 2, f"{after['groups'] - before['groups']} groups")
     for client in clients:
@@ -248,8 +250,8 @@ def outcomes(tester: FrontTester) -> None:
             wait_until(lambda: front.info()["under_way"] == 4)
             os.kill(engine, signal.SIGKILL)
         got = [client.reply() for _ in range(5)]
-        tester.tally.check(got == [UNKNOWN, SEEN, b"+PONG", UNKNOWN, b"+bids"], f"after a kill: {got}")
-        tester.tally.check(other.ask(b"BID 3 0.0 500 5") == [b"+bid 1.0"], "another client goes on")
+        tester.tally.check(got == [UNKNOWN, SEEN, b"+PONG", UNKNOWN, b"bids"], f"after a kill: {got}")
+        tester.tally.check(other.ask(b"BID 3 0.0 500 5") == [b"bid 1.0"], "another client goes on")
     tester.tally.check(
         front.info()["starts"] == 2 and "5 bytes of a cut line" in front.said.read_text(),
         f"the program was started again: {front.said.read_text()}",
@@ -290,13 +292,6 @@ def cut_parts(tester: FrontTester) -> None:
         front.process.kill()
 
 
-def script(path: Path, text: str) -> Path:
-    """A program in the place of the one under test."""
-    path.write_text(text)
-    path.chmod(0o755)
-    return path
-
-
 # A program whose worker 0 has all the rows that it may have.
 IS_FULL = """\
 #!/usr/bin/env python3
@@ -333,7 +328,7 @@ def waits_for_the_log(tester: FrontTester) -> None:
     wait_until(lambda: front.is_there() and kept_rows(front) == [row + row])
     tester.tally.check(kept_rows(front) == [row + row], "the rows of a log are kept before the first reply")
     with front.client() as client:
-        tester.tally.check(client.ask(b"VIEWITEM 0.1")[0].startswith(b"+viewitem"), "a row that was written late")
+        tester.tally.check(client.ask(b"VIEWITEM 0.1")[0].startswith(b"viewitem"), "a row that was written late")
     front.close()
     kept = kept_rows(front)
     tester.tally.check(kept == [row + row + b"0,viewitem,0.1\n"], f"the rows of a log that was waited for: {kept}")
@@ -358,7 +353,7 @@ def terminated(tester: FrontTester) -> None:
             other.send(b"VIEWUSER 0\n")
             wait_until(lambda: front.info()["under_way"] == 2)
         got += [client.reply(), other.reply(), other.reply()]
-        tester.tally.check(got == [b"+PONG"] * 3 + [b"+bid 0.0", ENDS, b""], f"replies after SIGTERM: {got}")
+        tester.tally.check(got == [b"+PONG"] * 3 + [b"bid 0.0", ENDS, b""], f"replies after SIGTERM: {got}")
     tester.tally.check(front.process.wait(SECONDS) == 0, "the status after SIGTERM")
     front = Front(tester, "under_load", rows=mix()[0])
     outcome = watched(front, front.process.terminate)
@@ -386,6 +381,9 @@ UNIT = EXAMPLES / "front.service"
 def service(tester: FrontTester) -> None:
     """front.service: systemd takes it, and its command, with a socket of the file system, serves by its own
     clock and ends with status 0"""
+    tester.tally.check(
+        f"RestartPreventExitStatus={ANOTHER_LOG}\n" in UNIT.read_text(), "no start on a log that was changed"
+    )
     text = (
         UNIT.read_text()
         .replace("/usr/local/lib/fundreivo", str(EXAMPLES))
@@ -403,7 +401,7 @@ def service(tester: FrontTester) -> None:
     process = subprocess.Popen([sys.executable, "-B", words[1], "--unix", place, *words[2:]], stderr=subprocess.DEVNULL)
     Front.started.append(process)
     with first_client(place) as client:
-        tester.tally.check(client.ask(b"ITEM 1 2 Vase 10 99999999999999 *") == [b"+item 0.0"], "a reply of the service")
+        tester.tally.check(client.ask(b"ITEM 1 2 Vase 10 99999999999999 *") == [b"item 0.0"], "a reply of the service")
     process.terminate()
     tester.tally.check(process.wait(SECONDS) == 0, "the status of the service")
     (row,) = whole_lines(state / "auction.rows")
@@ -427,13 +425,13 @@ def first_client(place: Path) -> Client:
 
 
 def without_a_way_on(tester: FrontTester) -> None:
-    """ends with status 1: a program that dies without a log, a log that cannot be opened, no program, a port in use,
-    an audit that cannot be kept"""
+    """ends with status 1: a program that dies without a log, a log that cannot be opened, a port in use, an audit
+    that cannot be kept"""
     free = Front(tester, "unlogged")
     words = [word for word in free.words if word not in ("--log", str(free.log))]
     free.close()
     with tempfile.TemporaryFile() as said:
-        process = subprocess.Popen([*words[:3], "--port", str(free.port), *words[3:]], stderr=said)
+        process = subprocess.Popen([*FRONT, "--port", str(free.port), *words], stderr=said)
         front = SimpleNamespace(process=process, port=free.port)
         wait_until(lambda: is_served(free.port))
         with Client(free.port) as client:
@@ -444,11 +442,6 @@ def without_a_way_on(tester: FrontTester) -> None:
     tester.tally.check(
         front.process.wait(SECONDS) == 1 and front.said.read_text().count("record 1: not a number") == 6,
         f"a foreign log: {front.said.read_text()}",
-    )
-    front = Front(tester, "missing", program=tester.folder / "none")
-    tester.tally.check(
-        front.process.wait(SECONDS) == 1 and "No such file" in front.said.read_text(),
-        f"no program: {front.said.read_text()}",
     )
     with socket.create_server(("127.0.0.1", 0)) as taken:
         got = run([*FRONT, "--port", str(taken.getsockname()[1]), tester.program])
@@ -527,6 +520,7 @@ CHECKS = (
     commands,
     pipelines,
     other_clients,
+    languages,
     loads,
     shown,
     bounds,
@@ -540,6 +534,8 @@ CHECKS = (
     kept_in_order,
     service,
     without_a_way_on,
+    *WORD_CHECKS,
+    *LOG_CHECKS,
     engine_kills,
     front_kills,
 )

@@ -29,9 +29,12 @@ def bounds(tester: FrontTester) -> None:
             got = [client.reply(), client.reply(), client.reply()]
             tester.tally.check(got == [b"+PONG", PROTOCOL, b""], f"{command[:20]!r}: {got}")
     with front.client() as client:
-        got = client.ask(b"VIEWUSER " + b"1" * 5000, packed(b"ITEM", *[b'"' * 500] * 7), b"PING")
+        quotes = packed(b"ITEM", b"1", b"2", b'"' * 400, b"10", b"100", b"1")
+        long = (b"VIEWUSER " + b"1" * MOST_BYTES, packed(b"ITEM", *[b"A" * 100] * 6))
+        got = client.ask(b"VIEWUSER " + b"1" * 500, quotes, *long, b"PING")
         tester.tally.check(
-            got == [b"-ERR not a number", b"-ERR wrong number of fields", b"+PONG"], f"longer requests: {got}"
+            got == [b"-ERR not a number", b"-ERR not a name", *[b"-ERR longer than 512 bytes"] * 2, b"+PONG"],
+            f"long requests: {got}",
         )
     clients = [front.client() for _ in range(MOST_CLIENTS)]
     tester.tally.check(all(client.ask(b"PING") == [b"+PONG"] for client in clients), f"{MOST_CLIENTS} connections")

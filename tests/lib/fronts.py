@@ -2,6 +2,7 @@
 
 import os
 import re
+import shlex
 import signal
 import socket
 import subprocess
@@ -19,14 +20,13 @@ from lib.sessions import SECONDS, wait_until
 FRONT = [sys.executable, "-B", str(EXAMPLES / "front.py")]
 WORKERS, MEGABYTES = 4, 50
 # Replies of the front, and one of a view.
-PROTOCOL, UNKNOWN_COMMAND, FULL, ENDS = (
+PROTOCOL, FULL, ENDS = (
     b"-ERR Protocol error",
-    b"-ERR unknown command",
     b"-ERR max number of clients reached",
     b"-ERR the auction ends",
 )
 UNKNOWN = b"-UNKNOWN whether this was done: the auction ended before its reply"
-SEEN = b"+user rating=0 comments=0"
+SEEN = b"user rating=0 comments=0"
 
 
 class FrontTester(AuctionTester):
@@ -55,6 +55,7 @@ class Front:
         log: Path | None = None,
         waits: bool = True,
         program: Path | None = None,
+        script: list[str] = FRONT,
         **how: Any,
     ) -> None:
         self.folder = tester.folder / name
@@ -64,7 +65,7 @@ class Front:
             self.log.write_bytes(rows)
         places = ("--log", str(self.log), "--audit", str(self.audit))
         served = (str(program or tester.program), "--fast")
-        self.words = [*FRONT, *places, "--workers", str(WORKERS), *words, *served]
+        self.script, self.words = script, [*places, "--workers", str(WORKERS), *words, *served]
         self.port, self.how = 0, how
         self.start()
         if waits:
@@ -76,10 +77,15 @@ class Front:
         self.port = int(found[1]) if found else 0
         return found is not None
 
+    def serves_again(self) -> bool:
+        """Whether it serves, or has ended, after another start."""
+        return self.process.poll() is not None or b"serves at" in self.said.read_bytes()[self.began_at :]
+
     def start(self) -> None:
         place = ("--port", str(self.port))
         with self.said.open("ab") as said:
-            self.process = subprocess.Popen([*self.words[:3], *place, *self.words[3:]], stderr=said, **self.how)
+            self.began_at = said.tell()
+            self.process = subprocess.Popen([*self.script, *place, *self.words], stderr=said, **self.how)
         self.started.append(self.process)
 
     def engine(self) -> int:
@@ -150,9 +156,11 @@ class Client:
         self.socket.sendall(data)
 
     def reply(self) -> bytes:
-        """The next line, or nothing if the server has closed the connection."""
+        """The next reply: a text as it is, what is no array as its line, or nothing if the server has closed the
+        connection."""
         with suppress(ConnectionError):
-            return self.replies.readline().removesuffix(b"\r\n")
+            line = self.replies.readline().removesuffix(b"\r\n")
+            return self.replies.read(int(line[1:]) + 2)[:-2] if line[:1] == b"$" else line
         return b""
 
     def ask(self, *commands: bytes) -> list[bytes]:
@@ -160,11 +168,24 @@ class Client:
         return [self.reply() for _ in commands]
 
     def info(self) -> dict[str, int | str]:
-        self.send(b"INFO\n")
-        text = self.replies.read(int(self.reply()[1:]) + 2).decode()
+        text = self.ask(b"INFO")[0].decode()
         return {
             name: int(told) if told.isdigit() else told for name, told in (line.split(":") for line in text.split())
         }
+
+
+def script(path: Path, text: str) -> Path:
+    """A program in the place of the one under test."""
+    path.write_text(text)
+    path.chmod(0o755)
+    return path
+
+
+def shimmed(tester: FrontTester, name: str, limits: dict[str, int]) -> Path:
+    """The program, in which the shim sets limits."""
+    words = [f"{limit}={number}" for limit, number in limits.items()]
+    text = shlex.join(["exec", "env", f"LD_PRELOAD={tester.shim}", *words, str(tester.program)])
+    return script(tester.folder / f"{name}_program", f'#!/bin/sh\n{text} "$@"\n')
 
 
 def packed(*words: bytes) -> bytes:

@@ -26,7 +26,7 @@ def keep_asking(front: Front, waits: list[float], over: threading.Event) -> None
     with front.client() as client:
         while not over.is_set():
             begun, waited = time.monotonic(), without_processor(threads)
-            if not client.ask(b"VIEWITEM 0.0")[0].startswith(b"+viewitem"):
+            if not client.ask(b"VIEWITEM 0.0")[0].startswith(b"viewitem"):
                 return waits.append(float("inf"))
             waits.append(time.monotonic() - begun - without_processor(threads) + waited)
 

@@ -8,6 +8,7 @@
    THREADS_AT_MOST=n   no more than n threads are started
    LOG_WRITE_FAILS=n   the nth write to another file takes half, and the next one fails
    LOG_SYNC_FAILS=n    the nth fdatasync fails
+   LOG_SYNC_TAKES=n    each fdatasync takes n milliseconds more
    LOG_CUT_FAILS=n     the nth ftruncate fails
    LOCK_FAILS=1        the file system has no locks
    CLOCK_FAILS=1       the clock cannot be read
@@ -91,6 +92,7 @@ int fdatasync(int file) {
     static long done;
     int (*original)(int) = dlsym(RTLD_NEXT, "fdatasync");
     if (is_interrupted()) return -1;
+    if (limit("LOG_SYNC_TAKES") > 0) usleep(1000 * limit("LOG_SYNC_TAKES"));
     if (++done == limit("LOG_SYNC_FAILS")) {
         errno = EIO;
         return -1;

@@ -58,7 +58,7 @@ class Watcher(load.Client):
         if line[:1] == b"-":
             self.refused[line] += 1
         elif line != b"+OK":
-            place, text = line[1:].split(b" ", 1)
+            place, text = line.split(b" ", 1)
             self.seen[tuple(map(int, place.split(b".")))] = Seen(sent, now, text.decode())
 
 

@@ -1,0 +1,217 @@
+"""What examples/front.py does when its log fails, is moved or is cut, and when the clock goes back."""
+
+import os
+import re
+import shutil
+import subprocess
+import time
+from contextlib import contextmanager
+from pathlib import Path
+from typing import Callable, Iterator
+
+from lib.bidders import NOT_DONE, VASE, Bidders
+from lib.fronts import FRONT, UNKNOWN, Front, FrontTester, shimmed
+from lib.sessions import SECONDS, wait_until
+from lib.watched import judged_by_itself
+
+ANOTHER_LOG = 7  # a status
+FULL = b"cannot be written: No space left on device"
+
+
+def move(log: Path) -> None:
+    log.rename(log.with_name("moved"))
+
+
+def remove(log: Path) -> None:
+    shutil.copy(log, log.with_name("moved"))
+    log.unlink()
+
+
+def empty(log: Path) -> None:
+    """As logrotate does with `copytruncate`."""
+    shutil.copy(log, log.with_name("moved"))
+    os.truncate(log, 0)
+
+
+def cut_to_a_row(log: Path) -> None:
+    shutil.copy(log, log.with_name("moved"))
+    os.truncate(log, log.read_bytes().index(b"\n") + 1)
+
+
+def replace_by_an_older(log: Path) -> None:
+    older = log.with_name("older")
+    older.write_bytes(log.read_bytes().splitlines(True)[0])
+    log.rename(log.with_name("moved"))
+    older.rename(log)
+
+
+def replace_by_a_longer(log: Path) -> None:
+    """Of another auction."""
+    longer = log.with_name("longer")
+    longer.write_bytes(b'0,+item,1,2,"Vase",10,100,1,1\n' * (2 + log.read_bytes().count(b"\n")))
+    log.rename(log.with_name("moved"))
+    longer.rename(log)
+
+
+DEEDS = (move, remove, empty, cut_to_a_row, replace_by_an_older, replace_by_a_longer)
+
+
+def bidding(front: Front) -> Bidders:
+    """Clients of a front that has an item."""
+    with front.client() as client:
+        assert client.ask(VASE) == [b"item 0.0"]
+    return Bidders(front.client)
+
+
+def other_logs(tester: FrontTester) -> None:
+    """a log that is moved, removed, emptied, cut, or replaced under load: status 7, nothing more is done, no id is
+    given twice, and the log that was put back goes on with all that was acknowledged"""
+    for deed in DEEDS:
+        front = Front(tester, deed.__name__)
+        with bidding(front) as bidders:
+            wait_until(lambda: len(bidders.acknowledged) > 100)
+            deed(front.log)
+            status = front.process.wait(SECONDS)
+        tester.tally.check(
+            status == ANOTHER_LOG and set(bidders.others) <= {UNKNOWN, b"-ERR the auction ends"},
+            f"{deed.__name__}: status {status}, {bidders.others[:3]}, {front.said.read_text()[-300:]}",
+        )
+        bidders.judge(tester.tally, deed.__name__, front.log.with_name("moved").read_bytes())
+        front.log.with_name("moved").replace(front.log)
+        front.start()
+        wait_until(front.serves_again)
+        with front.client() as client:
+            seen = client.ask(b"VIEWITEM 0.0")[0]
+        tester.tally.check(
+            int(re.search(rb"bids=(\d+)", seen)[1]) >= len(bidders.acknowledged) and front.close() == 0,
+            f"the log is put back: {seen}",
+        )
+
+
+def failing_syncs(tester: FrontTester) -> None:
+    """each start's eighth sync fails, under load: the log is copied before the next start, a bid that is told to be not
+    done is none, and no acknowledged one is lost"""
+    if tester.shim is None:
+        return tester.tally.skip(failing_syncs.__doc__, "there is no C compiler")
+    limits = {"LOG_SYNC_FAILS": 8, "LOG_SYNC_TAKES": 20}
+    front = Front(tester, "failing_syncs", program=shimmed(tester, "failing_syncs", limits))
+    places = set()
+    with bidding(front) as bidders:
+        for start in range(2, 5):
+            places.add(front.log.stat().st_ino)
+            wait_until(lambda: front.said.read_text().count("ended with status 5") >= start - 1)
+            wait_until(lambda: front.log.stat().st_ino not in places)
+    tester.tally.check(
+        len(places) == 3
+        and not bidders.others
+        and bidders.not_done
+        and bidders.views >= len(bidders.acknowledged) + len(bidders.not_done)
+        and not front.log.with_name("rows.new").exists(),
+        f"syncs that fail: {len(places)} files, {bidders.others[:3]}, {len(bidders.not_done)} not done",
+    )
+    tester.tally.check(front.close() == 0, f"the status after syncs that fail: {front.said.read_text()[-300:]}")
+    bidders.judge(tester.tally, "syncs that fail", front.log.read_bytes())
+    judged_by_itself(tester, front)
+
+
+@contextmanager
+def small_disk(tester: FrontTester, size: str) -> Iterator[Path | None]:
+    """A disk of this size, if one can be mounted."""
+    disk = tester.folder / "small_disk"
+    disk.mkdir()
+    mount = ["mount", "-t", "tmpfs", "-o", f"size={size}", "tmpfs", disk]
+    if os.geteuid() != 0 or subprocess.run(mount, capture_output=True).returncode != 0:
+        yield None
+        return
+    try:
+        yield disk
+    finally:
+        subprocess.run(["umount", "--lazy", disk], check=True)
+
+
+def full_disk(tester: FrontTester) -> None:
+    """a disk that is full: views are answered, stores are told that they are not done and why, and they are done again
+    once there is room"""
+    with small_disk(tester, "640k") as disk:
+        if disk is None:
+            return tester.tally.skip(full_disk.__doc__, "no disk can be mounted")
+        front = Front(tester, "full_disk", log=disk / "rows")
+        with bidding(front) as bidders:
+            wait_until(lambda: len(bidders.acknowledged) > 100)
+            (disk / "other").write_bytes(bytes(600_000))
+            wait_until(lambda: bidders.not_done)
+            before, views = len(bidders.acknowledged), bidders.views
+            wait_until(lambda: bidders.views > views + 1000)
+            time.sleep(2.5)
+            during, starts = len(bidders.acknowledged), front.info()["starts"]
+            (disk / "other").unlink()
+            wait_until(lambda: len(bidders.acknowledged) > during + 1000)
+        with front.client() as client:
+            told = client.ask(VASE)
+        tester.tally.check(
+            during - before < 100 and starts <= 4 and not bidders.others and told[0].startswith(b"item "),
+            f"a full disk: {during - before} acknowledged, {starts} starts, {bidders.others[:3]}, then {told}",
+        )
+        tester.tally.check(front.close() == 0, f"the status after a full disk: {front.said.read_text()[-300:]}")
+        bidders.judge(tester.tally, "a full disk", front.log.read_bytes())
+        judged_by_itself(tester, front)
+
+
+def refused_write(tester: FrontTester) -> None:
+    """a write that fails: the store is told what failed, and that it is not done"""
+    if tester.shim is None:
+        return tester.tally.skip(refused_write.__doc__, "there is no C compiler")
+    front = Front(tester, "refused_write", program=shimmed(tester, "refused_write", {"LOG_WRITE_FAILS": 2}))
+    with front.client() as client:
+        got = client.ask(VASE, b"VIEWUSER 0") + client.ask(VASE, b"VIEWITEM 0.0")
+        wanted = NOT_DONE + b"the log " + FULL
+        tester.tally.check(
+            got[0] == b"item 0.0" and got[2].startswith(wanted) and got[3].startswith(b"viewitem "), f"{got}"
+        )
+    tester.tally.check(front.close() == 0, "the status after a write that failed")
+
+
+# A front whose clock is so many seconds off as a file says.
+CLOCK = """\
+import runpy, sys, time
+now, (shift, script) = time.time_ns, sys.argv[1:3]
+time.time_ns = lambda: now() + int(open(shift).read()) * 10**9
+sys.argv[:] = sys.argv[2:]
+sys.path[0] = script.rpartition("/")[0]
+runpy.run_path(script, run_name="__main__")
+"""
+
+
+def clock(tester: FrontTester) -> None:
+    """a clock that goes back an hour: an item that was closed stays closed, at once, after a kill of the program, and
+    after one of the front"""
+    shift = tester.folder / "shift"
+    shift.write_text("0")
+    front = Front(tester, "clock", script=[*FRONT[:-1], "-c", CLOCK, str(shift), FRONT[-1]])
+    with front.client() as client:
+        closes = int(1000 * (time.time() + 1.5))
+        got = client.ask(b"ITEM 1 2 Vase 10 %d *" % closes, b"BID 1 0.0 500 *")
+        wait_until(lambda: time.time() * 1000 > closes)
+        got += client.ask(b"BID 2 0.0 600 *")
+        shift.write_text("-3600")
+        got += client.ask(b"BID 3 0.0 700 *")
+        front.kill_engine()
+        wait_until(lambda: front.info()["starts"] == 2)
+        got += client.ask(b"BID 4 0.0 700 *")
+    front.kill()
+    wait_until(front.serves_again)
+    with front.client() as client:
+        got += client.ask(b"BID 5 0.0 800 *")
+    tester.tally.check(
+        got == [b"item 0.0", b"bid 0.0", *[b"refused 5 Closed"] * 4], f"a clock that goes back an hour: {got}"
+    )
+    tester.tally.check(front.close() == 0, "the status after a clock that went back")
+
+
+LOG_CHECKS: tuple[Callable[[FrontTester], None], ...] = (
+    other_logs,
+    failing_syncs,
+    full_disk,
+    refused_write,
+    clock,
+)
