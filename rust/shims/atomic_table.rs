@@ -1,0 +1,1 @@
+//! Specs alone name Rattle's table of words and slots.
