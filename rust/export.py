@@ -19,7 +19,7 @@ from typing import NamedTuple, NoReturn
 HERE = Path(__file__).resolve().parent
 ROOT = HERE.parent
 # Crates that are written in Rust, beside this script.
-OWN = ("kit", "fundreivo")
+OWN = ("kit", "fundreivo", "fundreivo_c")
 ATTRIBUTES = set("cfg cold derive error inline must_use test".split())
 # Those of proofs, and bounds of a generic error, which Rust's `thiserror` finds by itself.
 LEFT_OUT = {"cycle", "error_bound", "tactic"}
