@@ -62,7 +62,7 @@ beside="second_opinion tutorial must_be_spent edits_tests timeline failover term
 for script in $beside; do
     python3 -B "tests/$script.py" > "$said/$script" 2>&1 &
 done
-for script in documents surface worked ends live logs lasting serving quorum limits refused_memory library_calls checking loads tools packaged joined postgres; do
+for script in documents surface worked ends live logs lasting serving quorum limits refused_memory library_calls checking loads tools packaged joined postgres rust; do
     echo "== tests/$script.py"
     python3 -B "tests/$script.py" 2>&1 | tee "$said/$script" || true
 done

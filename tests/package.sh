@@ -1,6 +1,6 @@
 #!/usr/bin/env bash
-# Packs the programs that `rt ci` built, to run without the kit: fundreivo-VERSION-x86_64-linux.tar.gz, with examples, pages and MANIFEST. The same commit,
-# programs and log give the same bytes.
+# Packs the programs that `rt ci` built, to run without the kit: fundreivo-VERSION-x86_64-linux.tar.gz, with examples, pages, the crates as ordinary Rust (where
+# there is a cargo, which writes their Cargo.lock) and MANIFEST. The same commit, programs, log and crates of others give the same bytes.
 #
 #     tests/package.sh [--log FILE] [FOLDER]    into FOLDER, or else out/
 #
@@ -110,6 +110,11 @@ trap 'rm -rf "$room"' EXIT
 mkdir -p "$into" "$room/$packed/bin"
 cp "${programs[@]}" "$room/$packed/bin"
 git archive HEAD README.md LICENSE CHANGELOG.md docs examples | tar -x -C "$room/$packed"
+if [ -x rust/build ] && command -v cargo > /dev/null; then
+    rust/build generate-lockfile >&2
+    mkdir "$room/$packed/rust"
+    tar -c -C rust/out --exclude=./target . | tar -x -C "$room/$packed/rust"
+fi
 (cd "$room/$packed" && manifest > MANIFEST)
 tar -c -C "$room" --sort=name --format=ustar --owner=0 --group=0 --numeric-owner --mode=u=rwX,go=rX --mtime="@$committed" "$packed" | gzip -n > "$room/archive"
 cp "$room/archive" "$into/$packed.tar.gz"

@@ -1,0 +1,229 @@
+#!/usr/bin/env python3
+"""Shows that the crates as ordinary Rust are the same program: what rust/build writes and builds passes the tests of
+the sources, and writes the same bytes.
+
+    tests/rust.py [NATIVE] [--inputs 300] [--seed N]
+
+NATIVE is a build of the Rattle sources to compare with, or else that of `rt ci`; if there is none, the program is held
+against the model of tests/lib alone. It needs cargo with Rust 1.89, and the crates of docs/RUST.md.
+"""
+
+import itertools
+import random
+import re
+import shutil
+import subprocess
+import sys
+import tempfile
+from argparse import Namespace
+from pathlib import Path
+
+from lib.model import Outcome
+from lib.program import BUILT, CRATES, EXAMPLES, ROOT, TESTS, Tally, build_shim, described, executable, parser_of, run
+from lib.refusing import Refusing
+from lib.sessions import FIRST, requests
+from refused_memory import cases
+
+RUST = ROOT / "rust"
+BUILT_BY_CARGO = RUST / "out/target/release/rubis_auction"
+LEAST_RUST = (1, 89)
+# Texts that are no Rust and that the exporter does not know, each with what it says.
+STRANGE = {
+    "fn f() {\n    union();\n}\n": "2: `union` cannot be exported here",
+    "fn f() {}\n\n#[strange]\nfn g() {}\n": "3: the attribute `strange` is not known",
+    "fn f() {\n    let a = ask!(b);\n}\n": "2: `ask!` is not known",
+    "fn f(a: u8) -> bool {\n    a ≡ 3\n}\n": "2: `≡` is no mark of Rust",
+    "fn f()\n    ensures five six { true }\n{\n}\n": "2: `ensures` cannot be exported here",
+    "struct A {\n    b: B,\n}\n\nimpl Drop for A {\n    fn drop(self) {\n        self.b.close();\n    }\n}\n":
+        "5: a drop that does more than to let fields go",
+    "fn f() {}\nghost a: { b }\n": "2: a ghost item that does not end",
+}
+WORDS = (
+    "--help -h --version -V --workers --workers=3 3 0 17 --rows --rows=1 --history --hist --reprt --report --log x --"
+    " - -q --joined 5 --split= --split=x --threshold=4294967296 --live --help=1 -hV --wrkers --fast --hot -1 --users=9"
+).split()
+# The cases of refused_memory.py of which each allocation is refused here too.
+FEW_CASES = 6
+
+
+def reason_to_skip() -> str | None:
+    """Why nothing can be built here."""
+    if not shutil.which("cargo"):
+        return "there is no cargo"
+    said = subprocess.run(["cargo", "--version"], capture_output=True, text=True).stdout
+    found = re.match(r"cargo (\d+)\.(\d+)", said)
+    if not found or tuple(map(int, found.groups())) < LEAST_RUST:
+        return f"cargo is older than {LEAST_RUST[0]}.{LEAST_RUST[1]}: {said.strip()}"
+    got = subprocess.run([RUST / "build", "metadata", "--format-version", "1"], capture_output=True, text=True)
+    lacks = re.search(r"error: ((?:no matching package|failed to get `).*)", got.stderr)
+    return lacks[1] if got.returncode and lacks else None
+
+
+def refuses(tally: Tally) -> None:
+    """sources that cannot be exported, refused with file and line"""
+    sys.path.insert(0, str(RUST))
+    from export import Source
+
+    with tempfile.TemporaryDirectory(dir=RUST / "out") as folder:
+        for text, wanted in STRANGE.items():
+            path = Path(folder) / "strange.rt"
+            path.write_text(text)
+            try:
+                said = f"no error, but {Source(path).as_rust(False)!r}"
+            except SystemExit as refused:
+                said = str(refused)
+            tally.check(said.endswith(f"strange.rt:{wanted}"), f"{text!r}: wanted {wanted!r}; got {said!r}")
+
+
+def exports(tally: Tally) -> None:
+    """exported crates: none has `unsafe`, and public contracts stand in their docs"""
+    crates = {path: path.read_text() for path in (RUST / "out/crates").rglob("*.rs")}
+    tally.check(len(crates) == len(list(CRATES.glob("*/src/**/*.rt"))), "a file for each of the sources")
+    for path, text in crates.items():
+        tally.check(not re.search(r"(?m)^(?!\s*//).*\bunsafe\b", text), f"{path}: `unsafe`")
+    for path in CRATES.glob("*/src/**/*.rt"):
+        # The clauses of functions that begin a line by `pub fn`, each by the first word that it has of its own.
+        wanted = re.findall(r"(?m)^ *pub fn [^{;]*?\n *((?:requires|ensures)\b[^{]*\{)", path.read_text())
+        text = crates[RUST / "out/crates" / path.relative_to(CRATES).with_suffix(".rs")]
+        tally.check(all(f"/// {clause}" in text for clause in wanted), f"{path}: a contract that is not in the docs")
+
+
+def builds(tally: Tally, *words: str) -> str:
+    got = subprocess.run([RUST / "build", *words], stdout=subprocess.PIPE, stderr=subprocess.STDOUT, text=True)
+    tally.check(got.returncode == 0, f"rust/build {' '.join(words)}: {got.stdout[-3000:]}")
+    return got.stdout
+
+
+def tests(tally: Tally) -> None:
+    """the tests of the sources, run by cargo"""
+    said = builds(tally, "test")
+    passed, failed = (sum(map(int, re.findall(rf"(\d+) {word}", said))) for word in ("passed", "failed"))
+    wanted = sum(path.read_text().count("#[test]") for path in CRATES.glob("*/src/**/*.rt"))
+    tally.check(passed >= wanted and not failed, f"{wanted} tests: {passed} passed, {failed} failed")
+    tally.passed += passed
+
+
+def script(tally: Tally, name: str, *words: object) -> None:
+    """Runs a script of tests on the program, and adds what it counts."""
+    got = subprocess.run([sys.executable, "-B", TESTS / name, *map(str, words)], capture_output=True, text=True)
+    counted = re.search(r"(\d+) passed, (\d+) failed\n$", got.stdout)
+    tally.passed += int(counted[1]) if counted else 0
+    tally.check(got.returncode == 0, f"tests/{name} {words}: {got.stdout[-1000:]}{got.stderr[-1000:]}")
+
+
+def words(tally: Tally, native: Path, rng: random.Random) -> None:
+    """words that are options, or nearly"""
+    with tempfile.TemporaryDirectory() as folder:
+        for _ in range(100):
+            drawn = [rng.choice(WORDS) for _ in range(rng.randint(1, 4))]
+            got, wanted = (run([program, *drawn], cwd=folder) for program in (BUILT_BY_CARGO, native))
+            tally.same(f"words {drawn}", got, wanted)
+
+
+def perform(log: Path, drawn: list[str], *programs: Path) -> tuple[list[Outcome], bytes]:
+    """What programs answer that have a log one after the other, and the log."""
+    half = len(drawn) // 2
+    parts = ("".join(f"0,{line}\n" for line in part) for part in (drawn[:half], drawn[half:]))
+    log.unlink(missing_ok=True)
+    words = ("--live", "3", "--log", log)
+    outcomes = [run([program, *words], part.encode()) for program, part in zip(programs, parts)]
+    return outcomes, log.read_bytes()
+
+
+def logs(tally: Tally, native: Path, rng: random.Random) -> None:
+    """logs that one program wrote and the other reads and goes on with"""
+    with tempfile.TemporaryDirectory() as folder:
+        log = Path(folder) / "log"
+        for _ in range(5):
+            drawn = [*FIRST, *requests(rng, 60)]
+            wanted = perform(log, drawn, native, native)
+            for pair in itertools.product((native, BUILT_BY_CARGO), repeat=2):
+                got = perform(log, drawn, *pair)
+                tally.check(got == wanted, f"a log of {pair}: {[described(outcome) for outcome in got[0]]}")
+
+
+def refused_memory(tally: Tally) -> None:
+    """allocations that are refused, one or all from one on"""
+    with tempfile.TemporaryDirectory() as folder:
+        shim = build_shim("refused_memory", Path(folder))
+        if shim is None:
+            tally.skip("refused allocations", "there is no C compiler")
+            return
+        for case in cases()[:FEW_CASES]:
+            refusing = Refusing(shim, [BUILT_BY_CARGO, *case.options.words()], case.data)
+            for refusal in itertools.chain(refusing.each(False), refusing.each(True)):
+                tally.check(case.may_answer(refusal.outcome), f"{case.name}, {refusal}: {described(refusal.outcome)}")
+
+
+def other_languages(tally: Tally) -> None:
+    """the C library and the Python module over it, beside the program"""
+    sys.path.insert(0, str(RUST / "fundreivo_c"))
+    import fundreivo
+
+    library = BUILT_BY_CARGO.parent / "libfundreivo_c.so"
+    first, contended = ((EXAMPLES / f"{name}.csv").read_bytes() for name in ("first_example", "contended"))
+    asked = [(first, []), (contended, ["--workers", "2", "--history"]), (first, ["--rows"]), (b"", ["--workers", "17"])]
+    asked += [(b"0,viewitem,x\n", []), (b"0,+bid,0,0.0,1,1\n", []), (b"", []), (first, ["--fast", "--report"])]
+    with tempfile.TemporaryDirectory() as folder:
+        program = Path(folder) / "program"
+        compiler = next(filter(None, map(shutil.which, ("cc", "gcc", "clang"))), None)
+        if compiler:
+            words = ["-Wall", "-Wextra", "-Werror", "-I", RUST / "fundreivo_c", TESTS / "lib/c_library.c", library]
+            subprocess.run([compiler, *words, "-o", program, f"-Wl,-rpath,{library.parent}"], check=True)
+        else:
+            tally.skip("the C library", "there is no C compiler")
+        for data, drawn in asked:
+            wanted = run([BUILT_BY_CARGO, *drawn], data)
+            if compiler:
+                tally.same(f"the C library, {drawn}", run([program, *drawn], data), wanted)
+            try:
+                got = Outcome(0, fundreivo.run(data, *drawn), b"")
+            except fundreivo.Fault as fault:
+                got = Outcome(fault.status, b"", f"{fault}\n".encode())
+            tally.check(
+                (got.status, got.stdout, got.stderr.strip()) == (wanted.status, wanted.stdout, wanted.stderr.strip()),
+                f"the Python module, {drawn}: wanted {described(wanted)}; got {described(got)}",
+            )
+        try:
+            fundreivo.run(first, "--log", "x")
+            tally.check(False, "a call that would serve")
+        except fundreivo.Fault as fault:
+            tally.check(fault.status == 1, f"a call that would serve: {fault}")
+
+
+def same_bytes(tally: Tally, asked: Namespace) -> None:
+    """the same bytes as a native build, or else as the model has them"""
+    native = asked.native or (BUILT if BUILT.exists() else None)
+    if native is None:
+        tally.skip("the comparison with a native build", f"there is no {BUILT.relative_to(ROOT)}")
+        script(tally, "second_opinion.py", BUILT_BY_CARGO, "--seconds", 20, "--seed", asked.seed)
+        return
+    script(tally, "compare_programs.py", native, BUILT_BY_CARGO, "--inputs", asked.inputs, "--seed", asked.seed)
+    tally.tell(words, tally, native, random.Random(asked.seed))
+    tally.tell(logs, tally, native, random.Random(asked.seed))
+
+
+def main() -> None:
+    asked = parser_of(__doc__)
+    asked.add_argument("native", nargs="?", type=executable)
+    asked.add_argument("--inputs", type=int, default=300)
+    asked.add_argument("--seed", type=int, default=random.randrange(10**6))
+    asked = asked.parse_args()
+    tally = Tally()
+    if why := reason_to_skip():
+        tally.skip("all of rust/", why)
+        tally.finish()
+    print(f"seed {asked.seed}", flush=True)
+    builds(tally)
+    tally.tell(refuses, tally)
+    tally.tell(exports, tally)
+    script(tally, "worked.py", BUILT_BY_CARGO)
+    tally.tell(same_bytes, tally, asked)
+    tally.tell(refused_memory, tally)
+    tally.tell(other_languages, tally)
+    tally.tell(tests, tally)
+    tally.finish()
+
+
+if __name__ == "__main__":
+    main()
