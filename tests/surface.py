@@ -2,7 +2,7 @@
 """Shows that the libraries have each call that was specified before they were written: types with their public fields
 or variants, traits with what has to be written of them, functions with the types of their parameters and results.
 tests/surface.txt lists them, and says how it is read. If the sources have another form, it is below the specified one,
-and the table of docs/DECISIONS.md names the call.
+and a line of tests/surface_forms.txt names the call and says why.
 
     tests/surface.py
 """
@@ -14,12 +14,10 @@ from itertools import groupby, product
 from typing import Iterator
 
 from lib.declarations import Crate, Item, Tokens, crates, items
-from lib.program import DOCUMENTS, ROOT, TESTS, Tally
+from lib.program import ROOT, TESTS, Tally
 
-LIST = TESTS / "surface.txt"
-DECISIONS = DOCUMENTS / "DECISIONS.md"
-# Where its table begins, and the row of a type that has another name in all calls.
-FORMS = "\n## Forms of calls\n"
+LIST, FORMS = TESTS / "surface.txt", TESTS / "surface_forms.txt"
+# The line of a type that has another name in all calls.
 OF_MEMORY, MEMORY = "every call that can run out of memory", {"Memory": "AllocError"}
 # Type parameters that only contracts read: they name a phase, or a publisher. The list has the
 # second where a type is declared.
@@ -272,8 +270,8 @@ def compare(tally: Tally, one: Listed) -> None:
     if one.here:
         names = {said.name, *(f"{said.name}::{Tokens(each).peek()}" for each in specified.members)}
         tally.check(
-            bool(names & names_in_rows()),
-            f"{DECISIONS.name} has a row of `{said.name}` of {one.crate}, as its form is another",
+            bool(names & names_with_reasons()),
+            f"{FORMS.name} has a line of `{said.name}` of {one.crate}, as its form is another",
         )
 
 
@@ -299,11 +297,11 @@ def difference(wanted: Form, found: Form) -> str:
 
 
 @cache
-def names_in_rows() -> set[str]:
-    """The names in the first column of the table of forms."""
-    rows = re.findall(r"(?m)^\| (.*?) \| ", DECISIONS.read_text().partition(FORMS)[2])
-    names = {re.sub("<.*", "", name) for row in rows for name in re.findall(r"`([^`]+)`", row)}
-    return names | {OF_MEMORY for row in rows if row == OF_MEMORY}
+def names_with_reasons() -> set[str]:
+    """The names of calls whose other form has a reason."""
+    calls = re.findall(r"(?m)^([^#\n].*?) \| .+ \| .+$", FORMS.read_text())
+    names = {re.sub("<.*", "", name) for line in calls for name in re.findall(r"`([^`]+)`", line)}
+    return names | ({OF_MEMORY} & set(calls))
 
 
 def compare_impls(tally: Tally, one: Listed) -> None:
@@ -336,12 +334,12 @@ def has_trait(crate: Crate, item: Item, type_: str, trait: str) -> bool:
 
 def main() -> None:
     tally = Tally()
-    tally.check(OF_MEMORY in names_in_rows(), f"{DECISIONS.name} has a row of {OF_MEMORY}")
+    tally.check(OF_MEMORY in names_with_reasons(), f"{FORMS.name} has a line of {OF_MEMORY}")
     for (crate, here), calls in groupby(listed(), lambda one: (one.crate, one.here_crate)):
         passed = tally.passed
         tally.check(
-            here == crate or crate in names_in_rows(),
-            f"{DECISIONS.name} has a row of {crate}, as its calls are in {here}",
+            here == crate or crate in names_with_reasons(),
+            f"{FORMS.name} has a line of {crate}, as its calls are in {here}",
         )
         for one in calls:
             (compare_impls if one.text.startswith("impl ") else compare)(tally, one)
