@@ -47,6 +47,15 @@ const sizes = [...document.querySelectorAll(".box rect")].map((box) => box.getBo
     .map(({ width, height }) => [width, height]);
 document.body.dataset.sizes = JSON.stringify(sizes);
 """
+# Keeps which heads of the list are cut off, and in how many rows the tools stand.
+NARROW = """
+const cut = [...document.querySelectorAll("#head > span")].filter((head) => head.scrollWidth > head.clientWidth);
+const tops = [...document.querySelectorAll("#search, #tools button")]
+    .map((tool) => Math.round(tool.getBoundingClientRect().top));
+document.body.dataset.narrow = JSON.stringify({ cut: cut.map((head) => head.textContent), rows: new Set(tops).size });
+"""
+# How wide a page may be, and how many rows of tools it has then.
+ROWS_OF_TOOLS = {400: 2, 830: 1}
 # Keeps what there is after each stage of some acts.
 SEE = """
 const stages = [], all = (selector) => [...document.querySelectorAll(selector)];
@@ -431,6 +440,7 @@ def in_a_browser(make: Maker, program: Path) -> None:
         make.tally.skip("pages in a browser", "there is no Chromium")
         return
     drawn_small(make, browser)
+    drawn_narrow(make, browser)
     drawn_run(make, browser, run([program, *OF_SKEWED], SKEWED.read_bytes()).stdout)
     drawn_wrong(make, browser)
     drawn_hostile(make, browser)
@@ -480,6 +490,14 @@ def drawn_small(make: Maker, browser: Browser) -> None:
         root.by_id("facts").text() == "8 lines, 2 workers, 3 phases, 5 stores, 3 views, 0 refused, 1 stashed.",
         root.by_id("facts").text(),
     )
+
+
+def drawn_narrow(make: Maker, browser: Browser) -> None:
+    page = make.page(CONTENDED)
+    for width, rows in ROWS_OF_TOOLS.items():
+        root = browser.opened(page, NARROW, width=width)
+        found = json.loads(root.of_tag("body")[0].attributes["data-narrow"])
+        make.tally.check(found == {"cut": [], "rows": rows}, f"a page of {width} pixels: {found}")
 
 
 def drawn_run(make: Maker, browser: Browser, history: bytes) -> None:
