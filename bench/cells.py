@@ -32,13 +32,6 @@ def count(value: float | None) -> str:
     return "-" if value is None else f"{value:,.0f}"
 
 
-def in_words(value: float | None) -> str:
-    """Two digits that count, with the word for millions."""
-    if value is None:
-        return "-"
-    return f"{two(value / MILLION)} million" if value >= 995_000 else two(value)
-
-
 def in_workers(workers: int) -> str:
     return f"{workers} worker{'s' * (workers > 1)}"
 
@@ -90,11 +83,6 @@ def times(own: Figure | None, one: Figure | None) -> str:
 
 # What a page says where two figures' ranges have a part in common: the tries do not show that the figures differ.
 OVERLAP = "ranges overlap"
-
-
-def times_told(own: Figure, one: Figure) -> str:
-    """A figure as a multiple of another, and whether their ranges overlap."""
-    return times(own, one) + ("" if are_apart(own, one) else f", {OVERLAP}")
 
 
 def times_if_apart(own: Figure | None, one: Figure | None) -> str:

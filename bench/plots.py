@@ -268,7 +268,7 @@ def by_delay(rows: list[Figure], origin: Origin) -> str | None:
     title, better = "Throughput against the delay of stashed views", "(up and left is better)"
     under = f"{rows[0].load}, executing, {rows[0].workers} workers {better}"
     quotas = ", ".join(str(delay.split) for delay in delays)
-    about = f"A point for each split quota: {quotas}. The table above it has the figures.{bars}"
+    about = f"A point for each split quota: {quotas}. figures.csv has the figures.{bars}"
     key = entries([("the number at a point: --split", style)], 72, 476)
     return picture(WIDTH, bottom, f"{title} {better}", about, [*heading(title, under), *parts, *key, *last])
 
@@ -321,7 +321,7 @@ def by_parts(rows: list[Figure], origin: Origin) -> str | None:
     last, end = foot(492 + height_of(names), origin, bars)
     title, under = "Throughput by batch size", "one worker, many requests at once"
     level = f"level lines for {', '.join(levels)}"
-    about = f"A line with a log and one without over N, and {level}. The table below it has the figures.{bars}"
+    about = f"A line with a log and one without over N, and {level}. figures.csv has the figures.{bars}"
     drawn = [*heading(title, under), *parts, *entries(names, 72, 476), *last]
     return picture(WIDTH, end, f"{title}: {under}", about, drawn)
 

@@ -4,10 +4,10 @@ import datetime
 import os
 import platform
 import re
+import subprocess
 import sys
 import tempfile
 from argparse import Namespace
-from functools import partial
 from typing import Iterator
 
 import claims
@@ -16,12 +16,11 @@ import lite
 import measures
 import plots
 import redis_server
-from cells import count, figure, heads_of, in_workers, loads_of, millions, ranged, table, times, times_if_apart, two
-from cells import value, values
-from figures import ALL_THREADS, CLIENT_WAITS, CLIENTS_RATE, DELAY, EXECUTING, FAULTS, INSTRUCTIONS, LATEST
-from figures import LONGEST_THREAD, MEMORY, OPENING, PROCESSORS, RUN, SECONDS, VIEW, WAITS, WHOLE_RATE
-from figures import AUCTION, SYSTEMS, UNSPLIT, Figure, live_words
-from measures import BIDDING, ONE_ITEM, UNIFORM, Policy
+from cells import count, figure, heads_of, in_workers, loads_of, millions, ranged, table, times_if_apart, two, value
+from cells import values
+from figures import ALL_THREADS, AUCTION, CLIENT_WAITS, CLIENTS_RATE, DATABASES, EXECUTING, MEMORY, OPENING, PROCESSORS
+from figures import RUN, SECONDS, SYSTEMS, WAITS, WHOLE_RATE, Figure, live_words
+from measures import BIDDING, ONE_ITEM, UNIFORM
 from programs import ROOT
 
 README, PERFORMANCE, FOLDER = "README.md", "docs/PERFORMANCE.md", "docs/performance"
@@ -57,6 +56,24 @@ def file_system(folder: str) -> str:
     return max((len(place), kind) for place, kind in mounts if os.path.commonpath([folder, place]) == place)[1]
 
 
+def commit() -> str:
+    """The commit that is checked out, with a plus if the crates have changes that are in none."""
+    found = git("rev-parse", "--short=8", "HEAD").strip() or "unknown"
+    return found + "+" * bool(git("status", "--porcelain", "crates"))
+
+
+def changes_since_measured() -> str:
+    """What to say if the sources of crates are others than those that the page's figures are of."""
+    found = re.search(r"at commit (\w+)", origin(written(PERFORMANCE, [])))
+    later = git("rev-list", f"{found[1]}..HEAD", "--", ":(glob)crates/*/src/**").split() if found else []
+    return f"{len(later)} commits have changed crates/*/src since {found[1]}, which the figures are of" if later else ""
+
+
+def git(*words: str) -> str:
+    quiet = {"stdout": subprocess.PIPE, "stderr": subprocess.DEVNULL, "text": True}
+    return subprocess.run(["git", *words], cwd=ROOT, **quiet).stdout
+
+
 def command(asked: Namespace) -> str:
     numbers = (
         f"--requests {asked.requests} --tries {asked.tries} --minutes {asked.minutes:g} --seconds {asked.seconds:g}"
@@ -88,85 +105,29 @@ def over_one(rows: list[Figure], columns: list[Column]) -> list[str]:
 
 
 def by_workers(rows: list[Figure]) -> str:
-    """All systems with two numbers of workers, and the auction's gain by workers."""
+    """All systems with two numbers of workers, and below the auction's rates what they are worth over one worker."""
     shown, rows = sorted({1, claims.most_workers(rows)}), values(rows, table="workers", measure=WHOLE_RATE)
-    loads, counts = loads_of(rows), sorted({row.workers for row in rows} - {1})
-    columns: list[Column] = [{"load": load, "workers": workers} for load in loads for workers in shown]
+    columns: list[Column] = [{"load": load, "workers": workers} for load in loads_of(rows) for workers in shown]
     heads = heads_of((column["load"], column["workers"]) for column in columns)
-    rates = table(["Millions of requests per second, whole command", *heads], rate_lines(rows, columns))
-    lines = [[load, *over_one(rows, [{"load": load, "workers": workers} for workers in counts])] for load in loads]
-    return rates + "\n" + table(["Fundreivo over one worker, by workers", *map(str, counts)], lines)
+    gains = [gain if column["workers"] > 1 else "" for column, gain in zip(columns, over_one(rows, columns))]
+    own, *others = rate_lines(rows, columns)
+    return table(["Millions of requests per second, whole command", *heads], [own, [OVER_ONE, *gains], *others])
 
 
 def executing(rows: list[Figure]) -> str:
+    """The auction and the databases, load by load."""
     rows = values(rows, table="executing", measure=EXECUTING)
-    loads, most = loads_of(rows), max(row.workers for row in rows)
-    columns: list[Column] = [{"load": load, "workers": most} for load in loads]
-    own, *others = rate_lines(rows, columns)
-    heads = [f"Millions of requests per second, executing, {in_workers(most)}", *loads]
-    return table(heads, [own, [OVER_ONE, *over_one(rows, columns)], *others])
+    most, lines = max(row.workers for row in rows), []
+    for system in (AUCTION, *DATABASES):
+        if own := values(rows, system=system, workers=most):
+            rates = [f"{millions(row)} on {claims.load_in_words(row)}" for row in own]
+            lines.append(f"- {system}: {claims.listed(rates)}")
+    return "\n".join([f"Millions of requests per second, executing, {in_workers(most)}:\n", *lines]) + "\n"
 
 
-def by_skew(rows: list[Figure]) -> str:
-    """The ends of the plot, all items alike and one item, are in the table by workers."""
-    rows = [row for row in values(rows, table="skew", measure=WHOLE_RATE) if row.skew > 0]
-    names = loads_of(rows)
-    heads = [name.split("exponent ")[-1] for name in names]
-    most = max(row.workers for row in rows)
-    lines = rate_lines(rows, [{"load": name, "workers": most} for name in names])
-    return table(["Millions of requests per second, by the exponent of Zipf's law", *heads], lines)
-
-
-def by_quotas(rows: list[Figure]) -> str:
-    """What quotas make of whole commands, and then of the delay of views; either may not be there."""
-    both = ((values(rows, table="quotas", measure=WHOLE_RATE), by_rates), (delayed(rows), by_delay))
-    return "\n".join(made(own) for own, made in both if own)
-
-
-def delayed(rows: list[Figure]) -> list[Figure]:
-    own = values(rows, table="delay")
-    return own if values(own, measure=EXECUTING) else []
-
-
-def by_rates(rows: list[Figure]) -> str:
-    """For each load what it is done with by quotas, and below what that is worth over one worker."""
-    rows, most = values(rows, hot=Policy().hot), max(row.workers for row in rows)
-    quotas, lines = dict.fromkeys((row.joined, row.split) for row in rows), []
-    for load in loads_of(rows):
-        own, columns = values(rows, load=load, workers=most), [
-            {"joined": joined, "split": split} for joined, split in quotas
-        ]
-        lines.append([load, *(millions(figure(own, **column)) for column in columns)])
-        lines.append([OVER_ONE, *over_one(rows, [{"load": load, "workers": most, **column} for column in columns])])
-    pairs = [f"{joined} / {split}" for joined, split in quotas]
-    return table([f"Millions of requests per second, {in_workers(most)}, by quotas", *pairs], lines)
-
-
-def by_delay(rows: list[Figure]) -> str:
-    """For each split quota the throughput, and how long a stashed view waits: in requests, and at that throughput in
-    milliseconds."""
-    quotas = plots.quotas_of(rows)
-    rates = [figure(rows, measure=EXECUTING, split=split) for split in quotas]
-    waits = [[value(rows, measure=measure, split=split) for measure in (DELAY, LATEST)] for split in quotas]
-    in_ms = [[wait / rate.value * 1e3 for wait in pair] for pair, rate in zip(waits, rates)]
-    lines = [
-        ["millions of requests per second", *map(millions, rates)],
-        [
-            "requests until a stashed view's reply, median / 99th percentile",
-            *(" / ".join(map(two, pair)) for pair in waits),
-        ],
-        ["the same in ms", *(" / ".join(map(two, pair)) for pair in in_ms)],
-    ]
-    heads = [f"{rows[0].load.capitalize()}, executing, {in_workers(rows[0].workers)}, `--split`", *map(str, quotas)]
-    return table(heads, lines) + f"\n{shown_plot('delay')}"
-
-
-def by_shards(rows: list[Figure]) -> str:
-    rows = values(rows, table="shards", measure=WHOLE_RATE)
-    title = f"{rows[0].load.capitalize()}, {in_workers(rows[0].workers)}, `--shards`"
-    return table(
-        [title, *(str(row.shards) for row in rows)], [["millions of requests per second", *map(millions, rows)]]
-    )
+def plot_alone(rows: list[Figure]) -> str:
+    """figures.csv has the figures."""
+    return "\n"
 
 
 def growth(rows: list[Figure]) -> str:
@@ -189,84 +150,49 @@ def memory(rows: list[Figure]) -> str:
 
 
 def checking(rows: list[Figure]) -> str:
+    """The longest histories, load by load."""
     rows = values(rows, table="checking")
-    counts = sorted({row.requests for row in rows})
-    words = {SECONDS: "whole command, s", MEMORY: "peak memory, MB"}
-    lines = []
+    most, told = max(row.requests for row in rows), []
     for load in loads_of(rows):
-        for measure, name in words.items():
-            own = values(rows, load=load, measure=measure)
-            lines.append([f"{load}: {name}", *(ranged(figure(own, requests=requests)) for requests in counts)])
-    return table(["By requests", *(f"{requests:,}" for requests in counts)], lines)
-
-
-# What the page calls these instructions.
-NAMED = {"of it the kit's reader of records": "of which the kit's CSV reader"}
-
-
-def instructions(rows: list[Figure]) -> str:
-    rows = values(rows, table="instructions")
-    shown = [measure for measure in INSTRUCTIONS if any(row.value for row in values(rows, measure=measure))]
-    lines = []
-    for load, system in dict.fromkeys((row.load, row.system) for row in rows):
-        own, name = values(rows, load=load, system=system), load + ", without splitting" * (system == UNSPLIT)
-        lines.append([name, *(count(value(own, measure=measure)) for measure in shown)])
-    return table(["Instructions per request, one worker", *(NAMED.get(measure, measure) for measure in shown)], lines)
+        seconds, size = (figure(rows, load=load, requests=most, measure=measure) for measure in (SECONDS, MEMORY))
+        told.append(f"{ranged(seconds)} s and {ranged(size)} MB for the {load}".replace("the bids", "bids"))
+    return f"Of {most:,} requests, `rubis_check --order` takes {claims.listed(told)}.\n"
 
 
 def windows(rows: list[Figure]) -> str:
+    """How long a view takes, and a run that is shown to some windows, by the fewest and the most."""
     rows = values(rows, table="windows")
     alone, beside = (values(rows, load=f"windows {where}") for where in ("alone", "beside a run"))
-    lines = [[str(row.workers), two(row.value), two(row.workers * 1e3 / row.value)] for row in alone]
-    heads = ["Windows, one thread each, no run", "Nanoseconds per view", "Millions of views per second, all windows"]
-    text = table(heads, lines)
-    lines = []
-    for row in values(beside, measure=RUN):
-        at = beside.index(row)
-        end = next((place for place in range(at + 1, len(beside)) if beside[place].measure == RUN), len(beside))
-        own = beside[at:end]
-        view = value(own, measure=VIEW)
-        shown = (
-            f"{row.workers} window{'s' * (row.workers > 1)}{'' if view else ', no views'}" if row.workers else "nobody"
-        )
-        lines.append([shown, two(row.value), two(view)])
-    of_run = "1,000,000 bids by 4 workers on one item, published to"
-    return text + "\n" + table([of_run, "Seconds", "Nanoseconds per view meanwhile"], lines)
+    views = [f"{two(row.value)} ns in {in_windows(row)}" for row in (alone[0], alone[-1])]
+    # With one window there is a run without views too, which comes first.
+    runs = {row.workers: row.value for row in values(beside, measure=RUN)}
+    shown = [f"{two(seconds)} s with {count or 'no'} window{'s' * (count > 1)}" for count, seconds in runs.items()]
+    run = f"1,000,000 bids by 4 workers on one item take {claims.listed(shown)}"
+    return f"A view takes {claims.listed(views)}.\n{run}.\n"
+
+
+def in_windows(row: Figure) -> str:
+    return f"each of {row.workers} windows" if row.workers > 1 else "one window"
 
 
 def work(rows: list[Figure]) -> str:
-    """What a request takes of each system, by workers: a measure after the other, each by loads."""
-    rows = values(rows, table="work")
+    """What a request takes of each system with one worker, and of the auction with as many as there are processors: a
+    measure after the other, each by loads."""
+    rows, most = values(rows, table="work"), claims.most_workers(rows)
     there = {(row.system, row.workers) for row in values(rows, measure=PROCESSORS)}
-    ways = sorted(there, key=lambda way: (SYSTEMS.index(way[0]), way[1]))
+    ways = [way for system in SYSTEMS for way in ((system, 1), (system, most)) if way in there]
+    ways = [(system, workers) for system, workers in ways if workers == 1 or system == AUCTION]
     lines = []
-    for name, made in OF_WORK.items():
+    for measure, (name, shown) in OF_WORK.items():
         lines += [[f"**{name}**", *[""] * len(ways)]]
-        lines += [[load, *(made(values(rows, load=load), *way) for way in ways)] for load in loads_of(rows)]
+        for load in loads_of(rows):
+            own = values(rows, load=load, measure=measure)
+            lines.append([load, *(shown(value(own, system=system, workers=workers)) for system, workers in ways)])
     return table(["Of a request", *heads_of(ways)], lines)
 
 
-def all_threads(rows: list[Figure], system: str, workers: int) -> str:
-    return count(value(rows, system=system, workers=workers, measure=ALL_THREADS))
-
-
-def bound(rows: list[Figure], system: str, workers: int) -> str:
-    """Amdahl's, of counts: the instructions of one worker over those of the longest thread."""
-    of_one = figure(rows, system=system, workers=1, measure=ALL_THREADS)
-    return times(of_one, figure(rows, system=system, workers=workers, measure=LONGEST_THREAD)) if workers > 1 else ""
-
-
-def least_try(rows: list[Figure], system: str, workers: int, measure: str) -> str:
-    return two(value(rows, system=system, workers=workers, measure=measure))
-
-
-# What the table of a request's work has, by names.
-OF_WORK = {
-    "instructions": all_threads,
-    "bound": bound,
-    "CPU time, ns": partial(least_try, measure=PROCESSORS),
-    "page faults per 1,000 requests": partial(least_try, measure=FAULTS),
-}
+# What the table of a request's work has, with names, and how it is written: a count is exact.
+OF_WORK = {ALL_THREADS: ("instructions", count), PROCESSORS: ("CPU time, ns", two)}
 
 
 def live(rows: list[Figure]) -> str:
@@ -302,17 +228,16 @@ def opened(rows: list[Figure]) -> str:
 def many_clients(rows: list[Figure]) -> str:
     """For each server the rate by clients, and how long a reply takes."""
     rows = values(rows, table="clients")
-    ways, systems = loads_of(rows), list(dict.fromkeys(row.system for row in rows))
-    rates, waits = [], []
-    for system in systems:
+    ways, lines = loads_of(rows), []
+    for system in dict.fromkeys(row.system for row in rows):
         found = [values(rows, system=system, load=way) for way in ways]
-        rates.append([system, *(ranged(figure(own, measure=CLIENTS_RATE), 1e3) for own in found)])
-        waits.append([system, *(" / ".join(two(value(own, measure=wait)) for wait in CLIENT_WAITS) for own in found)])
-    first = table(["Thousands of requests per second, bids on one item", *ways], rates)
-    return first + "\n" + table(["ms until a reply, median / 99th percentile", *ways], waits)
+        rates = (ranged(figure(own, measure=CLIENTS_RATE), 1e3) for own in found)
+        waits = (" / ".join(two(value(own, measure=wait)) for wait in CLIENT_WAITS) for own in found)
+        lines.append([system, *(f"{rate}; {wait} ms" for rate, wait in zip(rates, waits))])
+    return table(["Thousands of bids per second on one item; ms until a reply, median / 99th percentile", *ways], lines)
 
 
-# What the plots show. Those of tables stand above them.
+# What the plots show. They stand above tables and sentences.
 PLOTS = {
     "workers": "Requests per second of whole commands by number of workers",
     "skew": "Throughput by skew",
@@ -321,23 +246,22 @@ PLOTS = {
     "live": "Throughput by batch size, with a log and without",
 }
 
+# The parts of docs/PERFORMANCE.md, each of the rows of its table.
 TABLES = {
     "workers": by_workers,
     "executing": executing,
-    "skew": by_skew,
-    "quotas": by_quotas,
-    "shards": by_shards,
+    "work": work,
+    "skew": plot_alone,
+    "delay": plot_alone,
     "memory": memory,
     "checking": checking,
-    "work": work,
-    "instructions": instructions,
     "windows": windows,
     "live": live,
     "clients": many_clients,
 }
 
 # Without a figure of one of these measures a table has nothing to show.
-NEEDED = {"workers": WHOLE_RATE, "executing": EXECUTING, "work": PROCESSORS, "skew": WHOLE_RATE, "shards": WHOLE_RATE}
+NEEDED = {"workers": WHOLE_RATE, "executing": EXECUTING, "work": PROCESSORS, "skew": WHOLE_RATE, "delay": EXECUTING}
 
 
 def shown_plot(name: str) -> str:
@@ -345,11 +269,11 @@ def shown_plot(name: str) -> str:
 
 
 def tables(rows: list[Figure]) -> Iterator[tuple[str, str]]:
-    """Each table of docs/PERFORMANCE.md, with its plot."""
+    """Each part of docs/PERFORMANCE.md, with its plot."""
     for name, made in TABLES.items():
         plot = f"{shown_plot(name)}\n" if name in PLOTS else ""
         wanted = {"measure": NEEDED[name]} if name in NEEDED else {}
-        text = made(rows) if values(rows, table=name, **wanted) or name == "quotas" else ""
+        text = made(rows) if values(rows, table=name, **wanted) else ""
         yield name, plot + text if text else LEFT_OUT
 
 
@@ -366,7 +290,7 @@ def heading(asked: Namespace, systems: measures.Systems, when: str, seconds: flo
     """Date, machine, command and how long it took, and what was left out."""
     most = figures.MOST_WORKERS
     lines = [
-        f"Measured on {when}, on {machine()}, in {max(1, round(seconds / 60))} minutes, with\n",
+        f"Measured on {when}, at commit {commit()}, on {machine()}, in {max(1, round(seconds / 60))} minutes, with\n",
         f"    {command(asked)}\n",
         f"{tries_told(systems)}\nWindows, delays, sessions and instructions are measured once.",
         f"LOAD is of `rubis_load` (the referee's with {most} workers), HISTORY of `rubis_auction --history`:\n",
@@ -414,11 +338,20 @@ def written(page: str, parts: list[Part]) -> str:
     return page
 
 
-def pages(rows: list[Figure]) -> dict[str, list[Part]]:
-    """The parts that each page has of these figures."""
+def pages(rows: list[Figure], told: str) -> dict[str, list[Part]]:
+    """The parts that each page has of these figures, of whose origin this is told."""
     readme = [(name, made(rows) or LEFT_OUT) for name, made in claims.OF_README.items()]
     performance = [(name, made(rows) or LEFT_OUT) for name, made in claims.OF_PERFORMANCE.items()]
-    return {README: readme, PERFORMANCE: [*performance, *tables(rows)]}
+    return {README: [*readme, ("origin", origin(told))], PERFORMANCE: [*performance, *tables(rows)]}
+
+
+# The day and the commit of the figures, as the heading has them.
+ORIGIN = re.compile(r"(?m)^Measured on ([^,]*, at commit \w+\+?),")
+
+
+def origin(told: str) -> str:
+    found = ORIGIN.search(told)
+    return found[1] if found else LEFT_OUT
 
 
 def write_figures(path: str, rows: list[Figure]) -> None:
@@ -440,7 +373,7 @@ def stale_parts() -> tuple[list[str], int]:
     was left out is none."""
     stale, count = [], 0
     rows = read_figures(f"{ROOT}/{FIGURES}")
-    for page, parts in pages(rows).items():
+    for page, parts in pages(rows, written(PERFORMANCE, [])).items():
         for name, part in parts:
             count += part != LEFT_OUT
             if part != LEFT_OUT and written(page, [(name, part)]) != written(page, []):
@@ -463,7 +396,8 @@ def write_all(asked: Namespace, systems: measures.Systems, rows: list[Figure], s
 
 def write_pages(out: str, rows: list[Figure], heading_part: tuple[Part, ...] = ()) -> None:
     """Writes pages and plots of these figures; what was left out only below a heading of its own."""
-    for page, parts in pages(rows).items():
+    told = dict(heading_part).get("heading") or written(PERFORMANCE, [])
+    for page, parts in pages(rows, told).items():
         own = list(heading_part) if page == PERFORMANCE else []
         text = written(page, own + [(name, part) for name, part in parts if part != LEFT_OUT or heading_part])
         with open(f"{out}/{page}", "w") as file:

@@ -616,8 +616,8 @@ def small_inputs(folder: Path) -> Iterator[tuple[int, bytes, Path]]:
 
 
 def help_and_version(tester: CheckerTester) -> None:
-    """help, as docs/CHECKING.md shows it, of which one example reads a pipe, and the version"""
-    said = helps.help_and_version(tester.tally, tester.checker, "rubis_check", "CHECKING.md", ("--history=none",))
+    """help, as docs/help has it, of which one example reads a pipe, and the version"""
+    said = helps.help_and_version(tester.tally, tester.checker, "rubis_check", True, ("--history=none",))
     scripts = EXAMPLES / "contended.csv"
     (tester.folder / "scripts.csv").write_bytes(scripts.read_bytes())
     (tester.folder / "engine.history").write_bytes(run([*SMALL_ENGINE, scripts, "3"]).stdout)

@@ -1,10 +1,10 @@
 #!/usr/bin/env python3
 """Shows that the documents speak of what there is: a name in backticks is in the code, a path and a link lead to a
 file, in commands too, each block of code of docs/TUTORIAL.md and docs/APPLICATIONS.md is in the file named above
-it, each definition that the pages of definitions (docs/DEFINITIONS.md, docs/ENGINE_DEFINITIONS.md) quote is,
-except for layout, that of the file named above it, each name in a table with a column of files is in a file beside
-it, each crate and each law has its place, what bench/run and bench/applications wrote has the figures of their
-tables, each picture is what its script draws and can be seen in a light and a dark theme, and the pages of users, the
+it, each definition that docs/DEFINITIONS.md quotes is, except for layout, that of the file named above it, each name
+in a table with a column of files is in a file beside it, docs/API.md is what the sources make of it and has each law,
+what README.md says of an engine with stale views is so, what bench/run and bench/applications wrote has the figures
+of their tables, each picture is what its script draws and can be seen in a light and a dark theme, and the pages, the
 front and the lines of scripts are not too long.
 
     tests/documents.py
@@ -16,6 +16,7 @@ import sys
 import tokenize
 from functools import cache
 from pathlib import Path
+from tempfile import TemporaryDirectory
 from textwrap import indent
 from typing import Iterator
 
@@ -24,39 +25,30 @@ from lib.themes import LEAST, faults, smallest
 
 CODE = {".rt", ".rs", ".antt", ".py", ".php", ".c", ".sh", ".sql", ".txt", ".edit"}
 TUTORIALS = (DOCUMENTS / "TUTORIAL.md", DOCUMENTS / "APPLICATIONS.md")
-DEFINITIONS = (DOCUMENTS / "DEFINITIONS.md", DOCUMENTS / "ENGINE_DEFINITIONS.md")
+DEFINITIONS = DOCUMENTS / "DEFINITIONS.md"
 # Which column has the names in a table whose last one has their files.
-OF_NAMES = {"Definition", "Law", "Function"}
+OF_NAMES = {"Definition"}
 # A block before which no file is named is the reader's own.
 THE_READERS = ""
 # What a page shows whole.
 SHOWN = {
     ROOT / "README.md": ("examples/first_example.csv", "examples/first_example.replies"),
-    DOCUMENTS / "WINDOWS.md": ("crates/example_watch/stdout",),
+    DOCUMENTS / "TUTORIAL.md": ("crates/example_watch/stdout",),
 }
-# Where each crate has its place, and each law in one of these.
-MAP, PROVED = DOCUMENTS / "ARCHITECTURE.md", DOCUMENTS / "PROVED.md"
+# What docs/api.py makes of the sources: the one page that nobody writes, and its script.
+API, API_SCRIPT = DOCUMENTS / "API.md", DOCUMENTS / "api.py"
+# The names of calls with reasons are checked as those of a page.
+REASONS = TESTS / "surface_forms.txt"
 PICTURES = DOCUMENTS / "pictures"
+# The script of the pictures that a browser takes.
+TAKEN = PICTURES / "history.py"
 # Those too wide for a phone.
-WIDE = {"crates.svg", "contended.svg"}
+WIDE = {"contended.svg"}
 # Pictures that are drawn of examples.
 DRAWN = {"contended.svg": ("examples/timeline.py", "examples/contended.history", "examples/contended.report")}
-# The pages of users, and how many words they and the first of them may have.
-OF_USERS = (
-    "README",
-    "docs/GUARANTEES",
-    "docs/EXAMPLE",
-    "docs/PERFORMANCE",
-    "docs/FORMATS",
-    "docs/TUTORIAL",
-    "docs/WINDOWS",
-    "docs/CHECKING",
-    "docs/LOADS",
-    "docs/OUTGROWING",
-    "docs/SERVING",
-    "docs/APPLICATIONS",
-)
-MOST_WORDS, MOST_OF_THE_FIRST = 16_000, 1_200
+# How many words README.md may have, and all pages together without the parts that scripts write.
+MOST_OF_THE_FIRST, MOST_WORDS = 700, 23_000
+WRITTEN_BY_SCRIPTS = re.compile(r"(?s)<!-- (bench/[^>]*?) -->.*?<!-- end: [^>]* -->")
 # A page tells how many lines of code a script and its modules have: those with more than a comment, a docstring or what
 # lays code out.
 LINES = (
@@ -81,6 +73,11 @@ def documents() -> list[Path]:
     return [*ROOT.glob("*.md"), *DOCUMENTS.glob("*.md"), TESTS / "README.md"]
 
 
+def pages() -> list[Path]:
+    """The documents that are written by hand."""
+    return [document for document in documents() if document != API]
+
+
 def files() -> Iterator[Path]:
     return (
         path for path in ROOT.rglob("*") if path.is_file() and not {MADE, ".git"} & set(path.relative_to(ROOT).parts)
@@ -93,7 +90,7 @@ def words_of_code() -> set[str]:
     words = set()
     for path in files():
         words |= {path.stem, *path.relative_to(ROOT).parts}
-        if path.suffix in CODE:
+        if path.suffix in CODE and path != REASONS and path.parent != DOCUMENTS / "help":
             words.update(re.findall(r"\w+", path.read_text()))
     return words
 
@@ -114,7 +111,7 @@ def is_there(path: str) -> bool:
 
 def names_and_paths(tally: Tally) -> None:
     """names and paths in backticks"""
-    for document in documents():
+    for document in [*documents(), REASONS]:
         for text in in_backticks(document):
             if NAME.fullmatch(text) and text not in OTHER_WORDS:
                 unknown = set(re.findall(r"\w+", text)) - words_of_code()
@@ -142,6 +139,8 @@ def files_of_specs(tally: Tally) -> None:
 def links(tally: Tally) -> None:
     """links, and the headings that they lead to"""
     for document in documents():
+        for path in re.findall(r'\b(?:src|srcset)="([^"]*)"', prose(document)):
+            tally.check((document.parent / path).exists(), f"{document.name}: {path} is there")
         for path, heading in re.findall(r"\]\(([^)#\s]*)#?([^)\s]*)\)", prose(document)):
             target = document.parent / path if path else document
             tally.check(target.exists(), f"{document.name}: {path} is there")
@@ -154,19 +153,23 @@ def headings(document: Path) -> set[str]:
     return {re.sub(r"[^\w -]", "", title).lower().replace(" ", "-") for title in titles}
 
 
-def crates(tally: Tally) -> None:
-    """crates, each in docs/ARCHITECTURE.md"""
-    named = set(in_backticks(MAP))
-    for name in re.findall(r"(?m)^(\w+)[^:#\n]*:", (ROOT / "crates.txt").read_text()):
-        tally.check(name in named, f"{MAP.name} speaks of {name}")
-
-
-def laws(tally: Tally) -> None:
-    """laws, each in docs/PROVED.md or a page of definitions"""
-    named = {name for page in (PROVED, *DEFINITIONS) for name in in_backticks(page)}
+def libraries(tally: Tally) -> None:
+    """docs/API.md, as docs/api.py makes it, with each law; and the pages of crates, with a comment on each item"""
+    got = run([sys.executable, "-B", API_SCRIPT, "--check"])
+    tally.check(got.status == 0, f"docs/api.py --check: {described(got)}")
+    with TemporaryDirectory() as folder:
+        run([sys.executable, "-B", API_SCRIPT, folder])
+        for crate, listed in re.findall(r"(?ms)^### (\w+)\n(.*?)(?=^##|\Z)", API.read_text()):
+            page = Path(folder) / f"{crate}.md"
+            text = page.read_text() if page.exists() else ""
+            lacking = [name for name in re.findall(r"`([^`]+)`", listed) if name not in text]
+            tally.check(not lacking, f"{page.name} of docs/api.py lacks {lacking}")
+            bare = re.findall(r"(?m)^## (\S+)\n\n```", text)
+            tally.check(not bare, f"{crate}: no comment says what {bare} are")
+    named = set(in_backticks(API))
     for path in ROOT.glob("crates/*/src/**/*.rt"):
         for name in re.findall(r"(?m)^pub fn (\w+)(?:<[^(]*>)?\(\)\n(?:    .*\n)*\{\}", path.read_text()):
-            tally.check(name in named, f"{PROVED.name} or a page of definitions speaks of the law {name}")
+            tally.check(name in named, f"{API.name} speaks of the law {name}")
 
 
 def blocks_of_code(tally: Tally) -> None:
@@ -196,8 +199,8 @@ def shown_files(tally: Tally) -> None:
 
 
 def quoted_definitions(tally: Tally) -> None:
-    """definitions that the pages of definitions quote"""
-    for path, block in (named for page in DEFINITIONS for named in blocks(page)):
+    """definitions that docs/DEFINITIONS.md quotes"""
+    for path, block in blocks(DEFINITIONS):
         there = parts(without_comments((ROOT / path).read_text()))
         for part in parts(without_comments(block)):
             tally.check(part in there, f"in {path} stands {part!r}")
@@ -215,11 +218,12 @@ def parts(code: str) -> list[str]:
 
 def tables(tally: Tally) -> None:
     """names in tables, each in a file beside it"""
-    for page in (PROVED, *DEFINITIONS):
-        for names, files in rows_with_files(page):
-            places = places_of(files)
-            for name in re.findall(r"`(?:\w+::)?(\w+)`", names):
-                tally.check(any(stands_in(place, name) for place in places), f"{page.name}: {name} stands in {files}")
+    for names, files in rows_with_files(DEFINITIONS):
+        places = places_of(files)
+        for name in re.findall(r"`(?:\w+::)?(\w+)`", names):
+            tally.check(
+                any(stands_in(place, name) for place in places), f"{DEFINITIONS.name}: {name} stands in {files}"
+            )
 
 
 def rows_with_files(page: Path) -> Iterator[tuple[str, str]]:
@@ -252,7 +256,8 @@ def figures(tally: Tally) -> None:
 def pictures(tally: Tally) -> None:
     """pictures, as their scripts draw them"""
     drawn = {name: [ROOT / word for word in words] for name, words in DRAWN.items()}
-    drawn |= {script.with_suffix(".svg").name: [script, "--print"] for script in PICTURES.glob("*.py")}
+    scripts = [script for script in PICTURES.glob("*.py") if script != TAKEN]
+    drawn |= {script.with_suffix(".svg").name: [script, "--print"] for script in scripts}
     for name, words in drawn.items():
         got = run([sys.executable, "-B", *words])
         tally.check(
@@ -261,6 +266,8 @@ def pictures(tally: Tally) -> None:
         )
     for path in PICTURES.glob("*.svg"):
         tally.check(path.name in drawn, f"{path.name} has a script")
+    got = run([sys.executable, "-B", TAKEN, "--check"])
+    tally.check(got.status == 0, f"{TAKEN.name} --check: {described(got)}")
 
 
 def themes(tally: Tally) -> None:
@@ -275,22 +282,35 @@ def themes(tally: Tally) -> None:
         )
 
 
+def stale_views(tally: Tally) -> None:
+    """the engine with stale views of README.md, whose commands print the line below them"""
+    page = (ROOT / "README.md").read_text()
+    shown = re.search(r"(?m)^((?:    python3 .*\n)+)\n    (line .*)\n", page)
+    with TemporaryDirectory() as folder:
+        commands = shown[1].replace("python3 ", f"'{sys.executable}' -B ").replace("stale\n", f"'{folder}/stale'\n")
+        got = run(["sh", "-c", commands], cwd=ROOT)
+    # Two dots stand for what is left out.
+    wanted = ".*".join(map(re.escape, shown[2].split("..")))
+    is_so = re.fullmatch(wanted, got.stdout.decode().strip()) is not None
+    tally.check(is_so, f"README.md: {shown[2]}: {described(got)}")
+
+
 def lengths(tally: Tally) -> None:
-    """lengths of the pages of users"""
-    # Marks of tables and lists are no words.
-    words = {page: len(re.findall(r"\S*\w\S*", (ROOT / f"{page}.md").read_text())) for page in OF_USERS}
-    tally.check(
-        words[OF_USERS[0]] <= MOST_OF_THE_FIRST,
-        f"{OF_USERS[0]} has {words[OF_USERS[0]]} words, of at most {MOST_OF_THE_FIRST}",
-    )
-    tally.check(
-        sum(words.values()) <= MOST_WORDS,
-        f"the pages of users have {sum(words.values())} words, of at most {MOST_WORDS}",
-    )
+    """lengths of the pages"""
+    words = {page: count(page.read_text()) for page in pages()}
+    first = words[ROOT / "README.md"]
+    tally.check(first <= MOST_OF_THE_FIRST, f"README.md has {first} words, of at most {MOST_OF_THE_FIRST}")
+    of_hand = sum(count(WRITTEN_BY_SCRIPTS.sub("", page.read_text())) for page in pages())
+    tally.check(of_hand <= MOST_WORDS, f"the pages have {of_hand} words, of at most {MOST_WORDS}")
+
+
+def count(text: str) -> int:
+    """How many words a text has: marks of tables and lists are none."""
+    return len(re.findall(r"\S*\w\S*", text))
 
 
 def lines_of_scripts(tally: Tally) -> None:
-    """lines of examples/front.py and its modules, at most as many as docs/SERVING.md tells"""
+    """lines of examples/front.py and its modules, at most as many as docs/SERVING.md says"""
     page, told, scripts = LINES
     most, count = told.search(page.read_text()), sum(map(lines_of_code, scripts))
     tally.check(
@@ -326,12 +346,13 @@ def is_python(path: Path) -> bool:
 
 def main() -> None:
     tally = Tally()
-    of_names = (names_and_paths, paths_in_commands, links, crates, laws, files_of_specs)
+    of_names = (names_and_paths, paths_in_commands, links, libraries, files_of_specs)
     of_what_is_shown = (
         blocks_of_code,
         shown_files,
         quoted_definitions,
         tables,
+        stale_views,
         figures,
         pictures,
         themes,

@@ -355,9 +355,9 @@ def odd_words(tester: AuctionTester) -> None:
 
 
 def help_and_version(tester: AuctionTester) -> None:
-    """help, as docs/FORMATS.md shows it, with each option's limits and what it is without words,
+    """help, as docs/help has it, with each option's limits and what it is without words,
     its examples, and the version"""
-    said = helps.help_and_version(tester.tally, tester.program, "rubis_auction", "FORMATS.md")
+    said = helps.help_and_version(tester.tally, tester.program, "rubis_auction", True)
     numbers = {option: (int(least), int(most), int(usual)) for option, least, most, usual in helps.NUMBER.findall(said)}
     wanted = {option: (*limits, getattr(Options(), option)) for option, limits in OPTION_LIMITS.items()}
     wanted["live"] = (0, MILLION, 0)

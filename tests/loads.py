@@ -1,5 +1,5 @@
 #!/usr/bin/env python3
-"""Shows that the built generator writes the loads of docs/LOADS.md, and that the auction takes them.
+"""Shows that the built generator writes the loads of docs/CHECKING.md, and that the auction takes them.
 
     tests/loads.py [--generator PROGRAM] [--auction PROGRAM] [--only CHECK]
 
@@ -203,8 +203,8 @@ def run_in_turn(book: Book, scripts: list[list]) -> Run:
 
 
 def help_and_version(tester: GeneratorTester) -> None:
-    """help, as docs/LOADS.md shows it, and the version"""
-    said = helps.help_and_version(tester.tally, tester.generator, "rubis_load", "LOADS.md")
+    """help, as docs/help has it, and the version"""
+    said = helps.help_and_version(tester.tally, tester.generator, "rubis_load", True)
     usual = {f"--{option}={usual}" for option, _, _, usual in helps.NUMBER.findall(said)}
     tester.tally.check(usual == set(map(str, Plan().words())), f"what --help says of numbers: {usual}")
     helps.examples(tester.tally, said, "rubis_load", tester.folder, {"rubis_load": tester.generator})

@@ -2,7 +2,7 @@
 """Shows that what has to be spent can be neither let go nor spent twice: a held shard, a permit of either kind
 and a publisher; that a `Told` is learned once; and that no other crate reaches the log or the writer of a
 teller, so that nothing is written past the log. Small functions that do so are made a crate beside the others,
-in a copy of their sources, and `rt try` refuses each by the compiler's words. docs/PROVED.md quotes them.
+in a copy of their sources, and `rt try` refuses each by the compiler's words. docs/GUARANTEES.md quotes them.
 Without `rt` it is skipped.
 
     tests/must_be_spent.py
@@ -134,8 +134,8 @@ def main() -> None:
         private = [PRIVATE.format(field, owner) for field, owner, *_ in REACHED]
         got = refused(source, once + [reach(number, *what) for number, what in enumerate(REACHED)])
         tally.check(got == private, f"nothing is written past the log: wanted {private}; got {got}")
-        quoted = QUOTED.findall((DOCUMENTS / "PROVED.md").read_text())
-        tally.check(set(quoted) <= set(let_go + twice), f"docs/PROVED.md quotes what the compiler says: {quoted}")
+        quoted = QUOTED.findall((DOCUMENTS / "GUARANTEES.md").read_text())
+        tally.check(set(quoted) <= set(let_go + twice), f"docs/GUARANTEES.md quotes what the compiler says: {quoted}")
     tally.finish()
 
 

@@ -1,7 +1,7 @@
 #!/usr/bin/env python3
 """Shows that the tools do as they say: bench/tune, whose command has to run, bench/starts, the help of example_watch,
-likes, man pages, bench/applications, the sentences of bench/claims.py, and what each
-script says of wrong words, of what is not there, and of an interruption.
+likes, man pages, bench/applications, the sentences of bench/claims.py, and what each script says of wrong words, of
+what is not there, and of an interruption.
 
     tests/tools.py [PROGRAM]
 """
@@ -40,6 +40,7 @@ from lib.program import (
 PYTHON = [sys.executable, "-B"]
 RUN, TUNE, STARTS, APPLICATIONS = (BENCH / name for name in ("run", "tune", "starts", "applications"))
 THREE, MAN_PAGES = EXAMPLES / "sql" / "three.sh", DOCUMENTS / "man_pages.py"
+API, HISTORY = DOCUMENTS / "api.py", DOCUMENTS / "pictures" / "history.py"
 SKEWED = EXAMPLES / "skewed.csv"
 NEEDED = ["--workers", "4", "--users", "6", "--categories", "3"]
 
@@ -65,6 +66,8 @@ OF_WORDS = [
     TESTS / "edits.py",
     TESTS / "unproved.py",
     MAN_PAGES,
+    API,
+    HISTORY,
     RUN,
     TUNE,
     STARTS,
@@ -105,6 +108,7 @@ ANSWERS = [
     *([([PERFORM, "--database", "host=/none"], 1, "/none")] if shutil.which("psql") else []),
     ([MAN_PAGES, NONE, PROGRAM], 1, NONE),
     ([MAN_PAGES, TESTS, NONE], 2, NONE),
+    ([API, TESTS / "README.md"], 1, "README.md"),
     ([RUN, "--only", "none"], 2, "none is none of workers"),
     ([RUN, "--skip", "none"], 2, "none is none of sqlite"),
     ([APPLICATIONS, "--bank", NONE], 2, NONE),
@@ -198,7 +202,7 @@ def starts(tally: Tally, program: Path) -> None:
 def windows(tally: Tally, program: Path) -> None:
     """help of example_watch, words that it refuses, and what it measures: views stop with the run"""
     watch = built("example_watch")
-    helps.help_and_version(tally, watch, "example_watch", None)
+    helps.help_and_version(tally, watch, "example_watch", False)
     for words in (["x"], ["watch", "x"], [""], ["--measure"]):
         got = run([watch, *words])
         is_named = got.status == 1 and not got.stdout and f"'{words[0]}'" in got.stderr.decode()
@@ -355,7 +359,7 @@ LIKES = (
 def loads_of_applications(tally: Tally, _program: Path) -> None:
     """likes, the help of their program, and lines that are none"""
     program = built("example_likes")
-    helps.help_and_version(tally, program, "example_likes", None)
+    helps.help_and_version(tally, program, "example_likes", False)
     for line, word, sum_left in LIKES:
         for workers in (1, 4):
             lines = (f"{at % workers},{line.format(user=at % 1000, at=at)}\n" for at in range(4000))
@@ -413,15 +417,15 @@ from figures import WHOLE_RATE, Figure
 rows = [Figure("workers", load, system, workers, 0, 64, 4096, 8, 8, 4 * workers, 480000, WHOLE_RATE,
                *(1e6 * part for part in rates))
         for (load, system, workers), rates in {}.items()]
-print(claims.cost(rows), claims.gain(rows), claims.level(rows), claims.rates(rows).splitlines()[3], sep="\\n")
+print(claims.cost(rows), claims.gain(rows), claims.level(rows), claims.beside(rows).splitlines()[4], sep="\\n")
 """
 CLAIMED = """\
-Whole commands with 4 workers reach 0.50 (bids on one item) and 0.40 (the bidding mix) \
+With 4 workers, whole commands reach 0.50 (bids on one item) and 0.40 (the bidding mix) \
 of the throughput of the fastest plain Rust or C
 With `--fast` and 4 workers, splitting makes whole commands 2.0 times as fast on bids on one item; \
 on the bidding mix no difference is shown
 The fastest plain Rust is 2.5 times as fast on the bidding mix; on bids on one item no difference is shown
-| speed-up over 1 worker: of 4 | overlap | 2.0 |
+| Millions of bids/s on one item | 10 (9.0–11) | 14 (6.0–18) | - | - |
 """
 
 

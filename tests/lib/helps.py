@@ -2,7 +2,6 @@
 
 import re
 from pathlib import Path
-from textwrap import indent
 
 from lib.program import DOCUMENTS, Tally, described, run
 
@@ -13,18 +12,17 @@ EXAMPLES = re.compile(r"(?m)^Examples:\n((?:  .+\n)+)\Z")
 STATUSES = "Status: 0 "
 
 
-def help_and_version(tally: Tally, program: Path, name: str, page: str | None, needed: tuple = ()) -> str:
-    """Tests both, and gives what help says: the page shows it, if any does, each option has a line, and each range is
-    the one that is taken with the words that are needed."""
+def help_and_version(tally: Tally, program: Path, name: str, is_shown: bool, needed: tuple = ()) -> str:
+    """Tests both, and gives what help says: docs/help has it, if it is shown there, each option has a line, and each
+    range is the one that is taken with the words that are needed."""
     said = ""
     for word in ("--help", "-h"):
         got = run([program, word])
         said = got.stderr.decode()
         tally.check(got.status == 1 and not got.stdout and said.count("\n") > 9, f"{name} {word}: {described(got)}")
-        if page:
-            tally.check(
-                indent(said, "    ") in (DOCUMENTS / page).read_text(), f"docs/{page} shows what {name} {word} prints"
-            )
+        if is_shown:
+            shown = DOCUMENTS / "help" / f"{name}.txt"
+            tally.check(said == shown.read_text(), f"docs/help/{shown.name} is what {name} {word} prints")
     tally.check(f"\nUsage: {name} [" in said and f"\n{STATUSES}" in said, f"{name} --help: usage and statuses")
     lines = re.findall(r"(?m)^ +(?:-\w, +)?--.*$", said.partition("\nOptions:\n")[2].partition("\n\n")[0])
     tally.check(len(lines) == len(OPTION.findall(said)) > 1, f"{name} --help: an option without a text in {lines}")

@@ -1,5 +1,5 @@
-"""The loads that `rubis_load` has to write: docs/LOADS.md once more, over the published definitions of SplitMix64,
-Xoshiro256++ and Zipf's law."""
+"""The loads that `rubis_load` has to write: docs/CHECKING.md and docs/DEFINITIONS.md once more, over the published
+definitions of SplitMix64, Xoshiro256++ and Zipf's law."""
 
 from bisect import bisect_right
 from dataclasses import dataclass
