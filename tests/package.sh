@@ -1,6 +1,7 @@
 #!/usr/bin/env bash
-# Packs the programs that `rt ci` built, to run without the kit: fundreivo-VERSION-x86_64-linux.tar.gz, with examples, pages, the crates as ordinary Rust (where
-# there is a cargo, which writes their Cargo.lock) and MANIFEST. The same commit, programs, log and crates of others give the same bytes.
+# Packs the programs that `rt ci` built, to run without the kit: fundreivo-VERSION-x86_64-linux.tar.gz, with examples, pages, those of the libraries
+# (docs/api), man pages, the crates as ordinary Rust (where there is a cargo, which writes their Cargo.lock) and MANIFEST. The same commit, programs, log
+# and crates of others give the same bytes.
 #
 #     tests/package.sh [--log FILE] [FOLDER]    into FOLDER, or else out/
 #
@@ -110,6 +111,9 @@ trap 'rm -rf "$room"' EXIT
 mkdir -p "$into" "$room/$packed/bin"
 cp "${programs[@]}" "$room/$packed/bin"
 git archive HEAD README.md LICENSE CHANGELOG.md docs examples | tar -x -C "$room/$packed"
+mkdir -p "$room/$packed/share/man/man1"
+python3 -B docs/man_pages.py "$room/$packed/share/man/man1" "${programs[@]}"
+python3 -B docs/api.py "$room/$packed/docs/api"
 if [ -x rust/build ] && command -v cargo > /dev/null; then
     rust/build generate-lockfile >&2
     mkdir "$room/$packed/rust"

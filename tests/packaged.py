@@ -7,6 +7,7 @@ here, with the built programs.
 
 import os
 import shutil
+import sys
 import tarfile
 import tempfile
 from hashlib import sha256
@@ -14,7 +15,7 @@ from pathlib import Path
 from typing import Any
 
 from lib.model import Outcome
-from lib.program import CRATES, ROOT, Tally, built, described, run
+from lib.program import CRATES, DOCUMENTS, ROOT, Tally, built, described, run
 
 PROGRAMS = ("rubis_auction", "rubis_check", "rubis_load")
 PACKED = ("README.md", "LICENSE", "CHANGELOG.md", "docs", "examples")
@@ -80,7 +81,7 @@ class Clone:
             "crates.txt",
             "tests/package.sh",
             *PACKED,
-            *(f"crates/{name}" for name in PROGRAMS),
+            "crates",
         ):
             self.copy(name)
         for words in (["init", "-q"], ["add", "-A"], ["commit", "-q", "-m", "All"]):
@@ -148,6 +149,7 @@ def files(tally: Tally, clone: Clone) -> None:
     lines = there.pop("MANIFEST").decode().splitlines()
     wanted = {f"bin/{name}": built(name).read_bytes() for name in PROGRAMS}
     wanted |= {name: data for name, data in files_below(clone.folder).items() if name.split("/")[0] in PACKED}
+    wanted |= generated(folder.with_name("generated"))
     tally.check(there == wanted, f"the archive has other files: {there.keys() ^ wanted.keys()}")
     sums = [f"{sha256(data).hexdigest()}  {name}" for name, data in sorted(there.items())]
     tally.check([line for line in lines if not line.startswith("# ")] == sums, "MANIFEST has the sum of each file")
@@ -162,6 +164,15 @@ def files(tally: Tally, clone: Clone) -> None:
     tally.check({it.mode for it in members} == {0o755, 0o644}, "each file can be read by all")
     paths = [it.name.split("/") for it in members]
     tally.check(paths == sorted(paths), "files stand in the order of their names")
+
+
+def generated(folder: Path) -> dict[str, bytes]:
+    """The pages that scripts make of programs and sources."""
+    manual = folder / "share" / "man" / "man1"
+    manual.mkdir(parents=True)
+    run([sys.executable, "-B", DOCUMENTS / "man_pages.py", manual, *map(built, PROGRAMS)])
+    run([sys.executable, "-B", DOCUMENTS / "api.py", folder / "docs" / "api"])
+    return files_below(folder)
 
 
 def programs(tally: Tally, clone: Clone) -> None:
