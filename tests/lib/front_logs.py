@@ -70,7 +70,9 @@ def other_logs(tester: FrontTester) -> None:
         front = Front(tester, deed.__name__)
         with bidding(front) as bidders:
             wait_until(lambda: len(bidders.acknowledged) > 100)
-            deed(front.log)
+            # Else what is logged between a copy and a cut would be in neither.
+            with front.held():
+                deed(front.log)
             status = front.process.wait(SECONDS)
         tester.tally.check(
             status == ANOTHER_LOG and set(bidders.others) <= {UNKNOWN, b"-ERR the auction ends"},
