@@ -1,8 +1,8 @@
 """The sentences of README.md and its table, made of the figures. Two figures whose ranges overlap are not shown to
 differ, and the page says so."""
-from cells import OVERLAP, are_apart, figure, in_workers, millions, ranged, table, times, two, values
-from figures import ALONE, AUCTION, CLIENTS_RATE, FRONT_LOGGED, IN_C, LOCK, PHASES, POSTGRES, POSTGRES_LOGGED, REDIS
-from figures import EXECUTING, REDIS_LOGGED, SHARDS, UNSPLIT, WHOLE_RATE, Figure
+from cells import MILLION, OVERLAP, are_apart, figure, in_workers, millions, ranged, table, times, two, values
+from figures import ALONE, AUCTION, CLIENTS_RATE, FRONT, FRONT_LOGGED, IN_C, LOCK, PHASES, POSTGRES, POSTGRES_LOGGED
+from figures import EXECUTING, REDIS, REDIS_LOGGED, SHARDS, UNSPLIT, WHOLE_RATE, Figure
 from measures import BIDDING, ONE_ITEM, Policy
 
 PLAIN = (PHASES, SHARDS, LOCK, ALONE)
@@ -10,7 +10,7 @@ PLAIN = (PHASES, SHARDS, LOCK, ALONE)
 # What is compared.
 Pair = tuple[Figure, Figure]
 
-MOST_CLIENTS, IN_PIPELINES = "100 clients", "100 clients, pipelines of 16"
+ONE_CLIENT, MOST_CLIENTS, LOGGED = "1 client", "100 clients", (FRONT_LOGGED, REDIS_LOGGED)
 
 
 def most_workers(rows: list[Figure]) -> int:
@@ -24,37 +24,52 @@ def whole_commands(rows: list[Figure]) -> list[Figure]:
 
 
 def beside(rows: list[Figure]) -> str:
-    """The table of README.md: what others offer, and what they do in a second."""
+    """The table of README.md: what others offer, and what they do in a second, like beside like."""
     heads = ["", AUCTION, "plain Rust", "Redis, in Lua", "PostgreSQL"]
     return table(
         heads,
         [
             ["Serializable", "proved", "argued", "one thread", "tested"],
             ["Prints its serial order", "yes", "no", "of writes (AOF)", "no"],
-            ["Millions of bids/s on one item", *map(millions, bids_on_one_item(rows))],
-            ["Thousands of durable bids/s, 100 clients", *durable_bids(rows)],
-            ["Your own transactions", "in Rattle", "any", "any", "any"],
+            ["Your own transactions", "in Rattle; in Rust, unproved", "any", "any", "any"],
+            ["Millions of bids/s, from a file", *from_a_file(rows)],
+            ["Thousands of bids/s, 1 client", *served(rows, ONE_CLIENT, (FRONT, REDIS))],
+            [MOST_CLIENTS, *served(rows, MOST_CLIENTS, (FRONT, REDIS), unlogged_postgres(rows))],
+            [f"{MOST_CLIENTS}, log synced", *served(rows, MOST_CLIENTS, LOGGED, logged_postgres(rows))],
         ],
     )
 
 
-def bids_on_one_item(rows: list[Figure]) -> list[Figure | None]:
-    """Each system's rate; of plain Rust that of the fastest, and of PostgreSQL that without reading and texts."""
-    own = values(whole_commands(rows), load=ONE_ITEM.name)
-    return [
-        figure(own, system=AUCTION, workers=most_workers(rows)),
-        best(own, PLAIN),
-        figure(rows, table="clients", system=REDIS, load=IN_PIPELINES, measure=CLIENTS_RATE),
-        figure(rows, table="executing", load=ONE_ITEM.name, system=POSTGRES, measure=EXECUTING),
-    ]
+def from_a_file(rows: list[Figure]) -> list[str]:
+    """The auction's rate of whole commands, and that of the fastest plain Rust."""
+    found = values(whole_commands(rows), load=ONE_ITEM.name)
+    own = figure(found, system=AUCTION, workers=most_workers(rows))
+    return [millions(own), or_tie(own, best(found, PLAIN), MILLION), "-", "-"]
 
 
-def durable_bids(rows: list[Figure]) -> list[str]:
-    served = values(rows, table="clients", load=MOST_CLIENTS, measure=CLIENTS_RATE)
-    own, redis = (ranged(figure(served, system=system), 1e3) for system in (FRONT_LOGGED, REDIS_LOGGED))
-    postgres = figure(rows, table="live", system=POSTGRES_LOGGED, measure=WHOLE_RATE)
-    clients = f", {postgres.workers} clients" if postgres else ""
-    return [own, "-", redis, ranged(postgres, 1e3) + clients]
+def served(rows: list[Figure], clients: str, servers: tuple[str, str], postgres: str = "-") -> list[str]:
+    """The rates of the front and of Redis with so many clients, and what is told of PostgreSQL."""
+    found = values(rows, table="clients", load=clients, measure=CLIENTS_RATE)
+    own, redis = (figure(found, system=server) for server in servers)
+    return [ranged(own, 1e3), "-", or_tie(own, redis, 1e3), postgres]
+
+
+def or_tie(own: Figure | None, other: Figure | None, unit: float) -> str:
+    """Another's rate, marked if the auction's is not shown to differ from it."""
+    return ranged(other, unit) + ", a tie" * (own is not None and other is not None and not are_apart(own, other))
+
+
+def unlogged_postgres(rows: list[Figure]) -> str:
+    return of_postgres(figure(rows, table="executing", load=ONE_ITEM.name, system=POSTGRES, measure=EXECUTING))
+
+
+def logged_postgres(rows: list[Figure]) -> str:
+    return of_postgres(figure(rows, table="live", system=POSTGRES_LOGGED, measure=WHOLE_RATE))
+
+
+def of_postgres(row: Figure | None) -> str:
+    """Its rate, with how many clients it has, and what they send beside bids."""
+    return f"{ranged(row, 1e3)}, {row.workers} clients{row.load.removeprefix(ONE_ITEM.name)}" if row else "-"
 
 
 def level(rows: list[Figure]) -> str:

@@ -417,7 +417,7 @@ from figures import WHOLE_RATE, Figure
 rows = [Figure("workers", load, system, workers, 0, 64, 4096, 8, 8, 4 * workers, 480000, WHOLE_RATE,
                *(1e6 * part for part in rates))
         for (load, system, workers), rates in {}.items()]
-print(claims.cost(rows), claims.gain(rows), claims.level(rows), claims.beside(rows).splitlines()[4], sep="\\n")
+print(claims.cost(rows), claims.gain(rows), claims.level(rows), claims.beside(rows).splitlines()[5], sep="\\n")
 """
 CLAIMED = """\
 With 4 workers, whole commands reach 0.50 (bids on one item) and 0.40 (the bidding mix) \
@@ -425,7 +425,7 @@ of the throughput of the fastest plain Rust or C
 With `--fast` and 4 workers, splitting makes whole commands 2.0 times as fast on bids on one item; \
 on the bidding mix no difference is shown
 The fastest plain Rust is 2.5 times as fast on the bidding mix; on bids on one item no difference is shown
-| Millions of bids/s on one item | 10 (9.0–11) | 14 (6.0–18) | - | - |
+| Millions of bids/s, from a file | 10 (9.0–11) | 14 (6.0–18), a tie | - | - |
 """
 
 
