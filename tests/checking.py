@@ -12,6 +12,7 @@ written by hand says which reply was due.
 import itertools
 import os
 import random
+import re
 import resource
 import sys
 from argparse import Namespace
@@ -49,8 +50,8 @@ READ_AT_ONCE = 1 << 16
 LARGE = Options(workers=16, joined=4096, split=4096, threshold=64)
 FEW = Options(workers=2, users=10, categories=2)
 SMALL_ENGINE, REPLAY = ([sys.executable, "-B", EXAMPLES / name] for name in ("small_engine.py", "replay.py"))
-# The load of docs/CHECKING.md, the seed, and how many lines of the history it shows.
-WALK, WALK_SEED, WALK_LINES = Plan(workers=4, items=10, skew=150, views=50), "2", 4
+# The load of docs/CHECKING.md.
+WALK = Plan(workers=4, items=10, skew=150, views=50)
 
 SCRIPTS = b"""\
 0,item,0,0,Vase,10,100,1,3
@@ -631,16 +632,15 @@ def help_and_version(tester: CheckerTester) -> None:
 
 
 def shown(tester: CheckerTester) -> None:
-    """what docs/CHECKING.md shows: the example's history, and the small engine with its bug"""
-    page, path, scripts = (DOCUMENTS / "CHECKING.md").read_text(), EXAMPLES / "contended.csv", load_of(WALK)
-    got = run(tester.command((EXAMPLES / "contended.history").read_bytes(), FEW, "--order"), path.read_bytes())
-    tester.tally.check(f"\n    {got.stdout.decode()}" in page, f"docs/CHECKING.md shows {got}")
-    (tester.folder / "load.csv").write_bytes(scripts)
-    history = run([*SMALL_ENGINE, "--stale", tester.folder / "load.csv", WALK_SEED]).stdout
-    got = run(tester.command(history, Options(workers=WALK.workers), "--strict"), scripts)
-    first = b"".join(history.splitlines(keepends=True)[:WALK_LINES])
-    for text in (got.stdout, first):
-        tester.tally.check(indent(text.decode(), "    ") in page, f"docs/CHECKING.md shows {text.decode()}")
+    """the history by hand of docs/CHECKING.md, which lacks a bid, and the one that has it"""
+    page, scripts = (DOCUMENTS / "CHECKING.md").read_text(), EXAMPLES / "first_example.csv"
+    history = "".join(re.findall(r"(?m)^    (0 0 .*\n)", page))
+    right = history.replace("highest=- bidder=- bids=0", "highest=10 bidder=1 bids=1")
+    for what, text, status in (("wrong", history, 5), ("right", right, 0)):
+        got = run(tester.command(text.encode(), Options()), scripts.read_bytes())
+        shown = indent(got.stdout.decode(), "    ") in page
+        tester.tally.check(got.status == status and shown, f"docs/CHECKING.md shows a {what} history: {got}")
+        replayed(tester, f"the {what} history of docs/CHECKING.md", scripts, text.encode(), got)
 
 
 CHECKS = (
