@@ -1,4 +1,4 @@
-"""The loads that `rubis_load` has to write: docs/CHECKING.md and docs/DEFINITIONS.md once more, over the published
+"""The loads that `rubis_load` has to write, in every draw: what docs/CHECKING.md says of them, over the published
 definitions of SplitMix64, Xoshiro256++ and Zipf's law."""
 
 from bisect import bisect_right
