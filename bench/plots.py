@@ -307,7 +307,7 @@ def by_parts(rows: list[Figure], origin: Origin) -> str | None:
         return None
     tics = decades([row.value for row in rates.values()])
     across, up = Axis(0.8, MOST_OF_PARTS[-1] * 1.25, 72, 584, True), Axis(tics[0], tics[-1], 390, 70, True)
-    below = "N, the most requests of a batch (logarithmic);\ndashed: no such batches"
+    below = "N, the most requests of a batch (logarithmic);\ndashed: no such batches; databases over sockets"
     counts = [(most, str(most)) for most in MOST_OF_PARTS]
     labels = below, "requests per second (logarithmic)"
     parts = [*frame(across, up, counts, [(tic, short(tic)) for tic in tics], labels)]
