@@ -29,7 +29,7 @@ from http.client import HTTPConnection, HTTPException
 from itertools import cycle
 from typing import Any, NoReturn
 
-from front.log import Clock
+from front.log import fresh_beside
 from front.program import Engine, Request, say
 from front.server import main, parser, read
 
@@ -98,13 +98,12 @@ class Replicated(Engine):
     """The program of the front that leads. Its replies are held until etcd has the rows before them and says that the
     front leads, whatever clocks say."""
 
-    another_log, remedy = NO_LOG, "a start writes it anew"
+    is_kept, another_log, remedy = False, NO_LOG, "a start writes it anew"
 
     def __init__(self, asked: argparse.Namespace) -> None:
         super().__init__(asked)
-        self.etcd, self.lease, self.is_over, self.clock = Etcd(asked.etcd), None, threading.Event(), Clock(None)
-        # Replies that wait for etcd, and how many rows of this start of the program it has.
-        self.held, self.rows = [], 0
+        self.etcd, self.lease, self.is_over = Etcd(asked.etcd), None, threading.Event()
+        self.held = []  # replies that wait for etcd
         # The key of the next rows, where these begin in the file, and the time that etcd has.
         self.number = self.at = self.told = 0
 
@@ -114,17 +113,16 @@ class Replicated(Engine):
     async def start(self) -> None:
         if self.lease is None:
             await self.lead()
-        # The file that the program will have, wherever its name leads to later.
-        self.file = self.log.open()
+        self.log.open()
         # A program that died may have left rows. What it replied is released already.
-        self.putting = asyncio.create_task(self.put_rows())
+        self.log.take()
+        self.putting = asyncio.create_task(self.put_rows(self.log.size))
         await self.putting
         # The version of a key counts how often it was put: starts have numbers over all fronts.
         _, told, clock = await self.as_leader(put(STARTS, b""), get(STARTS), get(CLOCK))
         self.starts = int(told["response_range"]["kvs"][0]["version"]) - 1
         for pair in clock["response_range"].get("kvs", ()):
             self.clock.last = max(self.clock.last, int(base64.b64decode(pair["value"])))
-        self.rows = 0
         await super().start()
 
     async def lead(self) -> None:
@@ -159,8 +157,8 @@ class Replicated(Engine):
         """Writes the log anew: rows that only it has were never acknowledged. The program of a front that was killed
         may still be writing the old file."""
         log, more = self.asked.log, True
-        fresh = log.with_name(log.name + ".new")
-        with fresh.open("wb") as file:
+        fresh = fresh_beside(log)
+        with fresh.open("xb") as file:
             while more:
                 first, beyond = encoded(LOG + b"%016d" % self.number), encoded(LOG + b":")
                 told = await self.ask_etcd("kv/range", key=first, range_end=beyond, limit=MOST_KEYS)
@@ -168,7 +166,7 @@ class Replicated(Engine):
                     file.write(base64.b64decode(pair["value"]))
                     self.number = 1 + int(base64.b64decode(pair["key"]).removeprefix(LOG))
                 more = told.get("more")
-            self.at = file.tell()
+            self.at = self.log.size = file.tell()
         if not self.at and log.exists() and log.stat().st_size:
             raise OSError(f"{log} has rows, and etcd has none")
         fresh.replace(log)
@@ -180,17 +178,16 @@ class Replicated(Engine):
             end("this front leads no longer")
         return told["responses"]
 
-    async def put_rows(self, count: int | None = None) -> None:
-        """Puts rows that the file has and etcd has not: so many, or all; if there are none, it asks whether this front
-        leads. Behind the rows of parts that were replied to there may be rows that the program takes back."""
+    async def put_rows(self, size: int) -> None:
+        """Puts the rows that so many bytes of the file have and etcd has not; if there are none, it asks whether this
+        front leads. Behind the rows of parts that were replied to there may be rows that the program takes back."""
         while True:
-            data = os.pread(self.file.fileno(), MOST_BYTES, self.at)
-            rows = first_lines(data, count)
-            if not rows and count or self.at > os.fstat(self.file.fileno()).st_size:
+            data = os.pread(self.log.file.fileno(), min(MOST_BYTES, size - self.at), self.at)
+            rows = data[: data.rfind(b"\n") + 1]
+            if not rows and self.at < size:
                 end("the log is shorter than what etcd has, or was to have, of it", NO_LOG)
-            count = None if count is None else count - rows.count(b"\n")
             await self.put(rows)
-            if count == 0 or count is None and (not rows or len(data) < MOST_BYTES):
+            if self.at == size:
                 return
 
     async def put(self, rows: bytes) -> None:
@@ -208,14 +205,13 @@ class Replicated(Engine):
     async def release_held(self) -> None:
         """Releases what is held, and what comes meanwhile, each time after a put."""
         while self.held:
-            held, self.held, rows = self.held, [], self.log.rows
+            held, self.held = self.held, []
             try:
-                await self.put_rows(rows - self.rows)
-                self.rows = rows
+                await self.put_rows(self.log.size)
                 for lines, requests in held:
                     super().release(lines, requests)
-            except OSError as fault:
-                end(fault)
+            except (LookupError, OSError, ValueError) as fault:
+                end(repr(fault))
 
     def connection_lost(self, fault: Exception | None) -> None:
         """The program has ended, once all that it replied is released."""
@@ -239,14 +235,6 @@ class Replicated(Engine):
         self.is_over.set()
         with suppress(*FAULTS):
             await asyncio.to_thread(self.etcd.ask_once, "lease/revoke", {"ID": self.lease})
-
-
-def first_lines(data: bytes, count: int | None) -> bytes:
-    """The first lines that are whole: so many, or fewer if there are no more; or all."""
-    if count is None:
-        return data[: data.rfind(b"\n") + 1]
-    *lines, rest = data.split(b"\n", count)
-    return data[: len(data) - len(rest)] if lines else b""
 
 
 def arguments() -> argparse.Namespace:

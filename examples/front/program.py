@@ -10,7 +10,7 @@ from contextlib import suppress
 from itertools import count
 
 from front.audit import Audit, last_number
-from front.log import Changed, Clock, Log
+from front.log import Changed, Clock, Kept, Log, beside
 from front.resp import error, text
 
 MOST_UNDER_WAY = 16384  # requests of all clients, beyond which no client more is taken
@@ -61,7 +61,9 @@ class Engine(asyncio.SubprocessProtocol):
     """The program, and what it is asked for. What comes while it is busy is its next part, so that all of it waits for
     the disk once."""
 
-    another_log, remedy = ANOTHER_LOG, "put it back before you start again, or another auction begins"
+    # Whether log and clock outlast the front in files beside the log; the status if that is another, and what to do then.
+    is_kept, another_log = True, ANOTHER_LOG
+    remedy = "put it back, or remove its .mark to go on with what is there"
 
     def __init__(self, asked: argparse.Namespace) -> None:
         self.asked, self.sessions, self.clients, self.share = asked, count(), set(), MOST_OF_A_CLIENT
@@ -69,8 +71,8 @@ class Engine(asyncio.SubprocessProtocol):
         self.stdin, self.audit, self.is_stopping = None, None, False
         self.failures = self.requests = self.groups = self.seconds = self.sent_at = 0
         self.starts = last_number(asked.audit) if asked.audit else 0
-        self.log = Log(asked.log) if asked.log else None
-        self.clock = Clock(asked.log and asked.log.with_name(asked.log.name + ".clock"))
+        self.log = Log(asked.log, self.is_kept) if asked.log else None
+        self.clock = Clock(Kept(beside(asked.log, "clock"), 1) if asked.log and self.is_kept else None)
         # What the program said of its log; why no store is logged now, until when, and how long the next pause is; and
         # whether the log has to be copied first.
         self.fault = self.unlogged = b""
@@ -101,10 +103,10 @@ class Engine(asyncio.SubprocessProtocol):
         self.fault, self.has_stored = b"", False
         try:
             if self.log:
-                self.log.open().close()
+                self.log.open()
             self.audit = Audit(asked.audit, self.starts, asked.log) if asked.audit else None
-        except (BlockingIOError, Changed):
-            return self.exited.set_result(5)  # as of a program whose log is in use, or was changed
+        except BlockingIOError:
+            return self.exited.set_result(5)  # as of a program whose log is in use
         log = ("--log", str(asked.log)) if asked.log else ()
         words = [asked.program, *asked.options, "--live", "1000", "--history", "--workers", str(asked.workers), *log]
         # Faults come among the replies, so that it is known whose they are.
@@ -155,7 +157,7 @@ class Engine(asyncio.SubprocessProtocol):
             if len(answered) == len(held):
                 whole = len(held)
         if whole and self.log:
-            self.log.look()
+            self.log.take()
         if whole:
             now, self.failures, self.requests, self.groups = time.monotonic(), 0, self.requests + whole, self.groups + 1
             self.seconds, self.sent_at = self.seconds + now - self.sent_at, now
@@ -223,7 +225,11 @@ class Engine(asyncio.SubprocessProtocol):
             if change or self.is_stopping or status == 1 or not self.log or self.failures > MOST_FAILURES:
                 break
             await asyncio.sleep(0.1 * self.failures)
-            await self.start()
+            try:
+                await self.start()
+            except Changed as fault:
+                change = fault
+                break
         for request in self.waiting:
             request.end(ENDS)
         return self.status(change, self.is_stopping and status == 0 and not lost)

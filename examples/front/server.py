@@ -15,7 +15,7 @@ from pathlib import Path
 from typing import Any
 
 from front.clients import MOST_CLIENTS, Client
-from front.log import place_of
+from front.log import Changed
 from front.program import Engine, say, say_seldom
 
 OWN_FILES = 32  # those that a front opens for itself, and connections that it refuses
@@ -131,10 +131,13 @@ async def serve(engine: Engine) -> int:
         loop.add_signal_handler(number, engine.stop)
     if asked.unix:
         free(asked.unix)
-    await engine.start()
+    try:
+        await engine.start()
+    except Changed as fault:
+        return engine.status(fault, False)
     if asked.unix:
         server = await loop.create_unix_server(lambda: Client(engine), asked.unix)
-        place = place_of(asked.unix.stat())
+        place = asked.unix.stat()
     else:
         server = await loop.create_server(lambda: Client(engine), asked.host, asked.port)
     for each in server.sockets:
@@ -145,7 +148,7 @@ async def serve(engine: Engine) -> int:
     if idle:
         idle.cancel()
     server.close()
-    if asked.unix and asked.unix.exists() and place_of(asked.unix.stat()) == place:
+    if asked.unix and asked.unix.exists() and os.path.samestat(asked.unix.stat(), place):
         asked.unix.unlink()
     await asyncio.sleep(0.2)  # for clients to read their last replies
     return status

@@ -10,11 +10,14 @@ from pathlib import Path
 from typing import Callable, Iterator
 
 from lib.bidders import NOT_DONE, VASE, Bidders
-from lib.fronts import FRONT, UNKNOWN, Front, FrontTester, shimmed
+from lib.fronts import FRONT, UNKNOWN, Front, FrontTester, script, shimmed
+from lib.program import run
 from lib.sessions import SECONDS, wait_until
 from lib.watched import judged_by_itself
 
 ANOTHER_LOG = 7  # a status
+# An item and a bid as rows, and a bid on it.
+ROW, BID_ROW, PLACED = b'0,+item,1,2,"Vase",10,100,1,1\n', b"0,+bid,1,0.0,500,5\n", b"BID 1 0.0 500 5"
 FULL = b"cannot be written: No space left on device"
 
 
@@ -48,12 +51,20 @@ def replace_by_an_older(log: Path) -> None:
 def replace_by_a_longer(log: Path) -> None:
     """Of another auction."""
     longer = log.with_name("longer")
-    longer.write_bytes(b'0,+item,1,2,"Vase",10,100,1,1\n' * (2 + log.read_bytes().count(b"\n")))
+    longer.write_bytes(ROW * (2 + log.read_bytes().count(b"\n")))
     log.rename(log.with_name("moved"))
     longer.rename(log)
 
 
 DEEDS = (move, remove, empty, cut_to_a_row, replace_by_an_older, replace_by_a_longer)
+
+
+def change_a_row(log: Path) -> None:
+    """To another of the same length."""
+    log.write_bytes(log.read_bytes().replace(b",500,", b",501,", 1))
+
+
+AWAY = (move, cut_to_a_row, replace_by_a_longer, change_a_row)
 
 
 def bidding(front: Front) -> Bidders:
@@ -90,6 +101,126 @@ def other_logs(tester: FrontTester) -> None:
         )
 
 
+def ends_with(front: Front) -> tuple[int, str]:
+    """The status of a start that does not serve, and what it says."""
+    front.start()
+    return front.process.wait(SECONDS), front.said.read_bytes()[front.began_at :].decode()
+
+
+def serves_on(front: Front, command: bytes) -> bytes:
+    """What the next start replies."""
+    front.start()
+    wait_until(front.serves_again)
+    with front.client() as client:
+        return client.ask(command)[0]
+
+
+def end(front: Front) -> None:
+    front.process.kill()
+    front.process.wait()
+
+
+def deeds_between_fronts(tester: FrontTester) -> None:
+    """a log that is moved, cut, replaced or edited after a front was killed: the next one ends with status 7 before it
+    serves and changes nothing; a copy of the log that is put back goes on, and so does what is there without its mark"""
+    front, mark = Front(tester, "between"), tester.folder / "between" / "rows.mark"
+    with front.client() as client:
+        client.ask(VASE, PLACED)
+    for number, deed in enumerate(AWAY, 1):
+        end(front)
+        rows = front.log.read_bytes()
+        deed(front.log)
+        left = front.log.read_bytes() if front.log.exists() else None
+        status, said = ends_with(front)
+        tester.tally.check(
+            status == ANOTHER_LOG and said.count("\n") == 1 and "remove its .mark" in said
+            and (front.log.read_bytes() if front.log.exists() else None) == left,
+            f"{deed.__name__} between two fronts: status {status}, {said}",
+        )
+        front.log.unlink(missing_ok=True)
+        front.log.write_bytes(rows)
+        got = serves_on(front, PLACED)
+        tester.tally.check(got == b"bid 0.%d" % number, f"the log is put back after {deed.__name__}: {got}")
+    end(front)
+    cut_to_a_row(front.log)
+    mark.unlink()
+    got = serves_on(front, PLACED)
+    tester.tally.check(got == b"bid 0.0" and front.close() == 0, f"a log that is cut, without its mark: {got}")
+    with front.log.open("ab") as log:
+        log.write(b"0,+bid,1,0.0,500,5\n")
+    got = serves_on(front, PLACED)
+    tester.tally.check(got == b"bid 0.2", f"rows that were added between two fronts: {got}")
+    end(front)
+    front = Front(tester, "viewed", rows=2 * ROW)
+    with front.client() as client:
+        client.ask(b"VIEWITEM 0.1")
+    end(front)
+    cut_to_a_row(front.log)
+    status, said = ends_with(front)
+    tester.tally.check(status == ANOTHER_LOG, f"a log that was only viewed, and is cut: status {status}, {said}")
+
+
+# The program, which does something to its log before it opens it, if there is a file beside that.
+OPENS_LATE = """\
+#!/bin/sh
+[ -e {log}.now ] && {deed}
+exec {program} "$@"
+"""
+
+
+def deeds_while_it_opens(tester: FrontTester) -> None:
+    """a log that is changed when the front has looked at it and the program opens it: no id is given twice if a row is
+    cut off, and if one is edited the next front ends with status 7"""
+    amount = len(ROW) + BID_ROW.index(b"500")
+    # The row of the bid that is placed then is as long as the one that is cut off.
+    for name, deed, told in (
+        ("cut", f"truncate -s -{len(BID_ROW)} {{log}}", [UNKNOWN]),
+        ("edited", f"printf 501 | dd of={{log}} bs=1 seek={amount} conv=notrunc status=none", [b"bid 0.1"]),
+    ):
+        log = tester.folder / f"{name}_while_it_opens" / "rows"
+        words = {"log": log, "deed": deed.format(log=log), "program": tester.program}
+        program = script(tester.folder / f"{name}_late", OPENS_LATE.format(**words))
+        front = Front(tester, log.parent.name, rows=ROW + BID_ROW, program=program)
+        with front.client() as client:
+            client.ask(b"VIEWITEM 0.0")
+        end(front)
+        Path(f"{log}.now").touch()
+        front.start()
+        wait_until(front.serves_again)
+        with front.client() as client:
+            got = client.ask(PLACED)
+        if got != [UNKNOWN]:
+            end(front)
+            Path(f"{log}.now").unlink()
+            front.start()
+        status = front.process.wait(SECONDS)
+        tester.tally.check(got == told and status == ANOTHER_LOG, f"{name} while it opens: {got}, status {status}")
+
+
+def foreign_marks(tester: FrontTester) -> None:
+    """a FILE.mark or FILE.clock that is of no front, a link or a pipe: a line, and what it is stays"""
+    folder = tester.folder / "foreign_marks"
+    folder.mkdir()
+    text, log = folder / "text", folder / "rows"
+    text.write_bytes(b"")
+    for kind in ("mark", "clock"):
+        place = folder / f"rows.{kind}"
+        for make, told in (
+            (lambda: place.write_bytes(b"dear diary\n"), "is not of a front"),
+            (lambda: os.mkfifo(place), "is not of a front"),
+            (lambda: place.symlink_to(text), "rows."),
+        ):
+            make()
+            got = run([*FRONT, "--port", "0", "--log", log, tester.program])
+            tester.tally.check(
+                got.status == 1 and got.stderr.count(b"\n") == 1 and told.encode() in got.stderr,
+                f"a foreign {kind}: {got}",
+            )
+            is_kept = text.read_bytes() == b"" and (not place.is_file() or place.read_bytes() in (b"", b"dear diary\n"))
+            tester.tally.check(is_kept, f"a foreign {kind} is as it was")
+            place.unlink()
+
+
 def failing_syncs(tester: FrontTester) -> None:
     """each start's eighth sync fails, under load: the log is copied before the next start, a bid that is told to be not
     done is none, and no acknowledged one is lost"""
@@ -97,7 +228,8 @@ def failing_syncs(tester: FrontTester) -> None:
         return tester.tally.skip(failing_syncs.__doc__, "there is no C compiler")
     limits = {"LOG_SYNC_FAILS": 8, "LOG_SYNC_TAKES": 20}
     front = Front(tester, "failing_syncs", program=shimmed(tester, "failing_syncs", limits))
-    places = set()
+    of_a_user, places = front.log.with_name("rows.new"), set()
+    of_a_user.write_text("mine")
     with bidding(front) as bidders:
         for start in range(2, 5):
             places.add(front.log.stat().st_ino)
@@ -108,7 +240,8 @@ def failing_syncs(tester: FrontTester) -> None:
         and not bidders.others
         and bidders.not_done
         and bidders.views >= len(bidders.acknowledged) + len(bidders.not_done)
-        and not front.log.with_name("rows.new").exists(),
+        and of_a_user.read_text() == "mine"
+        and len([*front.folder.glob("rows*.new")]) == 1,
         f"syncs that fail: {len(places)} files, {bidders.others[:3]}, {len(bidders.not_done)} not done",
     )
     tester.tally.check(front.close() == 0, f"the status after syncs that fail: {front.said.read_text()[-300:]}")
@@ -212,6 +345,9 @@ def clock(tester: FrontTester) -> None:
 
 LOG_CHECKS: tuple[Callable[[FrontTester], None], ...] = (
     other_logs,
+    deeds_between_fronts,
+    deeds_while_it_opens,
+    foreign_marks,
     failing_syncs,
     full_disk,
     refused_write,
