@@ -28,9 +28,9 @@ class Auction:
 
     def __init__(self, program: str | Path, *options: str | Path, most: int = 1000, **how: Any) -> None:
         words = [program, "--live", str(most), *options]
-        self.process = subprocess.Popen(
-            words, stdin=subprocess.PIPE, stdout=subprocess.PIPE, stderr=subprocess.PIPE, **how
-        )
+        pipes = dict.fromkeys(("stdin", "stdout", "stderr"), subprocess.PIPE)
+        # Python ignores the signal of a log past `ulimit -f`, and so does the program then, which tells it.
+        self.process = subprocess.Popen(words, restore_signals=False, **pipes, **how)
         self.sent = Counter()
 
     def one(self, request: str, worker: int = 0) -> str:

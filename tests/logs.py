@@ -13,7 +13,6 @@ import random
 import re
 import resource
 import shutil
-import signal
 import subprocess
 from argparse import Namespace
 from contextlib import suppress
@@ -693,7 +692,7 @@ def full_disks(tester: AuctionTester) -> None:
     asked = [FIRST[0], *(f"comment,{at},{at},0.0,1" for at in range(99))]
     for size in range(0, 200, 7):
         log = tester.folder / f"limited-{size}"
-        limit = partial(limited_to, size)
+        limit = partial(resource.setrlimit, resource.RLIMIT_FSIZE, (size, size))
         answered, fault = until_refused(Auction(tester.program, "--log", str(log), preexec_fn=limit), asked)
         tester.tally.check(fault == told_of(log, UNWRITTEN, errno.EFBIG), f"a log of at most {size} bytes: {fault}")
         lost_nothing(tester, f"a log of at most {size} bytes", log, answered, at_most=len(answered))
@@ -716,11 +715,6 @@ def full_disks(tester: AuctionTester) -> None:
         )
     finally:
         subprocess.run(["umount", disk], check=True)
-
-
-def limited_to(size: int) -> None:
-    signal.signal(signal.SIGXFSZ, signal.SIG_IGN)
-    resource.setrlimit(resource.RLIMIT_FSIZE, (size, size))
 
 
 def refused_memory(tester: AuctionTester) -> None:

@@ -184,11 +184,12 @@ class Log:
                 sync(file)
 
     def try_disk(self) -> None:
-        """Whether the disk takes the rows of a part."""
+        """Whether the disk takes the rows of a part, and a file may have them behind those of the log."""
         path = self.path.resolve()
         fresh = fresh_beside(path)
         try:
             with fresh.open("xb") as file:
+                file.seek(path.stat().st_size)
                 file.write(os.urandom(MOST_OF_A_PART))
                 sync(file)
         finally:

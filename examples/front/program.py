@@ -109,10 +109,10 @@ class Engine(asyncio.SubprocessProtocol):
             return self.exited.set_result(5)  # as of a program whose log is in use
         log = ("--log", str(asked.log)) if asked.log else ()
         words = [asked.program, *asked.options, "--live", "1000", "--history", "--workers", str(asked.workers), *log]
-        # Faults come among the replies, so that it is known whose they are.
-        self.process, _ = await asyncio.get_running_loop().subprocess_exec(
-            lambda: self, *words, stderr=asyncio.subprocess.STDOUT, start_new_session=True
-        )
+        # Faults come among the replies, so that it is known whose they are. A log past `ulimit -f` is one, too: Python
+        # ignores its signal, and so does the program then.
+        how = {"stderr": asyncio.subprocess.STDOUT, "start_new_session": True, "restore_signals": False}
+        self.process, _ = await asyncio.get_running_loop().subprocess_exec(lambda: self, *words, **how)
         self.stdin = self.process.get_pipe_transport(0)
         return self.send()
 

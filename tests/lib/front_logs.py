@@ -2,6 +2,7 @@
 
 import os
 import re
+import resource
 import shutil
 import subprocess
 import time
@@ -292,6 +293,34 @@ def full_disk(tester: FrontTester) -> None:
         judged_by_itself(tester, front)
 
 
+def limited_files(tester: FrontTester) -> None:
+    """a limit on the length of files (`ulimit -f`): a store past it is told so, and not done, views are answered, and
+    the program is started again only once"""
+    rows, room = 10_000 * ROW, 5 * len(BID_ROW)
+    most = len(rows) + room + 1
+    front = Front(
+        tester,
+        "limited_files",
+        rows=rows,
+        has_audit=False,
+        preexec_fn=lambda: resource.setrlimit(resource.RLIMIT_FSIZE, (most, most)),
+    )
+    too_large = NOT_DONE + b"the log cannot be written: File too large"
+    with front.client() as client:
+        got = [client.ask(PLACED)[0] for _ in range(6)]
+        tester.tally.check(
+            got[:5] == [b"bid 0.%d" % number for number in range(5)] and got[5].startswith(too_large),
+            f"bids up to a limit on files: {got}",
+        )
+        until = time.monotonic() + 4
+        while time.monotonic() < until:
+            got = client.ask(PLACED, b"VIEWITEM 0.0")
+            tester.tally.check(got[0].startswith(too_large) and b" bids=5 " in got[1], f"past the limit: {got}")
+            time.sleep(0.4)
+    tester.tally.check(front.info()["starts"] == 2 and front.close() == 0, "the front past a limit on files")
+    tester.tally.check(front.log.read_bytes() == rows + 5 * BID_ROW, "the log past a limit on files")
+
+
 def refused_write(tester: FrontTester) -> None:
     """a write that fails: the store is told what failed, and that it is not done"""
     if tester.shim is None:
@@ -350,6 +379,7 @@ LOG_CHECKS: tuple[Callable[[FrontTester], None], ...] = (
     foreign_marks,
     failing_syncs,
     full_disk,
+    limited_files,
     refused_write,
     clock,
 )

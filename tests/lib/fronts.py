@@ -56,6 +56,7 @@ class Front:
         waits: bool = True,
         program: Path | None = None,
         script: list[str] = FRONT,
+        has_audit: bool = True,
         **how: Any,
     ) -> None:
         self.folder = tester.folder / name
@@ -63,9 +64,9 @@ class Front:
         self.log, self.audit, self.said = log or self.folder / "rows", self.folder / "audit", self.folder / "said"
         if log is None:
             self.log.write_bytes(rows)
-        places = ("--log", str(self.log), "--audit", str(self.audit))
+        audit = ("--audit", str(self.audit)) if has_audit else ()
         served = (str(program or tester.program), "--fast")
-        self.script, self.words = script, [*places, "--workers", str(WORKERS), *words, *served]
+        self.script, self.words = script, ["--log", str(self.log), *audit, "--workers", str(WORKERS), *words, *served]
         self.port, self.how = 0, how
         self.start()
         if waits:
