@@ -363,9 +363,13 @@ def terminated(tester: FrontTester) -> None:
     judged_by_itself(tester, front)
 
 
+def limit_files() -> None:
+    resource.setrlimit(resource.RLIMIT_FSIZE, (10_000, 10_000))
+
+
 def kept_in_order(tester: FrontTester) -> None:
     """a history that cannot be written: the requests of its lines are kept already, so a front that is killed in
-    between keeps no reply without its request"""
+    between keeps no reply without its request; and rows of a log that cannot all be kept: there is no history"""
     audit, client = Audit(tester.folder / "in_order", 1, None), SimpleNamespace(worker=0)
     with open("/dev/full", "wb", buffering=0) as audit.history, suppress(OSError):
         audit.keep(
@@ -373,6 +377,9 @@ def kept_in_order(tester: FrontTester) -> None:
         )
     kept = whole_lines(tester.folder / "in_order" / "1.csv")
     tester.tally.check(kept == ["0,viewuser,0"] * 100, f"{len(kept)} requests kept before their history")
+    front = Front(tester, "cut_audit", rows=mix()[0] * 10, waits=False, preexec_fn=limit_files)
+    status, kept = front.process.wait(SECONDS), [path.name for path in front.audit.iterdir()]
+    tester.tally.check(status == 1 and kept == ["1.csv"], f"rows that cannot all be kept: status {status}, {kept}")
 
 
 UNIT = EXAMPLES / "front.service"
@@ -448,8 +455,7 @@ def without_a_way_on(tester: FrontTester) -> None:
         tester.tally.check(
             got.status == 1 and got.stderr.startswith(b"front: ") and b"in use" in got.stderr, f"a port in use: {got}"
         )
-    limit = lambda: resource.setrlimit(resource.RLIMIT_FSIZE, (10_000, 10_000))
-    front = Front(tester, "unkept", preexec_fn=limit)
+    front = Front(tester, "unkept", preexec_fn=limit_files)
     with front.client() as client:
         client.send(b"VIEWUSER 0\n" * 2000)
         got = Counter(iter(client.reply, b""))

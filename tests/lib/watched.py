@@ -123,11 +123,11 @@ class Start:
     def read(cls, path: Path) -> "Start":
         """Files of a front that was killed may have a line and a half too much."""
         start, counts = cls(int(path.stem), [], {}, []), Counter()
-        for line in whole_lines(path.with_suffix(".history")):
+        for line in whole_lines(path):
             _, _, worker, index, text = line.split(" ", 4)
             start.history.append((int(worker), int(index), text))
         answered = Counter(worker for worker, _, _ in start.history)
-        for record in whole_lines(path):
+        for record in whole_lines(path.with_suffix(".csv")):
             worker, kind, _ = record.split(",", 2)
             if kind.startswith("+"):
                 start.rows.append(record)
@@ -145,7 +145,8 @@ def whole_lines(path: Path) -> list[str]:
 
 
 def starts_of(audit: Path) -> list[Start]:
-    return [Start.read(path) for path in sorted(audit.glob("*.csv"), key=lambda path: int(path.stem))]
+    """Those of the program. A front that ended before has left no history."""
+    return [Start.read(path) for path in sorted(audit.glob("*.history"), key=lambda path: int(path.stem))]
 
 
 @cache
@@ -215,9 +216,9 @@ def judge(tester: FrontTester, front: Front, outcome: Outcome) -> list[Start]:
 
 def judged_by_itself(tester: FrontTester, front: Front, starts: str = "*") -> None:
     """The referee takes the files as they are, if the front was not killed."""
-    for path in front.audit.glob(f"{starts}.csv"):
+    for path in front.audit.glob(f"{starts}.history"):
         got = run(
-            [tester.referee, "--workers", str(WORKERS), "--order", "--history", path.with_suffix(".history")],
-            path.read_bytes(),
+            [tester.referee, "--workers", str(WORKERS), "--order", "--history", path],
+            path.with_suffix(".csv").read_bytes(),
         )
         tester.tally.check(got.status == 0, f"{path.name} of {front.folder.name}: {got.stdout!r} {got.stderr!r}")
