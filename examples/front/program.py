@@ -61,7 +61,7 @@ class Engine(asyncio.SubprocessProtocol):
     """The program, and what it is asked for. What comes while it is busy is its next part, so that all of it waits for
     the disk once."""
 
-    # Whether log and clock outlast the front in files beside the log; the status if that is another, and what to do then.
+    # Whether log and clock outlast the front in files beside the log; the status if the log is another, and its remedy.
     is_kept, another_log = True, ANOTHER_LOG
     remedy = "put it back, or remove its .mark to go on with what is there"
 

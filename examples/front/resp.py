@@ -3,8 +3,9 @@
 MOST_BYTES = 512  # of a command
 COUNTS = {b"*%d\r" % count: count for count in range(1, 100)}
 SIZES = {size: b"$%d\r" % size for size in range(MOST_BYTES)}
-# Of an HTTP request the last word of the first line, and the word before the name of its server.
-HTTP, HOST = b"HTTP/", b"host:"
+# Of an HTTP request the last word of the first line, and the word before the name of its server; and the first byte of
+# one that is encrypted.
+HTTP, HOST, TLS = b"HTTP/", b"host:", b"\x16"
 
 # What a reply can have.
 Value = int | bytes | list["Value"]
@@ -22,7 +23,7 @@ def split(data: bytes) -> tuple[list[list[bytes]], bytes]:
         end = at + 1 + 2 * count
         if end > len(lines):
             break
-        words = [line[:-1] for line in lines[at + 2 : end : 2]] if count else words_of_line(lines[at])
+        words = [line.removesuffix(b"\r") for line in lines[at + 2 : end : 2]] if count else words_of_line(lines[at])
         is_right = not count or lines[at + 1 : end : 2] == [SIZES.get(len(word)) for word in words]
         commands.append(words if is_right else [b""])
         at = end
@@ -34,7 +35,7 @@ def words_of_line(line: bytes) -> list[bytes]:
     """Browsers send HTTP to any port for any page, with lines of that page's choice in its body."""
     words = line.split()
     is_http = len(words) > 1 and (words[-1].startswith(HTTP) or words[0].lower() == HOST)
-    return [b""] if is_http or line[:1] == b"*" else words
+    return [b""] if is_http or line[:1] in (b"*", TLS) else words
 
 
 def text(words: bytes) -> bytes:

@@ -22,6 +22,7 @@ def bounds(tester: FrontTester) -> None:
         b"*2\r\n$3\r\nBID\r\n$9\r\n1\r\n",
         b"*x\r\n",
         packed(b"VIEWUSER", b"0\n1") + b"\n",
+        b"*2\r\n$8\r\nVIEWUSER\r\n$1\r\n01\n",
         b"*99\r\n" + b"$1\r\nA\r\n" * 98 + b"$1\r\n",
     ):
         with front.client() as client:

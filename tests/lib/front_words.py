@@ -93,9 +93,16 @@ HTTP = b"POST / HTTP/1.1\r\nHost: localhost\r\nContent-Type: text/plain\r\n\r\n"
 
 
 def http(tester: FrontTester) -> None:
-    """an HTTP request, as any web page may have a browser send: its connection ends before a bid of its body is done"""
+    """an HTTP request, as any web page may have a browser send, also one that is encrypted, in which the page's server
+    chooses some bytes: its connection ends before a bid of it is done"""
     front = Front(tester, "http", rows=ROW)
-    for head in (HTTP, HTTP.replace(b"POST", b"BID"), HTTP.partition(b"\n")[2], b"GET /?BID HTTP/1.0\n\n"):
+    for head in (
+        HTTP,
+        HTTP.replace(b"POST", b"BID"),
+        HTTP.partition(b"\n")[2],
+        b"GET /?BID HTTP/1.0\n\n",
+        b"\x16\x03\1 a ticket\n",
+    ):
         with front.client() as client:
             client.send(head + BID + b"\r\nQUIT\r\n")
             got = client.reply(), client.reply()
