@@ -63,7 +63,8 @@ class Client(asyncio.BufferedProtocol):
     def __init__(self, engine: Engine) -> None:
         self.engine, self.number, self.requests, self.rest = engine, next(engine.sessions), deque(), b""
         self.worker = self.number % engine.asked.workers
-        self.is_over, self.has_places, self.is_multi = False, False, False
+        self.is_over, self.has_places = False, False
+        self.refused: int | None = None  # commands since MULTI
         self.password, self.heard_at = engine.asked.password, time.monotonic()
         self.is_known = not self.password
 
@@ -97,8 +98,8 @@ class Client(asyncio.BufferedProtocol):
         kind = words[0]
         if not self.is_known and kind not in FIRST:
             reply = NO_PASSWORD
-        elif self.is_multi and kind not in OF_MULTI:
-            reply = NO_TRANSACTIONS
+        elif self.refused is not None and kind not in OF_MULTI:
+            self.refused, reply = self.refused + 1, NO_TRANSACTIONS
         elif kind in TIMES:
             return self.request(words)
         else:
@@ -145,14 +146,15 @@ class Client(asyncio.BufferedProtocol):
     def transaction(self, kind: bytes) -> bytes:
         """Commands between MULTI and EXEC come before anyone can tell their client that they are none of a transaction:
         so none is done."""
-        was_multi, self.is_multi = self.is_multi, kind == b"multi"
+        refused, self.refused = self.refused, None
         match kind:
             case b"multi":
-                return error(b"ERR MULTI calls can not be nested") if was_multi else OK
-            case b"exec" | b"discard" if not was_multi:
+                self.refused = refused or 0
+                return OK if refused is None else error(b"ERR MULTI calls can not be nested")
+            case b"exec" | b"discard" if refused is None:
                 return error(b"ERR %s without MULTI" % kind.upper())
             case b"exec":
-                return DISCARDED
+                return DISCARDED if refused else reply_of([])
             case b"watch":
                 return NO_TRANSACTIONS
         return OK

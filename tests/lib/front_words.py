@@ -16,7 +16,7 @@ from lib.watched import judged_by_itself
 ROW = b'0,+item,1,2,"Vase",10,100,1,1\n'
 BID, VIEW = b"BID 3 0.0 500 5", b"VIEWITEM 0.0"
 NONE = b"-ERR no transactions: each request is one, and none of these is done"
-DISCARDED = b"-EXECABORT Transaction discarded because of previous errors."
+DISCARDED, OUTSIDE = b"-EXECABORT Transaction discarded because of previous errors.", b"-ERR EXEC without MULTI"
 
 # Commands that clients of Redis send when they connect, and their replies.
 CONNECTING = (
@@ -38,7 +38,7 @@ CONNECTING = (
     (b"AUTH x", b"-ERR AUTH <password> called without any password configured for the default user. Are you sure your"
      b" configuration is correct?"),
     (b"CONFIG GET save", b"-ERR unknown command 'CONFIG'"),
-    (b"EXEC", b"-ERR EXEC without MULTI"),
+    (b"EXEC", OUTSIDE),
     (b"DISCARD", b"-ERR DISCARD without MULTI"),
     (b"WATCH x", NONE),
     (b"UNWATCH", b"+OK"),
@@ -78,6 +78,8 @@ def transactions(tester: FrontTester) -> None:
                 f"MULTI and {ending.decode()}: {got}",
             )
     with front.client() as client:
+        got = client.ask(b"MULTI", b"EXEC", b"MULTI", BID, b"MULTI", b"EXEC", b"EXEC")
+        tester.tally.check(got[1] == b"*0" and got[5:] == [DISCARDED, OUTSIDE], f"empty and nested: {got}")
         client.ask(b"MULTI", BID)
     with front.client() as client:
         got = client.ask(VIEW, BID.replace(b"500", b"5"), BID, VIEW)
