@@ -239,6 +239,19 @@ def special_ledgers(tester: LogTester) -> None:
     )
 
 
+@with_shim
+def unsynced_folders(tester: LogTester) -> None:
+    """a folder whose names the disk does not keep: a fault before anything is answered, and the log stays empty"""
+    for one in tester.logged:
+        log = tester.folder / f"{one.name}-unsynced"
+        got = one.run(log, env=tester.limited({"FSYNC_FAILS": 1}))
+        told = one.told(log, f"{UNREAD}: {os.strerror(errno.EIO)} (os error {errno.EIO})")
+        tester.tally.check(
+            got == Outcome(one.refused, b"", told) and log.read_bytes() == b"",
+            f"{one.name} in a folder that is not synced: {described(got)}",
+        )
+
+
 # How it is opened.
 
 
@@ -782,6 +795,7 @@ CHECKS = (
     foreign_ends,
     cuts_that_lead_elsewhere,
     special_ledgers,
+    unsynced_folders,
     locked_log,
     without_locks,
     forbidden_logs,

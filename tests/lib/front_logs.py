@@ -11,7 +11,7 @@ from pathlib import Path
 from typing import Callable, Iterator
 
 from lib.bidders import NOT_DONE, VASE, Bidders
-from lib.fronts import FRONT, UNKNOWN, Front, FrontTester, script, shimmed
+from lib.fronts import FRONT, SEEN, UNKNOWN, Front, FrontTester, script, shimmed
 from lib.program import run
 from lib.sessions import SECONDS, wait_until
 from lib.watched import judged_by_itself
@@ -123,7 +123,7 @@ def end(front: Front) -> None:
 
 def deeds_between_fronts(tester: FrontTester) -> None:
     """a log that is moved, cut, replaced or edited after a front was killed: the next one ends with status 7 before it
-    serves and changes nothing; a copy of the log that is put back goes on, and so does what is there without its mark"""
+    serves, and changes nothing; a copy that is put back goes on, and so does what is there without its mark"""
     front, mark = Front(tester, "between"), tester.folder / "between" / "rows.mark"
     with front.client() as client:
         client.ask(VASE, PLACED)
@@ -372,6 +372,20 @@ def clock(tester: FrontTester) -> None:
     tester.tally.check(front.close() == 0, "the status after a clock that went back")
 
 
+def unkept_times(tester: FrontTester) -> None:
+    """a time that the disk does not keep is not given"""
+    if tester.shim is None:
+        return tester.tally.skip(unkept_times.__doc__, "there is no C compiler")
+    # Four syncs are of FILE.mark and FILE.clock when they are made, and of their folder.
+    front = Front(tester, "unkept_times", env=tester.limited({"FSYNC_FAILS": 5}))
+    with front.client() as client:
+        got = client.ask(b"ITEM 1 2 Vase 10 100 *", b"VIEWUSER 0", b"ITEM 1 2 Vase 10 100 *")
+    tester.tally.check(
+        got == [b"-ERR not done: no time can be given: Input/output error", SEEN, b"item 0.0"] and front.close() == 0,
+        f"a time that is not kept: {got}",
+    )
+
+
 LOG_CHECKS: tuple[Callable[[FrontTester], None], ...] = (
     other_logs,
     deeds_between_fronts,
@@ -382,4 +396,5 @@ LOG_CHECKS: tuple[Callable[[FrontTester], None], ...] = (
     limited_files,
     refused_write,
     clock,
+    unkept_times,
 )

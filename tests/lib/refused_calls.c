@@ -9,6 +9,7 @@
    LOG_WRITE_FAILS=n   the nth write to another file takes half, and the next one fails
    LOG_SYNC_FAILS=n    the nth fdatasync fails
    LOG_SYNC_TAKES=n    each fdatasync takes n milliseconds more
+   FSYNC_FAILS=n       the nth fsync fails
    LOG_CUT_FAILS=n     the nth ftruncate fails
    LOCK_FAILS=1        the file system has no locks
    CLOCK_FAILS=1       the clock cannot be read
@@ -94,6 +95,16 @@ int fdatasync(int file) {
     if (is_interrupted()) return -1;
     if (limit("LOG_SYNC_TAKES") > 0) usleep(1000 * limit("LOG_SYNC_TAKES"));
     if (++done == limit("LOG_SYNC_FAILS")) {
+        errno = EIO;
+        return -1;
+    }
+    return original(file);
+}
+
+int fsync(int file) {
+    static long done;
+    int (*original)(int) = dlsym(RTLD_NEXT, "fsync");
+    if (++done == limit("FSYNC_FAILS")) {
         errno = EIO;
         return -1;
     }
