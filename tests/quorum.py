@@ -16,14 +16,15 @@ import socket
 import subprocess
 import sys
 import threading
+import time
 from contextlib import ExitStack, suppress
 from pathlib import Path
 from types import SimpleNamespace
 from typing import Callable
 
 from lib.bidders import Bidders
-from lib.front_logs import DEEDS
-from lib.fronts import ENDS, UNKNOWN, WORKERS, Client, Front, FrontTester, load, script
+from lib.front_logs import CLOCK, DEEDS
+from lib.fronts import ENDS, UNKNOWN, WORKERS, Client, Front, FrontTester, first_client, load, script
 from lib.program import BUILT, EXAMPLES, Tally, built, executable, parser_of, run, servers_folder
 from lib.sessions import SECONDS, wait_until
 from lib.watched import PIPELINE, Outcome, Watcher, against_time, judge, judged_by_itself, mix
@@ -155,9 +156,14 @@ class Cluster:
     made: list["Cluster"] = []
 
     def __init__(
-        self, tester: FrontTester, network: Network, machines: tuple[int, ...] = MACHINES, program: Path | None = None
+        self,
+        tester: FrontTester,
+        network: Network,
+        name: str,
+        machines: tuple[int, ...] = MACHINES,
+        program: Path | None = None,
     ) -> None:
-        self.tester, self.network, self.folder = tester, network, tester.folder / f"{len(machines)}_machines"
+        self.tester, self.network, self.folder = tester, network, tester.folder / name
         self.audit, self.program, self.is_over = self.folder / "audit", program or tester.program, threading.Event()
         self.made.append(self)
         self.folder.mkdir()
@@ -401,7 +407,7 @@ def keeps_rows(cluster: Cluster) -> None:
 def failures(tester: FrontTester) -> None:
     """50 clients of three machines while programs, a leader and a server of etcd are killed, leaders are frozen, cut
     off and stopped; judged over all leaders"""
-    check, cluster = tester.tally.check, Cluster(tester, Network())
+    check, cluster = tester.tally.check, Cluster(tester, Network(), "failures")
     keeps_rows(cluster)
     cluster.start(mix()[0])
     kills, cuts = (kill_program, kill_leader, kill_etcd), (freeze_leader, cut_leader, cut_etcd)
@@ -437,7 +443,7 @@ def own_log(tester: FrontTester) -> None:
     fails = tester.folder / "fails"
     words = {"shim": tester.shim, "fails": fails, "program": tester.program}
     program = script(tester.folder / "slow_syncs", SLOW_SYNCS.format(**words))
-    cluster = Cluster(tester, Network(is_wanted=False), machines=(1,), program=program)
+    cluster = Cluster(tester, Network(is_wanted=False), "own_log", machines=(1,), program=program)
     (machine,), check = cluster.machines, tester.tally.check
     fails.write_text("3")
     cluster.start(b'0,+item,1,2,"Vase",10,99999999999999,1,1\n')
@@ -462,6 +468,26 @@ def own_log(tester: FrontTester) -> None:
     bidders.judge(tester.tally, "rows of etcd", rows)
 
 
+def clocks(tester: FrontTester) -> None:
+    """a leader whose clock is an hour ahead, and the next one, whose clock is not: an item that was closed stays so"""
+    shift, closes = tester.folder / "shift", int(1000 * time.time()) + 1_800_000
+    cluster = Cluster(tester, Network(is_wanted=False), "clocks", machines=(1,))
+    (machine,) = cluster.machines
+    at = machine.words.index(str(EXAMPLES / "front_quorum.py"))
+    machine.words[at:at] = ["-c", CLOCK, str(shift)]
+    shift.write_text("3600")
+    cluster.start(b'0,+item,1,2,"Vase",10,%d,1,1\n' % closes)
+    with first_client(machine.port) as client:
+        got = client.ask(b"BID 1 0.0 500 *")
+    shift.write_text("0")
+    machine.process.kill()
+    machine.process.wait()
+    with first_client(machine.port) as client:
+        got += client.ask(b"BID 1 0.0 500 *", b"BID 1 0.0 500 1")
+    tester.tally.check(got == [*[b"refused 5 Closed"] * 2, b"bid 0.0"], f"a clock that is behind at a takeover: {got}")
+    tester.tally.check(cluster.close() == [[0]], "the status of the next leader")
+
+
 def main() -> None:
     words = parser_of(__doc__)
     words.add_argument("program", nargs="?", type=executable, default=str(BUILT))
@@ -475,6 +501,7 @@ def main() -> None:
         tester = FrontTester(asked, Path(folder), tally)
         try:
             tally.tell(own_log, tester)
+            tally.tell(clocks, tester)
             tally.tell(failures, tester)
         finally:
             for cluster in Cluster.made:

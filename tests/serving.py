@@ -32,7 +32,7 @@ from lib.front_bounds import bounds
 from lib.front_clients import languages, loads, other_clients, shown
 from lib.front_logs import ANOTHER_LOG, LOG_CHECKS
 from lib.front_words import WORD_CHECKS
-from lib.fronts import ENDS, FRONT, MEGABYTES, SEEN, UNKNOWN, Client, Front, FrontTester, packed, script
+from lib.fronts import ENDS, FRONT, MEGABYTES, SEEN, UNKNOWN, Client, Front, FrontTester, first_client, packed, script
 from lib.misbehaving import hang_up, keep_asking, read_nothing, send_rubbish
 from lib.program import BUILT, EXAMPLES, Tally, built, executable, parser_of, run
 from lib.sessions import SECONDS, wait_until
@@ -416,19 +416,6 @@ def service(tester: FrontTester) -> None:
     tester.tally.check(
         written is not None and abs(int(written[1]) / 1000 - time.time()) < SECONDS, f"the log of the service: {row}"
     )
-
-
-def first_client(place: Path) -> Client:
-    """The first client of a front that is starting, whose socket may not be there or not listen yet."""
-    connected: list[Client] = []
-
-    def connects() -> bool:
-        with suppress(OSError):
-            connected.append(Client(place))
-        return bool(connected)
-
-    wait_until(connects)
-    return connected[0]
 
 
 def without_a_way_on(tester: FrontTester) -> None:

@@ -175,6 +175,19 @@ class Client:
         }
 
 
+def first_client(place: int | Path) -> Client:
+    """The first client of a front that is starting, whose socket may not be there or not listen yet."""
+    connected: list[Client] = []
+
+    def connects() -> bool:
+        with suppress(OSError):
+            connected.append(Client(place))
+        return bool(connected)
+
+    wait_until(connects)
+    return connected[0]
+
+
 def script(path: Path, text: str) -> Path:
     """A program in the place of the one under test."""
     path.write_text(text)
