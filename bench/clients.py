@@ -1,12 +1,12 @@
 """Many clients of a server, for bench/run: bids on one item that redis-benchmark sends to examples/front.py over the
 program, and to Redis."""
 import csv
-import os
 import re
 import shutil
 import socket
 import subprocess
 import sys
+import tempfile
 from typing import NamedTuple
 
 import loads
@@ -66,7 +66,8 @@ class Front:
     bid = ("BID", "1", "0.0", "500", "5")
 
     def __init__(self, program: str, folder: str, is_logged: bool) -> None:
-        self.log = f"{folder}/front.log" if is_logged else None
+        # In a folder of its own, since the front keeps files beside it.
+        self.log = f"{tempfile.mkdtemp(dir=folder)}/log" if is_logged else None
         words = ["--port", "0", "--workers", str(WORKERS), *(["--log", self.log] if self.log else [])]
         self.words = [sys.executable, "-B", FRONT, *words, program, "--fast"]
 
@@ -88,8 +89,6 @@ class Front:
     def __exit__(self, *_: object) -> None:
         self.process.terminate()
         self.process.communicate()
-        if self.log:
-            os.unlink(self.log)
 
 
 class Redis(redis_server.Server):

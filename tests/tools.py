@@ -1,7 +1,7 @@
 #!/usr/bin/env python3
-"""Shows that the tools do as they say: bench/tune, whose command has to run, bench/starts, the help of example_watch,
-likes, man pages, bench/applications, the sentences of bench/claims.py, and what each script says of wrong words, of
-what is not there, and of an interruption.
+"""Shows that the tools do as they say: bench/tune, whose command has to run, bench/starts, bench/beside_redis, the help
+of example_watch, man pages, bench/applications, the sentences of bench/claims.py, and what each script says of wrong
+words, of what is not there, and of an interruption.
 
     tests/tools.py [PROGRAM]
 """
@@ -38,7 +38,9 @@ from lib.program import (
 )
 
 PYTHON = [sys.executable, "-B"]
-RUN, TUNE, STARTS, APPLICATIONS = (BENCH / name for name in ("run", "tune", "starts", "applications"))
+RUN, TUNE, STARTS, BESIDE, APPLICATIONS = (
+    BENCH / name for name in ("run", "tune", "starts", "beside_redis", "applications")
+)
 THREE, MAN_PAGES = EXAMPLES / "sql" / "three.sh", DOCUMENTS / "man_pages.py"
 API, HISTORY = DOCUMENTS / "api.py", DOCUMENTS / "pictures" / "history.py"
 SKEWED = EXAMPLES / "skewed.csv"
@@ -71,6 +73,7 @@ OF_WORDS = [
     RUN,
     TUNE,
     STARTS,
+    BESIDE,
     APPLICATIONS,
 ]
 CLIENT, FRONT, QUORUM, LOAD, SMALL_ENGINE, TIMELINE, _, PERFORM = OF_EXAMPLES
@@ -81,7 +84,7 @@ PROGRAM = "PROGRAM"
 ANSWERS = [
     *(([script, "--none"], 2, "") for script in OF_WORDS),
     *(([script, NONE], 2, NONE) for script in OF_A_PROGRAM),
-    *(([script, "--program", NONE], 2, NONE) for script in (RUN, STARTS, TUNE)),
+    *(([script, "--program", NONE], 2, NONE) for script in (RUN, STARTS, TUNE, BESIDE)),
     ([TESTS / "compare_programs.py", PROGRAM, NONE], 2, NONE),
     ([TESTS / "loads.py", "--generator", NONE], 2, NONE),
     *(([TESTS / "all.sh", *words], 2, "--unproved") for words in (["--none"], ["--built", NONE], ["--since"])),
@@ -116,6 +119,7 @@ ANSWERS = [
     ([APPLICATIONS, "--draw", "--out", NONE], 1, NONE),
     ([STARTS, "--rows", "9"], 2, "10000"),
     ([STARTS, "--tries", "0"], 2, "--tries"),
+    ([BESIDE, "--turns", "0"], 2, "--turns"),
     ([STARTS, "--program", "/bin/false", "--rows", "10000"], 1, "no reply"),
     ([TUNE, NONE], 1, NONE),
     ([TUNE, TESTS], 1, "Is a directory"),
@@ -197,6 +201,19 @@ def starts(tally: Tally, program: Path) -> None:
     got = run([STARTS, "--program", program, "--rows", "20000", "--tries", "2"])
     lines = [re.fullmatch(rb"20000 rows, 1 MB: [0-9.]+ s, [0-9.]+ MB", line) for line in got.stdout.splitlines()]
     tally.check(got.status == 0 and len(lines) == 2 and all(lines), f"bench/starts: {described(got)}")
+
+
+def beside_redis(tally: Tally, program: Path) -> None:
+    """a turn of bench/beside_redis, and what it says without Redis"""
+    got = run([*PYTHON, BESIDE], env=os.environ | {"PATH": NONE})
+    told = b"beside_redis: redis-server is not installed; Debian has it in redis-server\n"
+    tally.same("bench/beside_redis without Redis", got, Outcome(1, b"", told))
+    if not (shutil.which("redis-server") and shutil.which("redis-benchmark")):
+        return tally.skip("a turn of bench/beside_redis", "Redis is not installed")
+    got = run([BESIDE, "--fast", "--turns", "1", "--program", program])
+    row = r"(?m)^\| (?:front|Redis), (?:no log|log synced)(?: \| \d+(?:\.\d)? / \d+(?:\.\d)?){3} \|$"
+    rows = re.findall(row, got.stdout.decode())
+    tally.check(got.status == 0 and len(rows) == 4, f"bench/beside_redis: {described(got)}")
 
 
 def windows(tally: Tally, program: Path) -> None:
@@ -440,7 +457,7 @@ def main() -> None:
     parser.add_argument("program", type=executable, nargs="?", default=str(BUILT))
     program = parser.parse_args().program
     tally = Tally()
-    of_programs = (tuned, spread, starts, windows, loads_of_applications, man_pages)
+    of_programs = (tuned, spread, starts, beside_redis, windows, loads_of_applications, man_pages)
     for check in (*of_programs, figures_of_applications, claims_of_figures, answers, interruptions, builds):
         tally.tell(check, tally, program)
     tally.finish()
