@@ -35,8 +35,10 @@ def beside(path: Path, kind: str) -> Path:
 
 
 def fresh_beside(path: Path) -> Path:
-    """A name for a file that is made and renamed or removed again. No file of a user has it."""
-    return beside(path, f"{time.time_ns()}.new")
+    """The name of a file that is made, and renamed or removed again, if no front is killed in between."""
+    fresh = beside(path, "front-new")
+    fresh.unlink(missing_ok=True)
+    return fresh
 
 
 def first_lines(data: bytes, count: int) -> bytes:

@@ -242,7 +242,7 @@ def failing_syncs(tester: FrontTester) -> None:
         and bidders.not_done
         and bidders.views >= len(bidders.acknowledged) + len(bidders.not_done)
         and of_a_user.read_text() == "mine"
-        and len([*front.folder.glob("rows*.new")]) == 1,
+        and not front.log.with_name("rows.front-new").exists(),
         f"syncs that fail: {len(places)} files, {bidders.others[:3]}, {len(bidders.not_done)} not done",
     )
     tester.tally.check(front.close() == 0, f"the status after syncs that fail: {front.said.read_text()[-300:]}")
