@@ -12,7 +12,8 @@ from typing import IO
 from zlib import crc32
 
 AHEAD = 1000  # milliseconds for which the clock is kept at once
-MOST_OF_A_PART = 1 << 18  # bytes of rows, and more: 1,000 rows of 189
+MOST_OF_A_ROW = 1 << 8  # bytes, and more: 189
+MOST_OF_A_PART = 1000 * MOST_OF_A_ROW
 LONGEST = 1 << 16  # bytes at the end of a log among which a row begins
 BLOCK = 1 << 20  # bytes that are read at once
 
@@ -118,7 +119,7 @@ class Log:
         before = self.size
         self.sum_up(self.begin)
         while self.rows:
-            rows = first_lines(os.pread(self.file.fileno(), LONGEST, self.size), self.rows)
+            rows = first_lines(os.pread(self.file.fileno(), MOST_OF_A_ROW * self.rows, self.size), self.rows)
             if not rows:
                 raise Changed(f"{self.path} lacks {self.rows} rows")
             self.rows -= rows.count(b"\n")
