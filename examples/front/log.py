@@ -130,7 +130,7 @@ class Log:
 
     def check(self) -> None:
         """Whether it has all rows of which a program has told that has ended."""
-        self.take() if self.rows else self.look()
+        (self.take if self.rows else self.look)()
 
     def sum_up(self, end: int) -> None:
         while self.size < end:
