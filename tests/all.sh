@@ -46,7 +46,7 @@ unset UNPROVED
 tree="no changes"
 [ -z "$(git status --porcelain 2>&1)" ] || tree="changes"
 echo "commit $(git rev-parse HEAD 2> /dev/null || echo unknown), $tree, $(rt version 2> /dev/null || echo unknown), $(date -u +%FT%TZ)"
-RT_JOBS=$(PYTHONPATH=tests python3 -B -c 'from lib.kit import lanes; print(lanes())')
+RT_JOBS=$(PYTHONPATH=tests python3 -B -c 'from lib.kit import functions_of_kit, lanes; print(lanes(functions_of_kit()))')
 export RT_JOBS
 if [ "$how" = --unproved ]; then
     export UNPROVED=$room/programs

@@ -219,7 +219,7 @@ def main() -> None:
 
     # Its first call sets a signal's handler, which only the main thread may.
     rt.rtlib.guarded()
-    with ThreadPoolExecutor(lanes()) as pool:
+    with ThreadPoolExecutor(lanes(rt)) as pool:
         for found in pool.map(results, [it for it in wanted if not asked.crates or it.name in asked.crates]):
             for is_well, text in found:
                 if text:
