@@ -13,6 +13,7 @@ processor and 4 GB.
 import os
 import re
 import shutil
+import signal
 import subprocess
 from concurrent.futures import ThreadPoolExecutor
 from dataclasses import dataclass
@@ -114,8 +115,10 @@ class Trial:
     def why_not_tried(self, edits: list[Edit]) -> str | None:
         """Why no edit shows anything: the crate is not proved as it stands, or its check was interrupted."""
         for library in self.crate.below():
-            if not Path(library.rlib).is_dir():
-                return f"not tried: `rt ci` did not leave the library {library.name}"
+            rlib = Path(library.rlib)
+            # `rt check` leaves a stamp beside a library, and `rt ci` none.
+            if not rlib.is_dir() or rlib.with_name("stamp").exists() and not library.is_built():
+                return f"not tried: no library {library.name} of these sources: rm -r crates/*/out/rlib, then `rt ci`"
         ran = self.check([], functions_of(edits) if all(edit.functions for edit in edits) else {})
         last = (ran.stdout.strip().splitlines() or [""])[-1]
         return f"not tried: {self.crate.name} as it stands: status {ran.returncode}: {last}" if ran.returncode else None
@@ -196,6 +199,18 @@ def changed_since(commit: str, crates: list[Any]) -> list[Any]:
     return [crate for crate in crates if any(it.name in changed for it in (crate, *crate.below()))]
 
 
+def stop_if_interrupted(rt: ModuleType) -> None:
+    """Has an interruption end all checks, also those to come: each edit that is left is told to be not tried."""
+    group = int(subprocess.check_output([*rt.rtlib.guarded(), "cut", "-d ", "-f5", "/proc/self/stat"]))
+
+    def stop(*_: object) -> None:
+        rt.checked = lambda *_: CompletedProcess([], -signal.SIGINT, "interrupted")
+        os.killpg(group, signal.SIGKILL)
+
+    for number in (signal.SIGINT, signal.SIGTERM):
+        signal.signal(number, stop)
+
+
 def main() -> None:
     words = parser_of(__doc__)
     which = words.add_mutually_exclusive_group()
@@ -217,8 +232,7 @@ def main() -> None:
         with TemporaryDirectory(prefix="edits-") as kept:
             return list(Trial(rt, crate, kept).results(asked.read))
 
-    # Its first call sets a signal's handler, which only the main thread may.
-    rt.rtlib.guarded()
+    stop_if_interrupted(rt)
     with ThreadPoolExecutor(lanes(rt)) as pool:
         for found in pool.map(results, [it for it in wanted if not asked.crates or it.name in asked.crates]):
             for is_well, text in found:

@@ -5,12 +5,14 @@
     tests/edits_tests.py
 """
 
+import os
 import re
 import shutil
 import signal
 import sys
+import time
 from pathlib import Path
-from subprocess import CompletedProcess, check_call
+from subprocess import PIPE, CompletedProcess, Popen, check_call
 from tempfile import TemporaryDirectory
 
 from edits import Trial
@@ -93,7 +95,7 @@ EDITS = {
         "is_not_there": ("    n - 1", "    n", r"FAILED {}: an 'old:' text is in src/lib\.rt 0 times"),
     },
     "wrong": {"takes_two_steps": ("    n", "    n + 2", NOT_TRIED + "wrong as it stands: status 1: ")},
-    "above": {"does_nothing": ("pub fn nothing() {}", "pub fn nothing() { }", NOT_TRIED + "`rt ci` .* library steps")},
+    "above": {"does_nothing": ("pub fn nothing() {}", "pub fn nothing() { }", NOT_TRIED + "no library steps ")},
 }
 
 
@@ -126,10 +128,13 @@ def each_edit(tally: Tally, folder: Path) -> None:
 
 
 def words(tally: Tally, folder: Path) -> None:
-    """edits that are only read, those of crates that changed since a commit, and wrong words"""
+    """edits that are only read, those of crates that changed since a commit, over an old library, and wrong words"""
+    library = folder / "crates" / "steps" / "out" / "rlib"
+    (library / "steps.rlib").mkdir(parents=True)
+    (library / "stamp").write_text("of other sources")
     for asked, status, said in (
         (["--read", "steps"], 1, "5 passed, 1 failed"),
-        (["--since", "HEAD", "above"], 1, "0 passed, 1 failed"),
+        (["--since", "HEAD", "above"], 1, "no library steps of these sources"),
         (["--since", "HEAD", "--read"], 2, "not allowed with"),
         (["--since", "none"], 1, "none"),
         (["none"], 2, "there is no crate none"),
@@ -143,13 +148,25 @@ def words(tally: Tally, folder: Path) -> None:
 
 
 def interruption(tally: Tally, folder: Path) -> None:
-    """a check that is killed"""
+    """a check that is killed, and an interruption of the script: a line for each edit, and nothing is left"""
     rt = functions_of_kit()
     rt.checked = lambda *_: CompletedProcess([], -signal.SIGKILL, "")
     crate = next(it for it in rt.rtlib.crates_below(str(folder)) if it.name == "wrong")
     got = list(Trial(rt, crate, str(folder)).results(only_read=False))
     told = "wrong/takes_two_steps.edit: not tried: wrong as it stands: status -9: "
     tally.check(got == [(False, told)], f"a killed check: {got}")
+    temporary = folder / "temporary"
+    temporary.mkdir()
+    how = {"cwd": folder, "env": os.environ | {"TMPDIR": str(temporary), "RT_JOBS": "1"}}
+    with Popen([sys.executable, "-B", TESTS / "edits.py"], stdout=PIPE, text=True, **how) as process:
+        while process.poll() is None and not list(temporary.glob("rt-edit-*")):
+            time.sleep(0.01)
+        process.send_signal(signal.SIGINT)
+        lines = process.communicate()[0].splitlines()
+    wanted = sum(map(len, EDITS.values()))
+    told = sum(line.startswith("FAILED ") and ".edit: " in line for line in lines)
+    ended = (process.returncode, lines[-1:], list(temporary.iterdir()))
+    tally.check(told == wanted and ended == (1, [f"0 passed, {wanted} failed"], []), f"interrupted: {lines}, {ended}")
 
 
 def main() -> None:
