@@ -1,7 +1,7 @@
 #!/usr/bin/env python3
 """Shows that the tools do as they say: bench/tune, whose command has to run, bench/starts, bench/beside_redis, the help
-of example_watch, man pages, bench/applications, the sentences of bench/claims.py, and what each script says of wrong
-words, of what is not there, and of an interruption.
+of example_watch, likes, man pages, bench/applications, the sentences of bench/claims.py, what tests/all.sh says if
+`rt ci` fails, and what each script says of wrong words, of what is not there, and of an interruption.
 
     tests/tools.py [PROGRAM]
 """
@@ -332,6 +332,39 @@ def builds(tally: Tally, program: Path) -> None:
         )
 
 
+# Stands for a kit of this folder, whose `rt ci` says this and then ends so.
+KIT = """#!/usr/bin/env python3
+import os, sys
+processors = free = lambda: 1
+if __name__ == "__main__":
+    print({said!r} if sys.argv[1] == "ci" else "{folder}/page", flush=True)
+    sys.argv[1] == "ci" and {ends}
+"""
+
+
+def gates(tally: Tally, _: Path) -> None:
+    """tests/all.sh without `rt`, and with one whose `rt ci` fails or is killed"""
+    with TemporaryDirectory(prefix="a folder ") as name:
+        folder = Path(name)
+        (folder / "bin").mkdir()
+        for program in ("bash", "dirname"):
+            (folder / "bin" / program).symlink_to(shutil.which(program))
+        got = run([TESTS / "all.sh"], env=os.environ | {"PATH": f"{name}/bin"})
+        tally.same("all.sh without rt", got, Outcome(2, b"", b"all.sh: there is no `rt` on the path\n"))
+        rt, env = folder / "bin" / "rt", {"PATH": f"{name}/bin:{os.environ['PATH']}", "TMPDIR": name}
+        for said, ends, count in (
+            ("4 passed, 2 failed", "sys.exit(1)", "4 passed, 3 failed"),
+            ("rt: one proved", "os.kill(os.getpid(), 9)", "0 passed, 2 failed"),
+        ):
+            rt.write_text(KIT.format(said=said, folder=folder, ends=ends))
+            rt.chmod(0o755)
+            got = run([TESTS / "all.sh"], env=os.environ | env)
+            lines = got.stdout.decode().splitlines()[1:]
+            wanted = [said, "FAILED scripts: none is run, since `rt ci` failed", count]
+            tally.check((got.status, lines) == (1, wanted), f"all.sh, `rt ci` {ends}: {described(got)}")
+        tally.check([*folder.iterdir()] == [folder / "bin"], "all.sh leaves a temporary file")
+
+
 def man_pages(tally: Tally, program: Path) -> None:
     """man pages: each has what help says, and no warning of groff"""
     programs = {"rubis_auction": program, "rubis_check": built("rubis_check"), "rubis_load": built("rubis_load")}
@@ -458,7 +491,8 @@ def main() -> None:
     program = parser.parse_args().program
     tally = Tally()
     of_programs = (tuned, spread, starts, beside_redis, windows, loads_of_applications, man_pages)
-    for check in (*of_programs, figures_of_applications, claims_of_figures, answers, interruptions, builds):
+    others = (figures_of_applications, claims_of_figures, answers, gates, interruptions, builds)
+    for check in (*of_programs, *others):
         tally.tell(check, tally, program)
     tally.finish()
 
