@@ -1,6 +1,6 @@
 #!/usr/bin/env bash
 # Packs the programs that `rt ci` built, to run without the kit: fundreivo-VERSION-x86_64-linux.tar.gz, with examples, pages, those of the libraries
-# (docs/api), man pages, the crates as ordinary Rust (where there is a cargo, which writes their Cargo.lock) and MANIFEST. The same commit, programs, log
+# (docs/api), man pages, the crates as ordinary Rust (if cargo finds those of others, and writes Cargo.lock) and MANIFEST. The same commit, programs, log
 # and crates of others give the same bytes.
 #
 #     tests/package.sh [--log FILE] [FOLDER]    into FOLDER, or else out/
@@ -33,7 +33,7 @@ facts_of_log() {
         /^commit / && !began { split($0, heading, ", "); kit = heading[3]; began = heading[4] }
         /^== / { crate = / its tests$/ ? "" : $2 }
         /^logic=proved / && crate && !proved { match($0, / functions=[0-9]+/); functions[crate] = substr($0, RSTART + 11, RLENGTH - 11) }
-        /^rt: [a-z0-9_]+ proved$/ { crates++ }
+        /^rt: [a-z0-9_]+ (proved$|is kept: )/ { crates++; kept += / is kept: / }
         /^(rt: must-fail )?[a-z0-9_]+\/[A-Za-z0-9_.-]+\.edit: refused/ { edits++ }
         /^rt: ok; / { proved = 1 }
         { last = $0 }
@@ -44,8 +44,8 @@ facts_of_log() {
             print "gate: tests/all.sh, begun " began
             print "kit: " kit
             print "logic: " substr(kit, index(kit, "logic ") + 6)
-            print "crates proved: " crates
-            print "functions proved: " sum
+            print "crates proved: " crates (kept ? ", " kept " of them in earlier runs" : "")
+            print "functions proved: " sum + 0 (kept ? " in this run" : "")
             print "edits refused: " edits + 0
             print "crates, edits and tests: " last
         }' "$log"
@@ -114,10 +114,11 @@ git archive HEAD README.md LICENSE CHANGELOG.md docs examples | tar -x -C "$room
 mkdir -p "$room/$packed/share/man/man1"
 python3 -B docs/man_pages.py "$room/$packed/share/man/man1" "${programs[@]}"
 python3 -B docs/api.py "$room/$packed/docs/api"
-if [ -x rust/build ] && command -v cargo > /dev/null; then
-    rust/build generate-lockfile >&2
+if said=$(rust/build generate-lockfile 2>&1); then
     mkdir "$room/$packed/rust"
     tar -c -C rust/out --exclude=./target . | tar -x -C "$room/$packed/rust"
+else
+    echo "tests/package.sh: SKIPPED the crates as ordinary Rust: $(grep -m 1 '^error' <<< "$said" || tail -n 1 <<< "$said")" >&2
 fi
 (cd "$room/$packed" && manifest > MANIFEST)
 tar -c -C "$room" --sort=name --format=ustar --owner=0 --group=0 --numeric-owner --mode=u=rwX,go=rX --mtime="@$committed" "$packed" | gzip -n > "$room/archive"

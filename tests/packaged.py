@@ -62,6 +62,12 @@ functions proved: 42
 edits refused: 5
 crates, edits and tests: 1007 passed, 0 failed
 """
+# Of a crate that an earlier run proved `rt ci` says less, and so does MANIFEST.
+KEPT = LOG[LOG.index("== rubis_check\n") : LOG.index("rt: must-fail")], "rt: rubis_check is kept: an earlier run\n"
+TOLD_OF_KEPT = "crates proved: 2, 1 of them in earlier runs\nfunctions proved: 12 in this run\n"
+# Stands for rust/build, with and without the crates of others.
+EXPORTS = "#!/bin/sh\nmkdir -p rust/out/target && echo lock | tee rust/out/Cargo.lock > rust/out/target/built\n"
+LACKS = "#!/bin/sh\necho 1 crate\necho 'error: no package named `anyhow`\nlocation: none' >&2\nexit 101\n"
 
 
 def sum_of(name: str) -> str:
@@ -84,6 +90,9 @@ class Clone:
             "crates",
         ):
             self.copy(name)
+        (folder / "rust").mkdir()
+        (folder / "rust" / "build").write_text(EXPORTS)
+        (folder / "rust" / "build").chmod(0o755)
         for words in (["init", "-q"], ["add", "-A"], ["commit", "-q", "-m", "All"]):
             self.git(*words)
         self.build()
@@ -149,7 +158,7 @@ def files(tally: Tally, clone: Clone) -> None:
     lines = there.pop("MANIFEST").decode().splitlines()
     wanted = {f"bin/{name}": built(name).read_bytes() for name in PROGRAMS}
     wanted |= {name: data for name, data in files_below(clone.folder).items() if name.split("/")[0] in PACKED}
-    wanted |= generated(folder.with_name("generated"))
+    wanted |= generated(folder.with_name("generated")) | {"rust/Cargo.lock": b"lock\n"}
     tally.check(there == wanted, f"the archive has other files: {there.keys() ^ wanted.keys()}")
     sums = [f"{sha256(data).hexdigest()}  {name}" for name, data in sorted(there.items())]
     tally.check([line for line in lines if not line.startswith("# ")] == sums, "MANIFEST has the sum of each file")
@@ -209,12 +218,14 @@ def same_bytes(tally: Tally, clone: Clone) -> None:
 
 def manifests(tally: Tally, clone: Clone) -> None:
     """what MANIFEST tells of the commit, and with a log of what was proved"""
-    with_log = clone.into / "with_log"
-    got = clone.package("--log", clone.log(), with_log)
-    tally.check(got.status == 0 and not got.stderr, f"package.sh --log: {described(got)}")
+    with_log, with_kept = clone.into / "with_log", clone.into / "with_kept"
+    for folder, altered in ((with_log, ()), (with_kept, KEPT)):
+        got = clone.package("--log", clone.log(*altered), folder)
+        tally.check(got.status == 0 and not got.stderr, f"package.sh --log: {described(got)}")
     for archive, told in (
         (clone.archive, "gate: not told, since no log was given\n"),
         (with_log / clone.archive.name, TOLD),
+        (with_kept / clone.archive.name, TOLD_OF_KEPT),
     ):
         folder = unpacked(archive, archive.with_name("unpacked"))
         lines = [
@@ -227,6 +238,17 @@ def manifests(tally: Tally, clone: Clone) -> None:
         tally.check(
             facts["programs need"].startswith("Linux on x86-64, libc.so.6 of glibc 2."), f"libraries in {facts}"
         )
+
+
+def without_crates(tally: Tally, clone: Clone) -> None:
+    """an archive without ordinary Rust, if cargo does not find the crates of others"""
+    (clone.folder / "rust" / "build").write_text(LACKS)
+    clone.git("commit", "-q", "-a", "-m", "None")
+    got = clone.package(clone.into / "less")
+    wanted = "tests/package.sh: SKIPPED the crates as ordinary Rust: error: no package named `anyhow`\n"
+    tally.check((got.status, got.stderr.decode()) == (0, wanted), f"package.sh without crates: {described(got)}")
+    folder = unpacked(Path(got.stdout.decode().rstrip("\n")), clone.folder.with_name("less"))
+    tally.check((folder / "MANIFEST").exists() and not (folder / "rust").exists(), "an archive without rust/")
 
 
 def logs(tally: Tally, clone: Clone) -> None:
@@ -288,7 +310,7 @@ def main() -> None:
         tally.finish()
     with tempfile.TemporaryDirectory() as folder:
         clone = Clone(Path(folder) / "clone")
-        for check in (make_archive, files, programs, same_bytes, manifests, logs, states):
+        for check in (make_archive, files, programs, same_bytes, manifests, without_crates, logs, states):
             tally.tell(check, tally, clone)
     tally.finish()
 

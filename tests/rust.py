@@ -55,7 +55,7 @@ def reason_to_skip() -> str | None:
     if not found or tuple(map(int, found.groups())) < LEAST_RUST:
         return f"cargo is older than {LEAST_RUST[0]}.{LEAST_RUST[1]}: {said.strip()}"
     got = subprocess.run([RUST / "build", "metadata", "--format-version", "1"], capture_output=True, text=True)
-    lacks = re.search(r"error: ((?:no matching package|failed to get `).*)", got.stderr)
+    lacks = re.search(r"error: ((?:no matching package|failed to (?:get|select|download)).*)", got.stderr)
     return lacks[1] if got.returncode and lacks else None
 
 
