@@ -332,8 +332,12 @@ def builds(tally: Tally, program: Path) -> None:
         )
 
 
+# Runs no script of tests, which would come here again.
+PYTHON3 = """#!/bin/sh
+[ "$2" = -c ] && exec {python} "$@"
+"""
 # Stands for a kit of this folder, whose `rt ci` says this and then ends so.
-KIT = """#!/usr/bin/env python3
+KIT = """#!{python}
 import os, sys
 processors = free = lambda: 1
 if __name__ == "__main__":
@@ -351,13 +355,15 @@ def gates(tally: Tally, _: Path) -> None:
             (folder / "bin" / program).symlink_to(shutil.which(program))
         got = run([TESTS / "all.sh"], env=os.environ | {"PATH": f"{name}/bin"})
         tally.same("all.sh without rt", got, Outcome(2, b"", b"all.sh: there is no `rt` on the path\n"))
+        (folder / "bin" / "python3").write_text(PYTHON3.format(python=sys.executable))
         rt, env = folder / "bin" / "rt", {"PATH": f"{name}/bin:{os.environ['PATH']}", "TMPDIR": name}
         for said, ends, count in (
             ("4 passed, 2 failed", "sys.exit(1)", "4 passed, 3 failed"),
             ("rt: one proved", "os.kill(os.getpid(), 9)", "0 passed, 2 failed"),
         ):
-            rt.write_text(KIT.format(said=said, folder=folder, ends=ends))
-            rt.chmod(0o755)
+            rt.write_text(KIT.format(python=sys.executable, said=said, folder=folder, ends=ends))
+            for program in (rt, rt.with_name("python3")):
+                program.chmod(0o755)
             got = run([TESTS / "all.sh"], env=os.environ | env)
             lines = got.stdout.decode().splitlines()[1:]
             wanted = [said, "FAILED scripts: none is run, since `rt ci` failed", count]
