@@ -114,11 +114,12 @@ class Trial:
 
     def why_not_tried(self, edits: list[Edit]) -> str | None:
         """Why no edit shows anything: the crate is not proved as it stands, or its check was interrupted."""
-        for library in self.crate.below():
-            rlib = Path(library.rlib)
-            # `rt check` leaves a stamp beside a library, and `rt ci` none.
-            if not rlib.is_dir() or rlib.with_name("stamp").exists() and not library.is_built():
-                return f"not tried: no library {library.name} of these sources: rm -r crates/*/out/rlib, then `rt ci`"
+        libraries = self.crate.below()
+        # `rt check` leaves a stamp beside a library, and `rt ci` none; those of one do not fit those of the other.
+        are_stamped = any(Path(library.rlib).with_name("stamp").exists() for library in libraries)
+        for library in libraries:
+            if not Path(library.rlib).is_dir() or are_stamped and not library.is_built():
+                return f"not tried: no library {library.name} that fits: rm -r crates/*/out/rlib, then `rt ci`"
         ran = self.check([], functions_of(edits) if all(edit.functions for edit in edits) else {})
         last = (ran.stdout.strip().splitlines() or [""])[-1]
         return f"not tried: {self.crate.name} as it stands: status {ran.returncode}: {last}" if ran.returncode else None

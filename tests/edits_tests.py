@@ -134,7 +134,7 @@ def words(tally: Tally, folder: Path) -> None:
     (library / "stamp").write_text("of other sources")
     for asked, status, said in (
         (["--read", "steps"], 1, "5 passed, 1 failed"),
-        (["--since", "HEAD", "above"], 1, "no library steps of these sources"),
+        (["--since", "HEAD", "above"], 1, "no library steps that fits"),
         (["--since", "HEAD", "--read"], 2, "not allowed with"),
         (["--since", "none"], 1, "none"),
         (["none"], 2, "there is no crate none"),
