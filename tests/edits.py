@@ -5,8 +5,8 @@
 
 Edits are tried over the libraries that `rt ci` left, those of several functions in one check, since the checker tells
 of each function by itself whether it is refused. One that merely calls a refused one counts for nothing, and so does
-each of a crate that is not proved as it stands. An edit that such a check does not show refused, or that changes more
-than functions, is tried alone, as `rt must-fail` does. Crates are tried side by side: RT_JOBS at once, or else one per
+each of a crate that is not proved as it stands. An edit that no such check shows refused, or that changes more than
+functions, is tried alone, as `rt must-fail` does. Crates are tried side by side: RT_JOBS at once, or else one per
 processor and 4 GB.
 """
 
@@ -104,10 +104,15 @@ class Trial:
             yield from ((not why, f"{self.label(edit.path)}: {why}" if why else "") for edit in edits)
             return
         for group in groups(edits):
-            ran = self.check(group) if group[0].functions else None
-            for edit in group:
-                shown = next(refusals(edit, ran.stdout), None) if ran else None
-                yield (True, f"{self.label(edit.path)}: refused: {shown[:MOST_SHOWN]}") if shown else self.alone(edit)
+            yield from self.results_of(group)
+
+    def results_of(self, group: list[Edit]) -> Iterator[Result]:
+        """What each edit of a group comes to. One whose function calls a refused one is checked again without that."""
+        said = self.check(group).stdout if group[0].functions else ""
+        shown = {edit.path: why for edit in group if (why := next(refusals(edit, said), None))}
+        yield from ((True, f"{self.label(path)}: refused: {why[:MOST_SHOWN]}") for path, why in shown.items())
+        left = [edit for edit in group if edit.path not in shown]
+        yield from self.results_of(left) if shown and left else map(self.alone, left)
 
     def label(self, path: Path) -> str:
         return f"{self.crate.name}/{path.name}"

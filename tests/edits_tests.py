@@ -41,6 +41,14 @@ pub fn next_but_one(n: u8) -> u8
     next(next(n))
 }
 
+/// Three steps.
+pub fn next_but_two(n: u8) -> u8
+    requires { n ≤ 100 }
+    ensures { result ≡ n + 3 }
+{
+    next(next_but_one(n))
+}
+
 /// A value with a unit.
 pub struct Of<T, U> {
     /// The value.
@@ -80,6 +88,13 @@ pub fn next(n: u8) -> u8
 """,
     "above": "//! Nothing.\n#![tactic(auto)]\n\n/// Nothing.\npub fn nothing() {}\n",
 }
+# An answer, which is refused by itself, and told apart from `search` if a function that it calls is refused.
+ANSWER = """use Rattle.std.proofs.Common.{arith}
+use Rattle.steps.proofs.next_but_two.Goals as goal
+
+pub returns : goal.returns
+returns c = omega (arith, c.next_but_one.ensures, c.next.ensures)
+"""
 # Edits of each crate: an old text, a new one, and what is said of the edit.
 NOT_TRIED = "FAILED {}: not tried: "
 EDITS = {
@@ -87,6 +102,8 @@ EDITS = {
         "takes_two_steps": ("    n + 1", "    n + 2", "{}: refused: "),
         # It calls the function above, which is refused in the same check.
         "changes_nothing": ("    next(next(n))", "    let n = next(n); next(n)", "FAILED {}: NOT REFUSED: "),
+        # So does this one, whose own answer is refused: it is checked again without the other.
+        "takes_four_steps": ("    next(next_but_one(n))", "    next(next(next_but_one(n)))", "{}: refused: "),
         # Its function meets the new contract, and a caller needs the old one.
         "breaks_its_caller": ("result ≡ n + 1 }", "result ≤ n + 1 }", r"{}: refused, as it must be: .*\(alone\)"),
         # Two functions have this name.
@@ -105,6 +122,9 @@ def write(folder: Path) -> None:
     for crate, source in SOURCES.items():
         (folder / "crates" / crate / "src").mkdir(parents=True)
         (folder / "crates" / crate / "src" / "lib.rt").write_text(source)
+    answers = folder / "crates" / "steps" / "proofs" / "next_but_two"
+    answers.mkdir(parents=True)
+    (answers / "Answers.antt").write_text(ANSWER)
     git = ["git", "-C", folder, "-c", "user.name=maker", "-c", "user.email=maker@localhost"]
     for words in (["init", "-q"], ["add", "-A"], ["commit", "-q", "-m", "All"]):
         check_call([*git, *words])
@@ -133,7 +153,7 @@ def words(tally: Tally, folder: Path) -> None:
     (library / "steps.rlib").mkdir(parents=True)
     (library / "stamp").write_text("of other sources")
     for asked, status, said in (
-        (["--read", "steps"], 1, "5 passed, 1 failed"),
+        (["--read", "steps"], 1, "6 passed, 1 failed"),
         (["--since", "HEAD", "above"], 1, "no library steps that fits"),
         (["--since", "HEAD", "--read"], 2, "not allowed with"),
         (["--since", "none"], 1, "none"),
