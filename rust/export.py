@@ -336,28 +336,29 @@ def export(new: Path) -> int:
         plain = ["rustfmt", "--edition", "2024", "--config", "max_width=100,use_small_heuristics=Default"]
         subprocess.run([*plain, *new.rglob("*.rs")], check=True)
     for name in OWN:
-        shutil.copytree(HERE / name, new / name)
+        shutil.copytree(HERE / name, new / name, ignore=shutil.ignore_patterns("__pycache__"))
     paths = [f'{name} = {{ path = "{name}" }}' for name in OWN]
     paths += [f'{name} = {{ path = "crates/{name}" }}' for name in crates]
     for name, text in shims.items():
         package = f"fundreivo-shim-{name.replace('_', '-')}"
         write(new / "shims" / name / "src/lib.rs", text)
-        # A shim says in lines of its own what it stands on.
-        needs = ["kit.workspace = true", *re.findall(r"(?m)^//# (.*)", text)]
+        # A shim says in a line of its own what it stands on.
+        needs = [f"{need}.workspace = true" for need in ["kit", *re.findall(r"(?m)^//# (\S+)$", text)]]
         library = [f'name = "{name}"', "doctest = false", "test = false"]
         write(new / "shims" / name / "Cargo.toml", manifest(package, text, needs, library))
         paths.append(f'{name} = {{ package = "{package}", path = "shims/{name}" }}')
     version = re.search(r'VERSION: &str = "(.*)"', (ROOT / "crates/program_options/src/options.rt").read_text())
     write(new / "Cargo.toml", head.replace("VERSION", version[1]) + "\n".join([*paths, ""]))
-    shutil.copy(ROOT / "LICENSE", new)
+    for path in (ROOT / "LICENSE", HERE / "debian.toml"):
+        shutil.copy(path, new)
     return len(crates)
 
 
 def replace_changed(new: Path, old: Path) -> None:
     """Makes a folder as another, and touches no file that is so already: cargo builds only what changed."""
-    for path in old.glob("[!t.]*/**/*"):
-        if path.is_file() and not (new / path.relative_to(old)).exists():
-            path.unlink()
+    for path in sorted(old.glob("[!t.]*/**/*"), reverse=True):
+        if not (new / path.relative_to(old)).exists():
+            path.rmdir() if path.is_dir() else path.unlink()
     for path in new.rglob("*"):
         place = old / path.relative_to(new)
         if path.is_file() and not (place.exists() and place.read_bytes() == path.read_bytes()):

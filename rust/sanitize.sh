@@ -50,7 +50,7 @@ watch example_watch 0 "$built/example_watch"
 watch example_bank 0 "$built/example_bank"
 watch tests 0 "$here/build" test --release --target $target --tests -p phase_tests -p engine_tests \
     -p application_tests -p fundreivo
-sed -i 's/Ordering::SeqCst/Ordering::Relaxed/g' "$here/out/shims/crossbeam_queue/src/lib.rs"
+sed -i 's/Ordering::SeqCst/Ordering::Relaxed as SeqCst/' "$here/out/shims/crossbeam_queue/src/lib.rs"
 AS_IS=1 "$here/build" build --release --target $target -p rubis_auction
 watch "a planted Relaxed" 1 auction 400 400
 exit $failed

@@ -1,6 +1,6 @@
 //! Of `clap` what the programs use, in the words of `clap` 4.5: long options, their values, help and version. Debian has
 //! 4.0, which words them otherwise; and no release of Rust's crate can be refused memory.
-//# strsim = "0.10"
+//# strsim
 use kit::alloc::{AllocError, Global};
 use kit::string::String;
 use kit::vec::Vec;

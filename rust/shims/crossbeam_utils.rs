@@ -1,5 +1,5 @@
 //! Rust's `crossbeam-utils`, and the rule that holds always.
-//# utils = { package = "crossbeam-utils", version = "0.8" }
+//# utils
 pub use utils::{Backoff, CachePadded};
 pub mod rule {
     pub trait Protocol<T, V> {}

@@ -1,5 +1,5 @@
 //! `csv` as Rattle has it, over Rust's `csv-core`: Rust's `csv` cannot be refused memory.
-//# csv-core = "0.1"
+//# csv-core
 use csv_core::{ReadRecordResult, ReaderBuilder as Core};
 use kit::alloc::{AllocError, Global};
 use kit::vec::Vec;
@@ -11,7 +11,6 @@ const ROOM: usize = 8192;
 pub enum ErrorKind {
     Io(std::io::Error),
     OutOfMemory,
-    UnequalLengths,
 }
 #[derive(Debug)]
 pub struct Error(ErrorKind);
@@ -50,35 +49,32 @@ impl ByteRecord {
     }
 }
 
-#[derive(Default)]
-pub struct ReaderBuilder {
-    has_headers: bool,
-    is_flexible: bool,
-}
+/// How a reader is made: without headers, of records of any lengths, as no exported crate reads otherwise.
+pub struct ReaderBuilder;
 impl ReaderBuilder {
     pub fn new() -> ReaderBuilder {
-        ReaderBuilder { has_headers: true, is_flexible: false }
+        ReaderBuilder
     }
-    pub fn has_headers(mut self, is: bool) -> ReaderBuilder {
-        self.has_headers = is;
+    pub fn has_headers(self, has: bool) -> ReaderBuilder {
+        assert!(!has);
         self
     }
-    pub fn flexible(mut self, is: bool) -> ReaderBuilder {
-        self.is_flexible = is;
+    pub fn flexible(self, is: bool) -> ReaderBuilder {
+        assert!(is);
         self
     }
     pub fn from_reader<R: Read>(&self, alloc: Global, reader: R) -> Reader<R> {
-        assert!(self.is_flexible && !self.has_headers, "no exported crate reads otherwise");
-        Reader {
-            core: Core::new().build(),
-            reader,
-            room: Vec::new(alloc),
-            from: 0,
-            to: 0,
-            is_begun: false,
-            has_failed: false,
-        }
+        let (core, room) = (Core::new().build(), Vec::new(alloc));
+        Reader { core, reader, room, from: 0, to: 0, is_begun: false, has_failed: false }
     }
+}
+
+// Makes a list longer.
+fn widen<T: Clone + Default>(list: &mut Vec<T>, least: usize) -> Result<(), AllocError> {
+    let room = (2 * list.len()).max(least);
+    list.reserve(room - list.len())?;
+    list.resize(room, T::default());
+    Ok(())
 }
 
 /// What reads records.
@@ -94,10 +90,9 @@ pub struct Reader<R> {
 impl<R: Read> Reader<R> {
     fn fill(&mut self) -> Result<(), Error> {
         if self.room.is_empty() {
-            self.room.resize(ROOM, 0)?;
+            widen(&mut self.room, ROOM)?;
         }
-        self.from = 0;
-        self.to = 0;
+        (self.from, self.to) = (0, 0);
         // The first bytes are looked at together, for a byte order mark.
         let wanted = if self.is_begun { 1 } else { 3 };
         while self.to < wanted {
@@ -117,22 +112,16 @@ impl<R: Read> Reader<R> {
             if self.from == self.to {
                 self.fill()?;
             }
+            let (into, into_ends) = (&mut row.bytes[filled..], &mut row.ends[ends..]);
             let input = &self.room[self.from..self.to];
-            let (result, read, written, ended) =
-                self.core.read_record(input, &mut row.bytes[filled..], &mut row.ends[ends..]);
+            let (result, read, written, ended) = self.core.read_record(input, into, into_ends);
             self.from += read;
             filled += written;
             ends += ended;
             match result {
                 ReadRecordResult::InputEmpty => {}
-                ReadRecordResult::OutputFull => {
-                    let room = (2 * row.bytes.len()).max(256);
-                    row.bytes.resize(room, 0)?;
-                }
-                ReadRecordResult::OutputEndsFull => {
-                    let room = (2 * row.ends.len()).max(16);
-                    row.ends.resize(room, 0)?;
-                }
+                ReadRecordResult::OutputFull => widen(&mut row.bytes, 256)?,
+                ReadRecordResult::OutputEndsFull => widen(&mut row.ends, 16)?,
                 ReadRecordResult::Record => {
                     row.count = ends;
                     return Ok(true);

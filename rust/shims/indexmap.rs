@@ -1,206 +1,174 @@
-//! `indexmap` as Rattle has it, where memory may be refused: Rust's crate cannot be before 2.0. A list of entries, and Rust's map of where each key is.
+//! A map and a set that keep the order in which keys came, whose memory may be refused. They stand on the standard
+//! library's table: `indexmap` can be refused memory from version 2 on, which Debian 12 does not have.
 use kit::alloc::{AllocError, AllocFailed, Global};
-use kit::vec::{IntoIter, Vec};
+use kit::vec::Vec;
 use std::collections::HashMap;
 use std::hash::{BuildHasherDefault, Hash, Hasher};
+use std::iter::Zip;
+use std::mem::replace;
+use std::ops::Deref;
+use std::slice::Iter;
 
-/// A quick hash: the keys are small numbers, and who chooses them can only make a map slow.
-#[derive(Default, Clone, Copy)]
-pub struct Fast(u64);
-impl Hasher for Fast {
-    #[inline(always)]
+/// A quick hash: the keys are small numbers, and nobody who could choose them gains by a slow map alone.
+#[derive(Default)]
+pub struct Quick(u64);
+
+impl Hasher for Quick {
+    #[inline]
     fn finish(&self) -> u64 {
         self.0 ^ (self.0 >> 32)
     }
     fn write(&mut self, bytes: &[u8]) {
-        bytes.iter().for_each(|byte| self.write_u64(u64::from(*byte)))
+        bytes.iter().for_each(|byte| self.write_u64((*byte).into()));
     }
-    #[inline(always)]
+    #[inline]
     fn write_u32(&mut self, number: u32) {
-        self.write_u64(u64::from(number))
+        self.write_u64(number.into());
     }
-    #[inline(always)]
+    #[inline]
     fn write_isize(&mut self, number: isize) {
-        self.write_u64(number as u64)
+        self.write_u64(number as u64);
     }
-    #[inline(always)]
+    #[inline]
     fn write_u64(&mut self, number: u64) {
-        self.0 = (self.0.rotate_left(5) ^ number).wrapping_mul(0x9E3779B97F4A7C15)
+        self.0 = (self.0.rotate_left(5) ^ number).wrapping_mul(0x9E37_79B9_7F4A_7C15);
     }
 }
 
-/// A map that keeps the order in which keys came.
-pub struct IndexMap<K, V> {
+/// A set that keeps the order in which keys came, and is read as the list of them.
+pub struct IndexSet<K> {
     keys: Vec<K>,
-    values: Vec<V>,
-    places: HashMap<K, usize, BuildHasherDefault<Fast>>,
+    places: HashMap<K, usize, BuildHasherDefault<Quick>>,
 }
 
-impl<K: Copy + Hash + Eq, V> IndexMap<K, V> {
-    pub fn new(alloc: Global) -> Self {
-        IndexMap { keys: Vec::new(alloc), values: Vec::new(alloc), places: HashMap::default() }
+impl<K> Deref for IndexSet<K> {
+    type Target = Vec<K>;
+    fn deref(&self) -> &Vec<K> {
+        &self.keys
     }
-    pub fn with_capacity(alloc: Global, count: usize) -> Result<Self, AllocError> {
-        let mut map = IndexMap::new(alloc);
-        map.reserve(count)?;
-        Ok(map)
+}
+
+impl<K: Copy + Hash + Eq> IndexSet<K> {
+    pub fn new(alloc: Global) -> IndexSet<K> {
+        IndexSet { keys: Vec::new(alloc), places: HashMap::default() }
     }
-    pub fn reserve(&mut self, count: usize) -> Result<(), AllocError> {
-        self.places.try_reserve(count)?;
-        self.keys.reserve(count)?;
-        self.values.reserve(count)
-    }
-    pub fn len(&self) -> usize {
-        self.keys.len()
-    }
-    pub fn is_empty(&self) -> bool {
-        self.keys.is_empty()
-    }
-    pub fn capacity(&self) -> usize {
-        self.keys.capacity().min(self.places.capacity())
-    }
+
     #[inline]
     pub fn get_index_of(&self, key: &K) -> Option<usize> {
         self.places.get(key).copied()
     }
+
+    pub fn reserve(&mut self, more: usize) -> Result<(), AllocError> {
+        self.places.try_reserve(more).map_err(|_| AllocError)?;
+        self.keys.reserve(more)
+    }
+
+    /// Whether the key is new. A refused allocation leaves the set as it was.
+    pub fn insert(&mut self, key: K) -> Result<bool, AllocFailed<K>> {
+        if self.places.contains_key(&key) {
+            return Ok(false);
+        }
+        if self.reserve(1).is_err() {
+            return Err(AllocFailed { value: key });
+        }
+        self.places.insert(key, self.keys.len());
+        self.keys.push_reserved(key);
+        Ok(true)
+    }
+}
+
+/// A map that keeps the order in which keys came, and gives the places of its keys as their set does.
+pub struct IndexMap<K, V> {
+    keys: IndexSet<K>,
+    values: Vec<V>,
+}
+
+impl<K, V> Deref for IndexMap<K, V> {
+    type Target = IndexSet<K>;
+    fn deref(&self) -> &IndexSet<K> {
+        &self.keys
+    }
+}
+
+impl<K: Copy + Hash + Eq, V> IndexMap<K, V> {
+    pub fn new(alloc: Global) -> IndexMap<K, V> {
+        IndexMap { keys: IndexSet::new(alloc), values: Vec::new(alloc) }
+    }
+
+    pub fn with_capacity(alloc: Global, room: usize) -> Result<IndexMap<K, V>, AllocError> {
+        let mut map = IndexMap::new(alloc);
+        map.reserve(room)?;
+        Ok(map)
+    }
+
+    pub fn reserve(&mut self, more: usize) -> Result<(), AllocError> {
+        self.keys.reserve(more)?;
+        self.values.reserve(more)
+    }
+
     pub fn contains_key(&self, key: &K) -> bool {
-        self.places.contains_key(key)
+        self.get_index_of(key).is_some()
     }
-    #[inline]
-    pub fn get(&self, key: &K) -> Option<&V> {
-        self.get_index_of(key).map(|at| &self.values[at])
-    }
-    #[inline]
-    pub fn get_mut(&mut self, key: &K) -> Option<&mut V> {
-        self.get_index_of(key).map(|at| &mut self.values[at])
-    }
+
     #[inline]
     pub fn get_full(&self, key: &K) -> Option<(usize, &K, &V)> {
         self.get_index_of(key).map(|at| (at, &self.keys[at], &self.values[at]))
     }
+
     #[inline]
     pub fn get_index(&self, at: usize) -> Option<(&K, &V)> {
-        Some((self.keys.get(at)?, self.values.get(at)?))
+        self.keys.get(at).zip(self.values.get(at))
     }
+
     #[inline]
     pub fn get_index_mut(&mut self, at: usize) -> Option<&mut V> {
         self.values.get_mut(at)
     }
-    pub fn pop(&mut self) -> Option<(K, V)> {
-        let key = self.keys.pop()?;
-        self.places.remove(&key);
-        Some((key, self.values.pop()?))
-    }
+
     /// A refused allocation leaves the map as it was.
     pub fn insert(&mut self, key: K, value: V) -> Result<Option<V>, AllocFailed<(K, V)>> {
-        if let Some(old) = self.get_mut(&key) {
-            return Ok(Some(std::mem::replace(old, value)));
+        if let Some(at) = self.get_index_of(&key) {
+            return Ok(Some(replace(&mut self.values[at], value)));
         }
-        if self.reserve(1).is_err() {
+        if self.values.reserve(1).is_err() || self.keys.insert(key).is_err() {
             return Err(AllocFailed { value: (key, value) });
         }
-        self.push_new(key, value);
+        self.values.push_reserved(value);
         Ok(None)
     }
-    // There is room for it.
-    fn push_new(&mut self, key: K, value: V) {
-        self.places.insert(key, self.keys.len());
-        self.keys.push_reserved(key);
-        self.values.push_reserved(value);
-    }
-    /// The place of a key, for which there is room.
+
+    /// The place of a key, for which there is room if it is new.
     pub fn entry(&mut self, key: K) -> Result<Entry<'_, K, V>, AllocError> {
         self.reserve(1)?;
-        Ok(Entry { map: self, key })
+        Ok(Entry(self, key))
     }
-    pub fn iter(&self) -> std::iter::Zip<std::slice::Iter<'_, K>, std::slice::Iter<'_, V>> {
-        self.keys.iter().zip(self.values.iter())
-    }
-    pub fn keys(&self) -> std::slice::Iter<'_, K> {
-        self.keys.iter()
-    }
-    pub fn values(&self) -> std::slice::Iter<'_, V> {
-        self.values.iter()
-    }
-    pub fn values_mut(&mut self) -> std::slice::IterMut<'_, V> {
-        self.values.iter_mut()
-    }
-}
-impl<K, V> IntoIterator for IndexMap<K, V> {
-    type Item = (K, V);
-    type IntoIter = std::iter::Zip<IntoIter<K>, IntoIter<V>>;
-    fn into_iter(self) -> Self::IntoIter {
-        self.keys.into_iter().zip(self.values)
-    }
-}
-impl<'a, K: Copy + Hash + Eq, V> IntoIterator for &'a IndexMap<K, V> {
-    type Item = (&'a K, &'a V);
-    type IntoIter = std::iter::Zip<std::slice::Iter<'a, K>, std::slice::Iter<'a, V>>;
-    fn into_iter(self) -> Self::IntoIter {
-        self.iter()
+
+    pub fn pop(&mut self) -> Option<(K, V)> {
+        let (key, value) = (self.keys.keys.pop()?, self.values.pop()?);
+        self.keys.places.remove(&key);
+        Some((key, value))
     }
 }
 
 /// The place of a key.
-pub struct Entry<'a, K, V> {
-    map: &'a mut IndexMap<K, V>,
-    key: K,
-}
+pub struct Entry<'a, K, V>(&'a mut IndexMap<K, V>, K);
+
 impl<'a, K: Copy + Hash + Eq, V> Entry<'a, K, V> {
     pub fn or_insert(self, value: V) -> &'a mut V {
-        let at = self.map.get_index_of(&self.key).unwrap_or_else(|| {
-            self.map.push_new(self.key, value);
-            self.map.len() - 1
-        });
-        &mut self.map.values[at]
+        let Entry(map, key) = self;
+        let at = map.get_index_of(&key).unwrap_or(map.len());
+        if at == map.len() {
+            // There is room for it.
+            let _ = map.insert(key, value);
+        }
+        &mut map.values[at]
     }
 }
 
-/// A set that keeps the order in which keys came.
-pub struct IndexSet<K>(IndexMap<K, ()>);
-impl<K: Copy + Hash + Eq> IndexSet<K> {
-    pub fn new(alloc: Global) -> Self {
-        IndexSet(IndexMap::new(alloc))
-    }
-    pub fn with_capacity(alloc: Global, count: usize) -> Result<Self, AllocError> {
-        IndexMap::with_capacity(alloc, count).map(IndexSet)
-    }
-    pub fn len(&self) -> usize {
-        self.0.len()
-    }
-    pub fn is_empty(&self) -> bool {
-        self.0.is_empty()
-    }
-    pub fn contains(&self, key: &K) -> bool {
-        self.0.contains_key(key)
-    }
-    pub fn get_index_of(&self, key: &K) -> Option<usize> {
-        self.0.get_index_of(key)
-    }
-    pub fn get_index(&self, at: usize) -> Option<&K> {
-        self.0.keys.get(at)
-    }
-    pub fn as_slice(&self) -> &[K] {
-        &self.0.keys
-    }
-    pub fn first(&self) -> Option<&K> {
-        self.get_index(0)
-    }
-    /// Whether the key is new. A refused allocation leaves the set as it was.
-    pub fn insert(&mut self, key: K) -> Result<bool, AllocFailed<K>> {
-        match self.0.insert(key, ()) {
-            Ok(old) => Ok(old.is_none()),
-            Err(AllocFailed { value: (value, ()) }) => Err(AllocFailed { value }),
-        }
-    }
-    pub fn iter(&self) -> std::slice::Iter<'_, K> {
-        self.0.keys()
-    }
-}
-impl<'a, K: Copy + Hash + Eq> IntoIterator for &'a IndexSet<K> {
-    type Item = &'a K;
-    type IntoIter = std::slice::Iter<'a, K>;
+impl<'a, K, V> IntoIterator for &'a IndexMap<K, V> {
+    type Item = (&'a K, &'a V);
+    type IntoIter = Zip<Iter<'a, K>, Iter<'a, V>>;
     fn into_iter(self) -> Self::IntoIter {
-        self.iter()
+        self.keys.iter().zip(self.values.iter())
     }
 }

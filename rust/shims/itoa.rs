@@ -1,5 +1,5 @@
 //! Rust's `itoa`, and a number's digits put down where they belong.
-//# digits = { package = "itoa", version = "1" }
+//# digits
 pub use digits::{Buffer, Integer};
 /// Writes a number's digits so that they end at a place, and gives where they begin.
 #[inline]

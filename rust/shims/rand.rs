@@ -1,11 +1,12 @@
 //! The draws of a range as Rust's `rand` 0.9 and later make them, by Canon's method: that of `rand` 0.8 gives others.
-//# rand_core.workspace = true
+//# rand_core
 use rand_core::RngCore;
-use std::ops::{Range, RangeInclusive};
+pub use rand_core::SeedableRng;
+use std::ops::{Bound, RangeBounds};
 
 pub trait Drawn: Copy {
     fn between<R: RngCore>(low: Self, high: Self, rng: &mut R) -> Self;
-    fn before(self) -> Self;
+    fn before(self) -> Option<Self>;
 }
 macro_rules! drawn {
     ($type:ty, $word:ty, $wide:ty, $next:ident) => {
@@ -25,39 +26,29 @@ macro_rules! drawn {
                 }
                 low.wrapping_add(result as $type)
             }
-            fn before(self) -> $type {
-                self - 1
+            fn before(self) -> Option<$type> {
+                self.checked_sub(1)
             }
         }
     };
 }
 drawn!(u32, u32, u64, next_u32);
-drawn!(i32, u32, u64, next_u32);
 drawn!(u64, u64, u128, next_u64);
 drawn!(i64, u64, u128, next_u64);
 
-pub trait SampleRange<T> {
-    fn draw<R: RngCore>(self, rng: &mut R) -> T;
-}
-impl<T: Drawn + PartialOrd> SampleRange<T> for Range<T> {
-    #[inline]
-    fn draw<R: RngCore>(self, rng: &mut R) -> T {
-        assert!(self.start < self.end, "an empty range");
-        T::between(self.start, self.end.before(), rng)
-    }
-}
-impl<T: Drawn> SampleRange<T> for RangeInclusive<T> {
-    #[inline]
-    fn draw<R: RngCore>(self, rng: &mut R) -> T {
-        let (low, high) = self.into_inner();
-        T::between(low, high, rng)
-    }
-}
 pub trait RngExt: RngCore + Sized {
+    /// A number of a range that has both ends.
     #[inline]
-    fn random_range<T, S: SampleRange<T>>(&mut self, range: S) -> T {
-        range.draw(self)
+    fn random_range<T: Drawn>(&mut self, range: impl RangeBounds<T>) -> T {
+        let high = match range.end_bound() {
+            Bound::Included(high) => Some(*high),
+            Bound::Excluded(end) => end.before(),
+            Bound::Unbounded => None,
+        };
+        match (range.start_bound(), high) {
+            (Bound::Included(low), Some(high)) => T::between(*low, high, self),
+            _ => panic!("an empty range"),
+        }
     }
 }
 impl<R: RngCore> RngExt for R {}
-pub use rand_core::SeedableRng;

@@ -1,5 +1,5 @@
 //! Rust's `rand_core`, and the one step of a generator.
-//# core06 = { package = "rand_core", version = "0.6" }
+//# core06
 pub use core06::{RngCore, SeedableRng};
 pub mod utils {
     /// The one step of a generator: a word, and the next state.

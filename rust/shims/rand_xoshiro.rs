@@ -1,3 +1,3 @@
 //! Rust's `rand_xoshiro`.
-//# xoshiro = { package = "rand_xoshiro", version = "0.6" }
+//# xoshiro
 pub use xoshiro::*;

@@ -1,43 +1,32 @@
 //! Values on the heap.
 use crate::alloc::{AllocError, Global};
-use ::std::alloc::{Layout, alloc};
+use crate::vec::Vec;
 use ::std::boxed::Box as RustBox;
 use ::std::ops::{Deref, DerefMut};
 
-/// A value on the heap.
+/// A value on the heap. As a list of one it can be made where memory may be refused.
 #[derive(Debug, PartialEq, Eq)]
-pub struct Box<T>(pub(crate) RustBox<T>);
+pub struct Box<T>(RustBox<[T; 1]>);
 impl<T> Box<T> {
     #[inline]
-    pub fn new(_: Global, value: T) -> Result<Self, AllocError> {
-        let layout = Layout::new::<T>();
-        if layout.size() == 0 {
-            return Ok(Box(RustBox::new(value)));
-        }
-        // SAFETY: the place is the global allocator's, with the size and alignment of the value.
-        unsafe {
-            let place = alloc(layout) as *mut T;
-            if place.is_null() {
-                return Err(AllocError);
-            }
-            place.write(value);
-            Ok(Box(RustBox::from_raw(place)))
-        }
+    pub fn new(alloc: Global, value: T) -> Result<Self, AllocError> {
+        let held: RustBox<[T]> = Vec::of(alloc, [value])?.into_std().into();
+        held.try_into().map(Box).map_err(|_| AllocError)
     }
-    pub fn into_inner(of: Self) -> T {
-        *of.0
+    pub(crate) fn into_raw(of: Self) -> *mut T {
+        RustBox::into_raw(of.0).cast()
     }
 }
 impl<T> Deref for Box<T> {
     type Target = T;
     #[inline(always)]
     fn deref(&self) -> &T {
-        &self.0
+        &self.0[0]
     }
 }
 impl<T> DerefMut for Box<T> {
     #[inline(always)]
     fn deref_mut(&mut self) -> &mut T {
-        &mut self.0
+        &mut self.0[0]
     }
 }

@@ -11,18 +11,12 @@ pub trait Files {
     type File;
     fn canonicalize(&self, alloc: Global, path: &str) -> io::Result<String>;
 }
-impl Files for crate::rt::HostRuntime {
+impl<T: ?Sized> Files for T {
     type File = File;
     fn canonicalize(&self, alloc: Global, path: &str) -> io::Result<String> {
         let mut found = [0; crate::sys::PATH_ROOM];
         let path = ::std::str::from_utf8(crate::sys::real_path(path, &mut found)?);
         Ok(String::from_str(alloc, path.map_err(|_| io::ErrorKind::InvalidData)?)?)
-    }
-}
-impl<T: Files> Files for &T {
-    type File = T::File;
-    fn canonicalize(&self, alloc: Global, path: &str) -> io::Result<String> {
-        (**self).canonicalize(alloc, path)
     }
 }
 
@@ -32,9 +26,6 @@ pub struct File(RustFile);
 impl File {
     pub fn open<R>(_: &R, path: &str) -> io::Result<File> {
         RustFile::open(path).map(File)
-    }
-    pub fn create<R>(_: &R, path: &str) -> io::Result<File> {
-        RustFile::create(path).map(File)
     }
     pub fn metadata(&self) -> io::Result<Metadata> {
         self.0.metadata()
@@ -76,11 +67,6 @@ impl Write for File {
         self.0.flush()
     }
 }
-impl Seek for File {
-    fn seek(&mut self, to: SeekFrom) -> io::Result<u64> {
-        self.0.seek(to)
-    }
-}
 
 /// How a file is opened.
 #[derive(Clone, Debug)]
@@ -97,7 +83,7 @@ impl OpenOptions {
     pub fn new() -> OpenOptions {
         OpenOptions(RustOptions::new())
     }
-    setters!(read write append create create_new truncate);
+    setters!(read append create create_new);
     pub fn open<R>(&self, _: &R, path: &str) -> io::Result<File> {
         self.0.open(path).map(File)
     }
@@ -107,7 +93,4 @@ pub fn metadata<R>(_: &R, path: &str) -> io::Result<Metadata> {
 }
 pub fn symlink_metadata<R>(_: &R, path: &str) -> io::Result<Metadata> {
     ::std::fs::symlink_metadata(path)
-}
-pub fn remove_file<R>(_: &R, path: &str) -> io::Result<()> {
-    ::std::fs::remove_file(path)
 }

@@ -11,12 +11,22 @@
 pub use ::std as rust;
 pub use ::std::*;
 
+// Leaves to do something, which whoever is asked for has: nothing of a runtime is left.
+macro_rules! rights {
+    ($($(#[$about:meta])* $right:ident)*) => {$(
+        $(#[$about])*
+        pub trait $right {}
+        impl<T: ?Sized> $right for T {}
+    )*};
+}
+
 pub mod alloc;
 pub mod boxed;
 pub mod env;
 pub mod fs;
 pub mod io;
 mod macros;
+pub mod panics;
 pub mod process;
 pub mod rt;
 pub mod string;
@@ -35,16 +45,17 @@ pub mod prelude {
     pub use crate::rt::{Alloc, HostRuntime};
     pub use crate::string::String;
     pub use crate::vec::{DestroyEmpty, Vec};
-    pub use crate::words::{CollectIn, ExpectErrRt, ExpectRt, ReadToString, ReadUntil, ToOwnedIn};
+    pub use crate::words::{CollectIn, ExpectRt, ReadToString, ReadUntil, ToOwnedIn};
     pub use ::std::prelude::*;
 }
 
 /// What bounds say of types.
 pub mod marker {
     pub use ::std::marker::*;
-    /// Rattle asks for this where a value may be let go; in Rust every value may.
-    pub trait Drop {}
-    impl<T: ?Sized> Drop for T {}
+    rights! {
+        /// Rattle asks for this where a value may be let go; in Rust every value may.
+        Drop
+    }
     /// What contracts see of a type; there is nothing of it here.
     pub trait Model {}
     /// The name that a contract gives a value; there is nothing of it here.
@@ -70,15 +81,6 @@ pub mod mem {
             forget(ends);
             gives
         }
-    }
-}
-
-/// Numbers.
-pub mod num {
-    pub use ::std::num::*;
-    /// The nearest float.
-    pub fn nearest_u64_to_f64(number: u64) -> f64 {
-        number as f64
     }
 }
 

@@ -26,27 +26,29 @@ macro_rules! vec {
 }
 #[macro_export]
 macro_rules! format {
-    (in $alloc:expr; $($rest:tt)*) => { $crate::string::String::formatted($alloc, $crate::rust::format_args!($($rest)*)) };
+    (in $alloc:expr; $($rest:tt)*) => {
+        $crate::string::String::formatted($alloc, $crate::rust::format_args!($($rest)*))
+    };
     ($($rest:tt)*) => { $crate::rust::format!($($rest)*) };
 }
 #[macro_export]
 macro_rules! print {
-    ($rt:expr; $($rest:tt)*) => { $crate::io::Print::print(&$rt, $crate::rust::format_args!($($rest)*)) };
+    ($rt:expr; $($rest:tt)*) => { $crate::io::tell(&$rt, 1, $crate::rust::format_args!($($rest)*)) };
     ($($rest:tt)*) => { $crate::rust::print!($($rest)*) };
 }
 #[macro_export]
 macro_rules! println {
-    ($rt:expr; $($rest:tt)*) => { $crate::io::Print::println(&$rt, $crate::rust::format_args!($($rest)*)) };
+    ($rt:expr; $($rest:tt)*) => { $crate::io::tell_line(&$rt, 1, $crate::rust::format_args!($($rest)*)) };
     ($($rest:tt)*) => { $crate::rust::println!($($rest)*) };
 }
 #[macro_export]
 macro_rules! eprint {
-    ($rt:expr; $($rest:tt)*) => { $crate::io::Eprint::eprint(&$rt, $crate::rust::format_args!($($rest)*)) };
+    ($rt:expr; $($rest:tt)*) => { $crate::io::tell(&$rt, 2, $crate::rust::format_args!($($rest)*)) };
     ($($rest:tt)*) => { $crate::rust::eprint!($($rest)*) };
 }
 #[macro_export]
 macro_rules! eprintln {
-    ($rt:expr; $($rest:tt)*) => { $crate::io::Eprint::eprintln(&$rt, $crate::rust::format_args!($($rest)*)) };
+    ($rt:expr; $($rest:tt)*) => { $crate::io::tell_line(&$rt, 2, $crate::rust::format_args!($($rest)*)) };
     ($($rest:tt)*) => { $crate::rust::eprintln!($($rest)*) };
 }
 #[macro_export]

@@ -14,10 +14,10 @@ impl From<u8> for ExitCode {
     }
 }
 
-/// Leave to end the program; tests alone have it.
-pub trait Abort {}
-impl Abort for crate::rt::HostRuntime {}
-impl<T: Abort> Abort for &T {}
+rights! {
+    /// Leave to end the program; tests alone have it.
+    Abort
+}
 
 /// What a `main` gives.
 pub trait Ended {
@@ -37,7 +37,7 @@ impl<T: Ended, E: ::std::fmt::Debug> Ended for Result<T, E> {
     fn status(self) -> i32 {
         self.map_or_else(
             |why| {
-                let _ = crate::io::Eprint::eprintln(&crate::rt::HostRuntime, format_args!("Error: {why:?}"));
+                let _ = crate::io::tell_line(&(), 2, format_args!("Error: {why:?}"));
                 1
             },
             T::status,

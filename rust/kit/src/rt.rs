@@ -2,7 +2,7 @@
 use crate::alloc::Global;
 pub use crate::env::Env;
 pub use crate::fs::Files;
-use crate::io::{Stderr, Stdin, Stdout};
+use crate::io::{Stream, stream};
 pub use crate::time::Clock;
 
 /// Leave to allocate.
@@ -10,31 +10,22 @@ pub trait Alloc {
     type A;
     fn alloc(&self) -> Self::A;
 }
-impl<T: Alloc> Alloc for &T {
-    type A = T::A;
-    fn alloc(&self) -> T::A {
-        (**self).alloc()
-    }
-}
-
-/// Leave to do all that a program may.
-#[derive(Clone, Copy, Default)]
-pub struct HostRuntime;
-impl Alloc for HostRuntime {
+impl<T: ?Sized> Alloc for T {
     type A = Global;
     #[inline(always)]
     fn alloc(&self) -> Global {
         Global
     }
 }
+
+/// Leave to do all that a program may.
+#[derive(Clone, Copy, Default)]
+pub struct HostRuntime;
 impl HostRuntime {
-    pub fn stdin(&self) -> Stdin {
-        Stdin
+    pub fn stdin(&self) -> Stream {
+        stream(0)
     }
-    pub fn stdout(&self) -> Stdout {
-        Stdout
-    }
-    pub fn stderr(&self) -> Stderr {
-        Stderr
+    pub fn stderr(&self) -> Stream {
+        stream(2)
     }
 }

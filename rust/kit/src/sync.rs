@@ -12,8 +12,7 @@ pub trait Wait {
         ::std::iter::repeat(())
     }
 }
-impl Wait for crate::rt::HostRuntime {}
-impl<T: Wait> Wait for &T {}
+impl<T: ?Sized> Wait for T {}
 
 struct Shared<T> {
     owners: AtomicUsize,
@@ -31,7 +30,8 @@ unsafe impl<T: Send + Sync, A> Sync for Arc<T, A> {}
 impl<T> Arc<T, Global> {
     pub fn new(alloc: Global, value: T) -> Result<Self, AllocError> {
         let shared = Box::new(alloc, Shared { owners: AtomicUsize::new(1), value })?;
-        Ok(Arc { at: NonNull::from(::std::boxed::Box::leak(shared.0)), marker: PhantomData })
+        // SAFETY: a box has a place.
+        Ok(Arc { at: unsafe { NonNull::new_unchecked(Box::into_raw(shared)) }, marker: PhantomData })
     }
     pub fn try_clone(of: &Self) -> Result<Self, AllocError> {
         // SAFETY: an owner has it.

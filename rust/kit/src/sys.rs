@@ -1,4 +1,4 @@
-//! The calls of the C library that Rust's own does not give: without a buffer, and with memory that may be refused.
+//! The calls of the C library that Rust's own does not give: with memory that may be refused.
 use crate::alloc::Global;
 use crate::boxed::Box;
 use ::std::any::Any;
@@ -7,11 +7,6 @@ use ::std::io::{Error, ErrorKind, Result};
 use ::std::sync::atomic::{AtomicPtr, AtomicUsize, Ordering};
 
 unsafe extern "C" {
-    #[link_name = "read"]
-    fn c_read(fd: c_int, into: *mut u8, count: usize) -> isize;
-    #[link_name = "write"]
-    fn c_write(fd: c_int, from: *const u8, count: usize) -> isize;
-    fn isatty(fd: c_int) -> c_int;
     fn ftruncate(fd: c_int, len: i64) -> c_int;
     fn clock_gettime(clock: c_int, time: *mut [i64; 2]) -> c_int;
     fn realpath(path: *const u8, found: *mut u8) -> *const u8;
@@ -25,33 +20,6 @@ unsafe extern "C" {
     fn pthread_join(thread: usize, gives: *mut *mut u8) -> c_int;
 }
 
-fn counted(count: isize) -> Result<usize> {
-    usize::try_from(count).map_err(|_| Error::last_os_error())
-}
-pub fn read(fd: i32, into: &mut [u8]) -> Result<usize> {
-    // SAFETY: the place is ours for the time of the call.
-    counted(unsafe { c_read(fd, into.as_mut_ptr(), into.len()) })
-}
-pub fn write(fd: i32, bytes: &[u8]) -> Result<usize> {
-    // SAFETY: as above.
-    counted(unsafe { c_write(fd, bytes.as_ptr(), bytes.len()) })
-}
-pub fn write_all(fd: i32, bytes: &[u8]) -> Result<()> {
-    let mut done = 0;
-    while done < bytes.len() {
-        match write(fd, &bytes[done..]) {
-            Ok(0) => return Err(ErrorKind::WriteZero.into()),
-            Ok(count) => done += count,
-            Err(why) if why.kind() == ErrorKind::Interrupted => {}
-            Err(why) => return Err(why),
-        }
-    }
-    Ok(())
-}
-pub fn is_terminal(fd: i32) -> bool {
-    // SAFETY: it only asks.
-    unsafe { isatty(fd) == 1 }
-}
 /// Cuts a file off, or makes it longer.
 pub fn truncate(fd: i32, len: u64) -> Result<()> {
     let len = i64::try_from(len).map_err(|_| ErrorKind::InvalidInput)?;
@@ -66,11 +34,12 @@ pub fn truncate(fd: i32, len: u64) -> Result<()> {
         }
     }
 }
-/// What a clock shows: 0 since 1970, 1 since some beginning.
-pub fn clock(clock: i32) -> Result<::std::time::Duration> {
+/// The time since some beginning.
+pub fn clock() -> Result<::std::time::Duration> {
+    const MONOTONIC: c_int = 1;
     let mut time = [0; 2];
     // SAFETY: the place has the size of a time.
-    if unsafe { clock_gettime(clock, &mut time) } != 0 {
+    if unsafe { clock_gettime(MONOTONIC, &mut time) } != 0 {
         return Err(Error::last_os_error());
     }
     Ok(::std::time::Duration::new(time[0].max(0) as u64, time[1] as u32))
@@ -99,13 +68,12 @@ pub fn keep_words(count: i32, words: *const *const u8) {
     COUNT.store(count.max(0) as usize, Ordering::SeqCst);
     WORDS.store(words as *mut *const u8, Ordering::SeqCst);
 }
-/// The word at a place.
-pub fn word(at: usize) -> Option<&'static [u8]> {
-    if at >= COUNT.load(Ordering::SeqCst) {
-        return None;
-    }
-    // SAFETY: there are so many words, each of which ends with a zero and stays as it is.
-    Some(unsafe { CStr::from_ptr(*WORDS.load(Ordering::SeqCst).add(at) as *const c_char) }.to_bytes())
+/// These words.
+pub fn words() -> impl Iterator<Item = &'static [u8]> {
+    (0..COUNT.load(Ordering::SeqCst)).map(|at| {
+        // SAFETY: there are so many words, each of which ends with a zero and stays as it is.
+        unsafe { CStr::from_ptr(*WORDS.load(Ordering::SeqCst).add(at) as *const c_char) }.to_bytes()
+    })
 }
 /// A write to a pipe that is closed fails, and does not end the program.
 pub fn ignore_closed_pipes() {
@@ -154,8 +122,7 @@ unsafe fn take<A, F>(at: *mut u8) -> Option<A> {
 /// # Safety
 /// It must be joined or let go while all that the work borrows lives.
 pub unsafe fn start<A, F: FnOnce() -> A>(work: F) -> Result<Thread<A>> {
-    let asked = Box::new(Global, Work::<A, F>::Asked(work))?;
-    let at = ::std::boxed::Box::into_raw(asked.0) as *mut u8;
+    let at = Box::into_raw(Box::new(Global, Work::<A, F>::Asked(work))?) as *mut u8;
     let mut thread = 0;
     // SAFETY: the place lives until the thread is joined.
     let refused = unsafe { pthread_create(&mut thread, ::std::ptr::null(), enter::<A, F>, at) };

@@ -6,10 +6,10 @@ use ::std::io;
 use ::std::marker::PhantomData;
 pub use ::std::thread::yield_now;
 
-/// Leave to start threads.
-pub trait Threads {}
-impl Threads for crate::rt::HostRuntime {}
-impl<T: Threads> Threads for &T {}
+rights! {
+    /// Leave to start threads.
+    Threads
+}
 /// What a thread promises of its answer, to proofs.
 pub trait Promise<A> {}
 
@@ -47,17 +47,9 @@ impl<A, P> PromisedHandle<A, P> {
     }
 }
 
-/// A thread could not be started.
-#[derive(Clone, Copy, Debug, PartialEq, Eq)]
-pub struct SpawnError;
-impl ::std::fmt::Display for SpawnError {
-    fn fmt(&self, f: &mut ::std::fmt::Formatter<'_>) -> ::std::fmt::Result {
-        f.write_str("failed to spawn thread")
-    }
-}
-impl ::std::error::Error for SpawnError {}
-impl From<SpawnError> for AllocError {
-    fn from(_: SpawnError) -> AllocError {
+/// To who knows no other fault, a thread that does not start is want of memory.
+impl From<io::Error> for AllocError {
+    fn from(_: io::Error) -> AllocError {
         AllocError
     }
 }
@@ -69,58 +61,46 @@ impl<A> JoinHandle<A> {
         self.0.join()
     }
 }
-pub fn spawn<R: Threads, A: Send + 'static>(
-    _rt: &R,
-    work: impl FnOnce() -> A + Send + 'static,
-) -> Result<JoinHandle<A>, SpawnError> {
+pub fn spawn<R, A: Send + 'static>(_rt: &R, work: impl FnOnce() -> A + Send + 'static) -> io::Result<JoinHandle<A>> {
     // SAFETY: it borrows nothing.
-    unsafe { sys::start(work) }.map(JoinHandle).map_err(|_| SpawnError)
+    unsafe { sys::start(work) }.map(JoinHandle)
 }
 
 /// Does both, the first in a thread of its own where one can be started.
-pub fn join_mut<R, A: Send, B>(_rt: &R, one: &mut (impl FnMut() -> A + Send), other: &mut impl FnMut() -> B) -> (A, B) {
+pub fn join<R, A: Send, B>(_rt: &R, one: impl FnOnce() -> A + Send, other: impl FnOnce() -> B) -> (A, B) {
+    let mut one = Some(one);
+    let mut first = || one.take().expect("it is called once")();
     // SAFETY: it is joined below, or waited for where the other panics.
-    match unsafe { sys::start(&mut *one) } {
+    match unsafe { sys::start(&mut first) } {
         Ok(thread) => {
             let done = other();
             (thread.join(), done)
         }
-        Err(_) => (one(), other()),
+        Err(_) => (first(), other()),
     }
 }
-pub fn join<R, A: Send, B>(rt: &R, one: impl FnOnce() -> A + Send, other: impl FnOnce() -> B) -> (A, B) {
-    // Each is called once.
-    let (mut one, mut other) = (Some(one), Some(other));
-    join_mut(rt, &mut || one.take().unwrap()(), &mut || other.take().unwrap()())
+pub fn join_mut<R, A: Send, B>(rt: &R, one: &mut (impl FnMut() -> A + Send), other: &mut impl FnMut() -> B) -> (A, B) {
+    join(rt, one, other)
 }
 
-/// Calls `f(0)` to `f(count - 1)`, each in a thread of its own where one can be started, and gives the answers in order.
-pub fn map_indices<R: Sync, X: Send, F: Fn(usize) -> X + Sync>(
-    rt: &R,
+/// Calls `f(0)` to `f(count - 1)`, each but the last in a thread of its own where one can be started, and gives the
+/// answers in order.
+pub fn map_indices<R, X: Send, F: Fn(usize) -> X + Sync>(
+    _rt: &R,
     alloc: Global,
     count: usize,
     f: &F,
 ) -> Result<Vec<X>, AllocError> {
-    calls_from(rt, alloc, 0, count, f)
-}
-// Half of the calls go to a new thread at each step.
-fn calls_from<R: Sync, X: Send, F: Fn(usize) -> X + Sync>(
-    rt: &R,
-    alloc: Global,
-    from: usize,
-    count: usize,
-    f: &F,
-) -> Result<Vec<X>, AllocError> {
-    if count < 2 {
-        return Vec::collected(alloc, (from..from + count).map(f));
+    let mut all = Vec::with_capacity(alloc, count)?;
+    let mut threads = Vec::with_capacity(alloc, count)?;
+    for at in 1..count {
+        // SAFETY: it is joined below, or waited for where another panics.
+        threads.push_reserved(unsafe { sys::start(move || f(at - 1)) }.map_err(|_| at - 1));
     }
-    let low = count / 2;
-    let (front, back) = join(
-        rt,
-        move || calls_from(rt, alloc, from, low, f),
-        move || calls_from(rt, alloc, from + low, count - low, f),
-    );
-    let (mut all, mut rest) = (front?, back?);
-    all.append(&mut rest)?;
+    let last = (count > 0).then(|| f(count - 1));
+    for thread in threads {
+        all.push_reserved(thread.map_or_else(f, sys::Thread::join));
+    }
+    last.into_iter().for_each(|last| all.push_reserved(last));
     Ok(all)
 }

@@ -1,10 +1,10 @@
-//! Lists, whose memory may be refused.
+//! Lists, whose memory may be refused: what allocates is passed an allocator, and answers a `Result`.
 use crate::alloc::{AllocError, AllocFailed, Global};
 pub use ::std::vec::IntoIter;
 use ::std::vec::Vec as RustVec;
 
 /// A list.
-#[derive(Debug, PartialEq)]
+#[derive(PartialEq)]
 pub struct Vec<T>(RustVec<T>);
 
 impl<T> Vec<T> {
@@ -60,26 +60,11 @@ impl<T> Vec<T> {
         debug_assert!(self.0.len() < self.0.capacity());
         self.0.push(value);
     }
-    pub fn insert(&mut self, at: usize, value: T) -> Result<(), AllocFailed<T>> {
-        if self.0.try_reserve(1).is_err() {
-            return Err(AllocFailed { value });
-        }
-        self.0.insert(at, value);
-        Ok(())
-    }
     pub fn reserve(&mut self, count: usize) -> Result<(), AllocError> {
         Ok(self.0.try_reserve(count)?)
     }
     pub fn reserve_exact(&mut self, count: usize) -> Result<(), AllocError> {
         Ok(self.0.try_reserve_exact(count)?)
-    }
-    pub fn resize(&mut self, count: usize, value: T) -> Result<(), AllocError>
-    where
-        T: Clone,
-    {
-        self.reserve(count.saturating_sub(self.len()))?;
-        self.0.resize(count, value);
-        Ok(())
     }
     pub fn extend_from_slice(&mut self, more: &[T]) -> Result<(), AllocError>
     where
@@ -87,11 +72,6 @@ impl<T> Vec<T> {
     {
         self.reserve(more.len())?;
         self.0.extend_from_slice(more);
-        Ok(())
-    }
-    pub fn append(&mut self, more: &mut Vec<T>) -> Result<(), AllocError> {
-        self.reserve(more.len())?;
-        self.0.append(&mut more.0);
         Ok(())
     }
     /// Gives back what memory it can. Rust's own ends the program where the smaller place is refused.
@@ -134,39 +114,26 @@ impl<T> Vec<T> {
     pub fn allocator(&self) -> &Global {
         &Global
     }
-    pub fn remove(&mut self, at: usize) -> T {
-        self.0.remove(at)
-    }
-    pub fn pop(&mut self) -> Option<T> {
-        self.0.pop()
-    }
-    pub fn clear(&mut self) {
-        self.0.clear()
-    }
-    pub fn truncate(&mut self, count: usize) {
-        self.0.truncate(count)
-    }
-    pub fn capacity(&self) -> usize {
-        self.0.capacity()
-    }
-    pub fn as_slice(&self) -> &[T] {
-        &self.0
-    }
     pub fn into_std(self) -> RustVec<T> {
         self.0
     }
 }
 impl<T> ::std::ops::Deref for Vec<T> {
-    type Target = [T];
+    type Target = RustVec<T>;
     #[inline(always)]
-    fn deref(&self) -> &[T] {
+    fn deref(&self) -> &RustVec<T> {
         &self.0
     }
 }
 impl<T> ::std::ops::DerefMut for Vec<T> {
     #[inline(always)]
-    fn deref_mut(&mut self) -> &mut [T] {
+    fn deref_mut(&mut self) -> &mut RustVec<T> {
         &mut self.0
+    }
+}
+impl<T: ::std::fmt::Debug> ::std::fmt::Debug for Vec<T> {
+    fn fmt(&self, f: &mut ::std::fmt::Formatter<'_>) -> ::std::fmt::Result {
+        self.0.fmt(f)
     }
 }
 impl<T> IntoIterator for Vec<T> {
@@ -203,16 +170,9 @@ pub trait DestroyEmpty: Sized {
 impl<T> DestroyEmpty for IntoIter<T> {}
 impl<T> DestroyEmpty for Vec<T> {}
 
-/// A list of another length, which is given back.
-pub struct Unfit<T>(pub Vec<T>);
-impl<T> ::std::fmt::Debug for Unfit<T> {
-    fn fmt(&self, f: &mut ::std::fmt::Formatter<'_>) -> ::std::fmt::Result {
-        f.write_str("Unfit")
-    }
-}
 impl<T, const N: usize> TryFrom<Vec<T>> for [T; N] {
-    type Error = Unfit<T>;
-    fn try_from(of: Vec<T>) -> Result<[T; N], Unfit<T>> {
-        of.0.try_into().map_err(|of| Unfit(Vec(of)))
+    type Error = AllocFailed<Vec<T>>;
+    fn try_from(of: Vec<T>) -> Result<[T; N], Self::Error> {
+        of.0.try_into().map_err(|of| AllocFailed { value: Vec(of) })
     }
 }

@@ -4,35 +4,32 @@ use crate::string::String;
 use crate::vec::Vec;
 use ::std::io;
 
-/// `expect` of a test, which is passed the runtime.
-pub trait ExpectRt {
+/// `expect` and `expect_err` of a test, which are passed the runtime. What is not expected need not be `Debug`.
+pub trait ExpectRt: Sized {
     type Value;
-    fn expect_rt<R>(self, rt: R, why: &str) -> Self::Value;
+    type Fault;
+    fn outcome(self) -> Result<Self::Value, Self::Fault>;
+    #[track_caller]
+    fn expect_rt<R>(self, _: R, why: &str) -> Self::Value {
+        self.outcome().ok().expect(why)
+    }
+    #[track_caller]
+    fn expect_err_rt<R>(self, _: R, why: &str) -> Self::Fault {
+        self.outcome().err().expect(why)
+    }
 }
 impl<T> ExpectRt for Option<T> {
     type Value = T;
-    #[track_caller]
-    fn expect_rt<R>(self, _: R, why: &str) -> T {
-        self.expect(why)
+    type Fault = ();
+    fn outcome(self) -> Result<T, ()> {
+        self.ok_or(())
     }
 }
 impl<T, E> ExpectRt for Result<T, E> {
     type Value = T;
-    #[track_caller]
-    fn expect_rt<R>(self, _: R, why: &str) -> T {
-        self.ok().expect(why)
-    }
-}
-/// `expect_err` of a test, which is passed the runtime.
-pub trait ExpectErrRt {
-    type Fault;
-    fn expect_err_rt<R>(self, rt: R, why: &str) -> Self::Fault;
-}
-impl<T, E> ExpectErrRt for Result<T, E> {
     type Fault = E;
-    #[track_caller]
-    fn expect_err_rt<R>(self, _: R, why: &str) -> E {
-        self.err().expect(why)
+    fn outcome(self) -> Result<T, E> {
+        self
     }
 }
 
