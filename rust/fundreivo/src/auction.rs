@@ -1,6 +1,6 @@
 //! The auction: runs of workers' scripts, the texts of inputs and replies, and windows.
 use auction_program::UsageFault;
-use auction_run::WindowBoard;
+use auction_run::{FreeGate, WindowBoard};
 use auction_window::{PhaseLog, Publisher};
 use kit::alloc::Global;
 use kit::marker::Brand;
@@ -10,14 +10,19 @@ use std::fmt;
 use std::io::{Read, Write};
 use thiserror::Error;
 
+#[doc(inline)]
 pub use auction_rows::{
     BidEntry, BidId, BidRow, BidShown, BuyId, BuyRow, CommentId, CommentRow, Entry, Facts, ItemEntry, ItemId, ItemRow,
     ItemShown, MOST_HOT, MOST_OF_A_WORKER, MOST_SHARDS, MOST_WORKERS, Name, Object, Opened, Opening, Policy, Quantity,
     Refusal, Reply, Request, Row, Stars, Ten,
 };
+#[doc(inline)]
 pub use auction_run::RunFault;
+#[doc(inline)]
 pub use auction_text::{ReadFault, WriteFault};
+#[doc(inline)]
 pub use auction_window::{MakeFault, NoGuard, Seen};
+#[doc(inline)]
 pub use item_shards::ResumeFault;
 
 /// The rows that an auction is opened with.
@@ -27,8 +32,9 @@ impl OpeningBook {
     pub fn empty(opening: Opening) -> OpeningBook {
         OpeningBook(item_shards::OpeningBook::empty(opening))
     }
-    /// A book of these stores, each of which has to be accepted at its place.
+    /// A book of these stores, each of which has to be accepted at its place. Stars as of [`run`].
     pub fn new(opening: Opening, stores: Vec<Opened>) -> Result<OpeningBook, ResumeFault> {
+        stores.iter().for_each(|store| check_stars(&store.request));
         item_shards::OpeningBook::new(Global, opening, stores.into()).map(OpeningBook)
     }
     /// Its rows.
@@ -81,8 +87,7 @@ impl State {
     }
     /// Goes on: performs scripts of its workers, as `run` does. Its policy has to have as many shards as the first one.
     pub fn run(self, scripts: Vec<Vec<Request>>, policy: Policy) -> Result<Outcome, Stopped> {
-        let gate = auction_run::FreeGate;
-        let outcome = auction_run::run_on(&HostRuntime, Global, self.0, lists(scripts), policy, &gate);
+        let outcome = auction_run::run_on(&HostRuntime, Global, self.0, lists(scripts), policy, &FreeGate);
         outcome.map(Outcome::of).map_err(|stopped| match stopped {
             auction_run::Stopped::Refused(state, fault) => Stopped { state: Some(State(state)), fault },
             auction_run::Stopped::Failed(fault) => Stopped { state: None, fault },
@@ -118,14 +123,21 @@ impl Outcome {
     }
 }
 
+// The field of stars can be set to what is none.
+fn check_stars(request: &Request) {
+    if let Request::StoreComment { stars, .. } = request {
+        assert!(Stars::new(stars.value).is_some(), "stars are from -5 to 5");
+    }
+}
 fn lists(scripts: Vec<Vec<Request>>) -> List<List<Request>> {
+    scripts.iter().flatten().for_each(check_stars);
     scripts.into_iter().map(List::from).collect::<Vec<_>>().into()
 }
 
-/// Performs a script for each worker, by threads where phases are long. The scripts are not returned.
+/// Performs a script for each worker, by threads where phases are long. Stars that were set to what [`Stars::new`]
+/// refuses are a panic.
 pub fn run(book: &OpeningBook, scripts: Vec<Vec<Request>>, policy: Policy) -> Result<Outcome, RunFault> {
-    let gate = auction_run::FreeGate;
-    auction_run::run(&HostRuntime, Global, &book.0, lists(scripts), policy, &gate).map(Outcome::of)
+    auction_run::run(&HostRuntime, Global, &book.0, lists(scripts), policy, &FreeGate).map(Outcome::of)
 }
 
 /// Why nothing was watched.
@@ -169,8 +181,7 @@ pub fn run_watched<T: Send>(
         // It is let go here even if the run panics: then the windows show nothing.
         let mut board = WindowBoard::new(publisher);
         let watcher = scope.spawn(|| watch(windows));
-        let gate = auction_run::FreeGate;
-        let ran = auction_run::run_shown(&HostRuntime, Global, &book.0, lists(scripts), policy, &gate, &mut board);
+        let ran = auction_run::run_shown(&HostRuntime, Global, &book.0, lists(scripts), policy, &FreeGate, &mut board);
         board.publisher.end(&HostRuntime);
         let seen = watcher.join().unwrap_or_else(|why| std::panic::resume_unwind(why));
         Ok((ran.map(Outcome::of).map_err(WatchFault::Run)?, seen))
@@ -178,50 +189,32 @@ pub fn run_watched<T: Send>(
 }
 
 /// Why the program answers nothing.
-#[derive(Debug)]
-pub enum Fault {
-    /// What the program says, and its status.
-    Program(ProgramFault),
-    /// `--live` and `--log` are of a program that serves, and not of this.
-    Serves,
+#[derive(Clone, Debug, PartialEq, Eq, Error)]
+#[error("{}", .text.trim_end())]
+pub struct Fault {
+    /// The status with which it ends: 1 for words, 2 for input, 3 for the run, 4 for output.
+    pub status: u8,
+    /// What it says, with the ends of lines.
+    pub text: String,
 }
-/// A fault of the program.
-#[derive(Debug)]
-pub struct ProgramFault(auction_program::Fault);
 impl From<auction_program::Fault> for Fault {
     fn from(fault: auction_program::Fault) -> Fault {
-        Fault::Program(ProgramFault(fault))
+        let mut text = Vec::new();
+        // It takes each byte.
+        let _ = auction_program::write_fault(&mut text, &fault);
+        Fault { status: auction_program::status(&fault), text: String::from_utf8_lossy(&text).into_owned() }
     }
 }
-impl Fault {
-    /// The status with which the program ends.
-    pub fn status(&self) -> u8 {
-        match self {
-            Fault::Program(fault) => auction_program::status(&fault.0),
-            Fault::Serves => 1,
-        }
-    }
-}
-impl fmt::Display for Fault {
-    fn fmt(&self, f: &mut fmt::Formatter<'_>) -> fmt::Result {
-        let Fault::Program(fault) = self else {
-            return f.write_str("error: --live and --log are not for calls\n");
-        };
-        let mut text = List::new(Global);
-        auction_program::write_fault(&mut text, &fault.0).map_err(|_| fmt::Error)?;
-        f.write_str(&String::from_utf8_lossy(&text))
-    }
-}
-impl std::error::Error for Fault {}
 
-/// Does what `rubis_auction WORDS` does with an input. After a fault a part of the output may be written.
+/// Does what `rubis_auction WORDS` does with an input. After a fault a part of the output may be written. `--live` and
+/// `--log` are for the program alone.
 pub fn perform(words: &[&str], input: impl Read, output: &mut impl Write) -> Result<(), Fault> {
     let own = |word: &&str| kit::string::String::from_str(Global, word);
     let all = ["rubis_auction"].iter().chain(words).map(own).collect::<Result<Vec<_>, _>>();
     let all = List::from(all.map_err(|_| auction_program::Fault::Usage(UsageFault::Memory))?);
     let options = auction_program::read_options(Global, &all).map_err(auction_program::Fault::Usage)?;
     if options.live > 0 || options.log.is_some() {
-        return Err(Fault::Serves);
+        return Err(Fault { status: 1, text: "error: --live and --log are not for calls\n".into() });
     }
     Ok(auction_program::execute(&HostRuntime, Global, input, output, &options)?)
 }

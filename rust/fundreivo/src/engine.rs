@@ -1,24 +1,30 @@
 //! Transactions of your own: runs, a referee for their histories, windows, and a log.
 //!
-//! Implement [`Application`]: what a request names, sees, decides and does. Nothing in Rust shows that `merge` after
-//! `apply_to_slice` does what `apply` does, nor that `keys` names all that `decide` rests on: if not, runs give wrong
-//! records, silently. Test it by [`crate::law_test::law_test`], and by [`check_history`] on histories of your own.
-use application_window::{OpeningTable, PartLog};
+//! Implement [`Application`]: what a request names, sees, decides and does. Test it by
+//! [`law_test`](crate::law_test::law_test), and by [`check_history`] on histories of your own.
+use crate::application::Engine;
 use kit::alloc::Global;
-use kit::marker::Brand;
 use kit::rt::HostRuntime;
 use kit::vec::Vec as List;
 use part_log::{FileLog, NamedFile};
+use std::marker::PhantomData;
 use thiserror::Error;
 
-pub use application_check::{Checkable, HistoryFault, HistoryLine};
-pub use application_log::{CommitFault, Loggable, MOST_LINES, OpenFault};
-pub use application_window::{MakeFault, NoGuard, PublishFault, Seen};
-pub use kit::alloc::AllocError;
-pub use kit::vec::Vec as Buffer;
-pub use split_engine::{
-    Application, Decision, Entry, Few, MOST_COMMITS, MOST_KEYS, Policy, RunFault, ScriptFault, Threaded,
-};
+pub use crate::application::{Application, Few, Loggable, MOST_KEYS};
+pub use crate::windows::{Publisher, Window, WindowFault};
+#[doc(inline)]
+pub use application_check::{HistoryFault, HistoryLine};
+#[doc(inline)]
+pub use application_log::{CommitFault, MOST_LINES, OpenFault};
+#[doc(inline)]
+pub use application_window::{MakeFault, PublishFault, Seen};
+#[doc(inline)]
+pub use log_file::{LogCause, LogFileFault};
+#[doc(inline)]
+pub use split_engine::{Entry, MOST_COMMITS, Policy, RunFault, ScriptFault};
+
+/// A policy to begin with: a key is split once a request that splits has named it in the joined phase before.
+pub const POLICY: Policy = Policy { joined_quota: 64, split_quota: 16_384, rounds: usize::MAX, threshold: 1 };
 
 /// A script for each worker, whose requests name keys of a table of so many records alone.
 pub struct Scripts<A: Application> {
@@ -29,7 +35,7 @@ impl<A: Application> Scripts<A> {
     /// Takes scripts that can be run over a table of so many records.
     pub fn new(scripts: Vec<Vec<A::Request>>, records: usize) -> Result<Scripts<A>, ScriptFault> {
         let lists: Vec<_> = scripts.into_iter().map(List::from).collect();
-        split_engine::check_scripts::<A>(&lists, records)?;
+        split_engine::check_scripts::<Engine<A>>(&lists, records)?;
         Ok(Scripts { lists, records })
     }
 }
@@ -40,6 +46,17 @@ pub enum Fault {
     /// The table has not as many records as the scripts were checked for.
     #[error("number of records")]
     Records,
+    /// Both quotas are 0.
+    #[error("both quotas are 0")]
+    Quota,
+    /// The request with this index of a worker's script decides on more acts than it names keys.
+    #[error("worker {worker}, request {index}: more acts than keys")]
+    Acts {
+        /// Whose script it is.
+        worker: u32,
+        /// Its place there, from 0.
+        index: u32,
+    },
     /// There are 2^29 lines of a history, or more.
     #[error("more than 536870911 lines")]
     TooLong,
@@ -52,15 +69,25 @@ pub enum Fault {
 }
 
 /// All commits of a run, in the order in which they replay.
-pub struct History<A: Application>(split_engine::History<A::Request, A::Reply>);
+pub struct History<A: Application>(split_engine::History<A::Request, Option<A::Reply>>);
 impl<A: Application> History<A> {
-    /// The commits.
-    pub fn iter(&self) -> impl Iterator<Item = &Entry<A::Request, A::Reply>> {
-        self.0.pieces().iter().flatten()
+    // The engine's history, if each request has a reply.
+    fn whole(history: split_engine::History<A::Request, Option<A::Reply>>) -> Result<History<A>, Fault> {
+        match history.pieces().iter().flatten().find(|entry| entry.reply.is_none()) {
+            Some(&Entry { worker, index, .. }) => Err(Fault::Acts { worker, index }),
+            None => Ok(History(history)),
+        }
     }
-    /// The commits as lines for `check_history`.
+    /// The commits.
+    pub fn iter(&self) -> impl Iterator<Item = Entry<A::Request, A::Reply>> {
+        self.0.pieces().iter().flatten().map(|&Entry { worker, index, request, reply }| {
+            let reply = reply.expect("a run that ended well");
+            Entry { worker, index, request, reply }
+        })
+    }
+    /// The commits as lines for [`check_history`].
     pub fn lines(&self) -> Vec<HistoryLine<A::Reply>> {
-        self.iter().map(|&Entry { worker, index, reply, .. }| HistoryLine { worker, index, reply }).collect()
+        self.iter().map(|Entry { worker, index, reply, .. }| HistoryLine { worker, index, reply }).collect()
     }
 }
 /// What a run gives.
@@ -71,20 +98,24 @@ pub struct Outcome<A: Application> {
     pub table: Vec<A::Record>,
 }
 
-/// Performs a script for each worker over a table. Each record has to be one that fewer than 2^31 acts can make, so
-/// that acts of yours which count do not overflow.
-pub fn run<A: Threaded>(table: Vec<A::Record>, scripts: &Scripts<A>, policy: Policy) -> Result<Outcome<A>, Fault> {
+/// Performs a script for each worker over a table. A request that decides on more acts than keys ends in a fault.
+///
+/// Each record has to be one that fewer than 2^31 acts can make, so that acts of yours which count do not overflow.
+pub fn run<A: Application>(table: Vec<A::Record>, scripts: &Scripts<A>, policy: Policy) -> Result<Outcome<A>, Fault> {
     if table.len() != scripts.records {
         return Err(Fault::Records);
     }
-    let outcome = split_engine::run::<A, _>(&HostRuntime, Global, table.into(), &scripts.lists, policy);
+    if policy.joined_quota == 0 && policy.split_quota == 0 {
+        return Err(Fault::Quota);
+    }
+    let outcome = split_engine::run::<Engine<A>, _>(&HostRuntime, Global, table.into(), &scripts.lists, policy);
     let outcome = outcome.map_err(Fault::Run)?;
-    Ok(Outcome { history: History(outcome.history), table: outcome.table.into_std() })
+    Ok(Outcome { history: History::whole(outcome.history)?, table: outcome.table.into_std() })
 }
 
-/// Judges a history on one thread, whoever made it: it has to replay from this table, with one line for each request.
-/// Gives the table after it.
-pub fn check_history<A: Checkable>(
+/// The referee: judges a history on one thread, whoever made it. It has to replay from this table, with one line for
+/// each request. Gives the table after it.
+pub fn check_history<A: Application>(
     table: Vec<A::Record>,
     scripts: &Scripts<A>,
     lines: &[HistoryLine<A::Reply>],
@@ -95,81 +126,54 @@ pub fn check_history<A: Checkable>(
     if lines.len() >= MOST_COMMITS {
         return Err(Fault::TooLong);
     }
+    let told = |line: &HistoryLine<_>| HistoryLine { worker: line.worker, index: line.index, reply: Some(line.reply) };
+    let lines: Vec<_> = lines.iter().map(told).collect();
     let mut table = List::from(table);
-    application_check::check_history::<A>(Global, &mut table, &scripts.lists, lines).map_err(Fault::History)?;
+    let judged = application_check::check_history::<Engine<A>>(Global, &mut table, &scripts.lists, &lines);
+    judged.map_err(Fault::History)?;
     Ok(table.into_std())
 }
 
-/// Why no publisher was made.
-#[derive(Clone, Copy, Debug, PartialEq, Eq, Error)]
-pub enum OpenWindowsFault {
-    /// No window was asked for.
-    #[error("no window")]
-    Windows,
-    /// They could not be made.
-    #[error("{0}")]
-    Make(MakeFault),
-}
-/// Publishes the parts of a history to its windows. Once it is let go, they show nothing any more.
-///
-/// A panic in a function of the application ends the program, here and in windows: half of a part would be shown.
-pub struct Publisher<A: Application>(Option<application_window::Publisher<A, Brand>>);
-impl<A: Application> Publisher<A> {
-    /// A publisher that has published nothing, and windows on its table.
-    pub fn new(table: Vec<A::Record>, windows: u32) -> Result<(Publisher<A>, Vec<Window<A>>), OpenWindowsFault>
-    where
-        A::Record: Clone,
-    {
-        if windows == 0 {
-            return Err(OpenWindowsFault::Windows);
-        }
-        let opening = OpeningTable { copy: table.clone().into(), table: table.into(), acts: 0 };
-        let made = application_window::Publisher::new(&HostRuntime, Global, PartLog::new(), opening, windows);
-        let (publisher, made) = made.map_err(OpenWindowsFault::Make)?;
-        Ok((Publisher(Some(publisher)), made.into_iter().map(Window).collect()))
-    }
-    /// Publishes the commits of a part, all at once.
-    pub fn publish(&mut self, part: Vec<Entry<A::Request, A::Reply>>) -> Result<(), PublishFault> {
-        match &mut self.0 {
-            Some(publisher) => publisher.publish(&HostRuntime, part.into()).map(|_told| ()),
-            None => Err(PublishFault::Memory),
-        }
-    }
-}
-impl<A: Application> Drop for Publisher<A> {
-    fn drop(&mut self) {
-        if let Some(publisher) = self.0.take() {
-            publisher.end(&HostRuntime);
-        }
-    }
-}
-/// Shows what is published, in any thread, and never goes back. It takes no lock.
-pub struct Window<A: Application>(application_window::Window<A, Brand>);
-impl<A: Application> Window<A> {
-    /// What a request sees of the record at a key; `None` if there is no such key.
-    pub fn look(&mut self, key: u32) -> Result<Option<Seen<A::Look>>, NoGuard> {
-        self.0.look(key)
-    }
-    /// The reply that a request would have; `None` if it names a key that is not there.
-    pub fn answer(&mut self, request: A::Request) -> Result<Option<Seen<A::Reply>>, NoGuard> {
-        self.0.answer(request)
-    }
-}
-
 /// Why a log was not opened.
-pub type LogFault = log_file::LogFileFault<OpenFault>;
+pub type LogFault = LogFileFault<OpenFault>;
+
+/// Why a history was not logged. None of it may be told then.
+#[derive(Debug, Error)]
+pub enum PutFault {
+    /// The line of this request has a line end, or is not read back as a request with that line. Nothing was logged.
+    #[error("worker {worker}, request {index}: its line is not read back")]
+    Line {
+        /// Whose script it is of.
+        worker: u32,
+        /// Its place there, from 0.
+        index: u32,
+    },
+    /// The lines were not put by.
+    #[error("{0}")]
+    Commit(CommitFault),
+}
 
 /// A log of commits in a file that no other program may have open. A reply may be told once its commit is logged.
-pub struct Log<'a>(application_log::CommitLog<FileLog<NamedFile<'a, HostRuntime>>>);
-impl<'a> Log<'a> {
+pub struct Log<'a, A> {
+    log: application_log::CommitLog<FileLog<NamedFile<'a, HostRuntime>>>,
+    marker: PhantomData<fn() -> A>,
+}
+impl<'a, A: Loggable> Log<'a, A> {
     /// Opens a log, or makes it, and performs its lines on a table, which it gives. A last line that has no end was
     /// never acknowledged, and goes into the file of this name with `.cut`.
-    pub fn open<A: Loggable>(path: &'a str, table: Vec<A::Record>) -> Result<(Log<'a>, Vec<A::Record>), LogFault> {
-        let opened = application_log::open_log_file::<A, _>(&HostRuntime, Global, path, table.into())?;
-        Ok((Log(opened.log), opened.table.into_std()))
+    pub fn open(path: &'a str, table: Vec<A::Record>) -> Result<(Log<'a, A>, Vec<A::Record>), LogFault> {
+        let opened = application_log::open_log_file::<Engine<A>, _>(&HostRuntime, Global, path, table.into())?;
+        Ok((Log { log: opened.log, marker: PhantomData }, opened.table.into_std()))
     }
     /// Puts the commits of a history by, all or none.
-    pub fn put<A: Loggable>(&mut self, history: &History<A>) -> Result<(), CommitFault> {
-        self.0.log_commits::<A>(&history.0)
+    pub fn put(&mut self, history: &History<A>) -> Result<(), PutFault> {
+        for Entry { worker, index, request, .. } in history.iter() {
+            let line = A::line(&request);
+            let again = line.as_ref().map(|line| A::request(line).and_then(|request| A::line(&request)));
+            if line.as_ref().is_some_and(|line| line.contains('\n')) || again.is_some_and(|again| again != line) {
+                return Err(PutFault::Line { worker, index });
+            }
+        }
+        self.log.log_commits::<Engine<A>>(&history.0).map_err(PutFault::Commit)
     }
 }

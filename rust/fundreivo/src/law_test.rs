@@ -1,8 +1,9 @@
 //! A test of the laws on which runs of an application rest, by drawing: it finds faults, and proves nothing.
 //!
 //! In Rattle an application comes with proofs of these laws (`SplitLaws`), for all records, slices and acts.
-use crate::engine::{Application, Decision, Few};
-use std::fmt::{self, Debug};
+use crate::engine::{Application, Few};
+use std::fmt::Debug;
+use thiserror::Error;
 
 /// What is drawn: numbers that follow from a seed (SplitMix64: Steele, Lea, Flood, OOPSLA 2014).
 pub struct Dice(u64);
@@ -20,42 +21,40 @@ impl Dice {
     }
 }
 
-/// What a test draws of an application, and what it may rest on while records are split.
+/// An application whose records and requests can be drawn: all kinds of them should come, and small numbers often.
 pub trait Drawn:
-    Application<
-        Record: Clone + PartialEq + Debug,
-        Look: PartialEq + Debug,
-        Reply: PartialEq + Debug,
-        Act: PartialEq + Debug,
-    >
+    Application<Record: Clone + PartialEq + Debug, Request: Debug, Reply: Debug, Act: PartialEq + Debug>
 {
-    /// A record: often one that differs from others in each part.
+    /// A record that runs may leave, far from the limits of its numbers.
     fn draw_record(dice: &mut Dice) -> Self::Record;
-    /// A request. Its keys do not matter; each is looked at in a record that is drawn.
-    fn draw_request(dice: &mut Dice) -> Self::Request;
-    /// What of a look does not change while its record is split; the rest is blank.
-    fn fixed(look: &Self::Look) -> Self::Look;
+    /// A request that names keys below this number, which is at least 1.
+    fn draw_request(dice: &mut Dice, records: u32) -> Self::Request;
 }
 
 /// A law that does not hold of what was drawn.
-#[derive(Debug, PartialEq, Eq)]
+#[derive(Debug, PartialEq, Eq, Error)]
+#[error("law {law}, round {round}: {shown}")]
 pub struct LawFault {
-    /// Its name, as in `SplitLaws`.
+    /// Its name:
+    /// - `keys_are_there`: a request names keys of the table;
+    /// - `acts_have_keys`: it decides on no more acts than it names keys;
+    /// - `decides_again`: asked again, it decides alike;
+    /// - `merge_nothing`: to merge an empty slice changes nothing;
+    /// - `merge_one_more`: to merge a slice with one act more is to do that act after the merge;
+    /// - `commute`: acts of requests that split leave the same record in both orders;
+    /// - `decides_after_acts`: such acts do not change what a request that splits decides.
     pub law: &'static str,
-    /// In which round.
+    /// In which round, from 0.
     pub round: u32,
-    /// What is not the same.
-    pub differ: String,
+    /// What shows it.
+    pub shown: String,
 }
-impl fmt::Display for LawFault {
-    fn fmt(&self, f: &mut fmt::Formatter<'_>) -> fmt::Result {
-        write!(f, "law {}, round {}: {}", self.law, self.round, self.differ)
-    }
-}
-impl std::error::Error for LawFault {}
 
-// The most acts of a round.
-const MOST_ACTS: usize = 8;
+const MOST_RECORDS: u64 = 5;
+const REQUESTS: u64 = 8;
+
+// What a request is answered, and its acts, each with its key.
+type Decided<A> = (<A as Application>::Reply, Vec<(usize, <A as Application>::Act)>);
 
 fn after<A: Drawn>(record: &A::Record, acts: &[A::Act]) -> A::Record {
     let mut held = record.clone();
@@ -68,61 +67,73 @@ fn merged<A: Drawn>(record: &A::Record, acts: &[A::Act]) -> A::Record {
     A::merge(&mut held, slice);
     held
 }
-// What a request decides by looks, or by what of them is fixed.
-fn decided<A: Drawn>(request: &A::Request, looks: &[A::Look], fixed: bool) -> Decision<A::Reply, A::Act> {
-    let look = |look: &A::Look| if fixed { A::fixed(look) } else { *look };
-    A::decide(request, &looks.iter().map(look).fold(Few::none(), |few, look| few.and(look)))
-}
 
 struct Round(u32);
 impl Round {
-    fn same<T: PartialEq + Debug>(&self, law: &'static str, one: T, other: T) -> Result<(), LawFault> {
+    fn broken<T>(&self, law: &'static str, shown: String) -> Result<T, LawFault> {
+        Err(LawFault { law, round: self.0, shown })
+    }
+    fn same<T: PartialEq + Debug>(&self, law: &'static str, of: &impl Debug, one: T, other: T) -> Result<(), LawFault> {
         if one == other {
             return Ok(());
         }
-        Err(LawFault { law, round: self.0, differ: format!("{one:?} and {other:?}") })
+        self.broken(law, format!("{of:?}: {one:?} and {other:?}"))
     }
 
-    // The acts of splittable requests, which are decided by what is fixed.
-    fn acts<A: Drawn>(&self, dice: &mut Dice) -> Result<Vec<A::Act>, LawFault> {
-        let mut acts = Vec::new();
-        for _ in 0..MOST_ACTS {
-            let request = A::draw_request(dice);
-            if !A::splits(&request) {
-                continue;
-            }
-            let looks: Vec<_> = A::keys(&request).iter().map(|_| A::look(&A::draw_record(dice))).collect();
-            let (all, fixed) = (decided::<A>(&request, &looks, false), decided::<A>(&request, &looks, true));
-            self.same(
-                "by_fixed",
-                (all.reply, all.acts.iter().collect::<Vec<_>>()),
-                (fixed.reply, fixed.acts.iter().collect()),
-            )?;
-            acts.extend(all.acts.iter());
+    fn decided<A: Drawn>(&self, table: &[A::Record], request: &A::Request) -> Result<Decided<A>, LawFault> {
+        let keys: Few<usize> = A::keys(request).iter().map(|key| *key as usize).collect();
+        let looks: Option<Few<_>> = keys.iter().map(|key| table.get(*key).map(A::look)).collect();
+        let Some(looks) = looks else {
+            return self.broken("keys_are_there", format!("{request:?}: keys {keys:?} of {} records", table.len()));
+        };
+        let (reply, acts) = A::decide(request, &looks);
+        if acts.len() > keys.len() {
+            return self.broken("acts_have_keys", format!("{request:?}: keys {keys:?}, acts {acts:?}"));
         }
-        Ok(acts)
+        Ok((reply, keys.into_iter().zip(acts).collect()))
     }
 
-    fn laws<A: Drawn>(&self, dice: &mut Dice) -> Result<(), LawFault> {
-        let record = A::draw_record(dice);
-        self.same("merge_nothing", merged::<A>(&record, &[]), record.clone())?;
-        let acts = self.acts::<A>(dice)?;
+    // Of the acts of requests that split at one record.
+    fn acts_merge<A: Drawn>(&self, record: &A::Record, acts: &[A::Act]) -> Result<(), LawFault> {
+        self.same("merge_nothing", record, merged::<A>(record, &[]), record.clone())?;
         for (place, act) in acts.iter().enumerate() {
-            let one_more = after::<A>(&merged::<A>(&record, &acts[..place]), &[*act]);
-            self.same("merge_one_more", merged::<A>(&record, &acts[..=place]), one_more)?;
-            let fixed = |record| A::fixed(&A::look(record));
-            self.same("keeps_fixed", fixed(&after::<A>(&record, &[*act])), fixed(&record))?;
-            for other in &acts[..place] {
-                self.same("commute", after::<A>(&record, &[*act, *other]), after::<A>(&record, &[*other, *act]))?;
-            }
+            let one_more = after::<A>(&merged::<A>(record, &acts[..place]), &[*act]);
+            self.same("merge_one_more", &(record, act), merged::<A>(record, &acts[..=place]), one_more)?;
+            acts[..place].iter().try_for_each(|other| {
+                let (one, two) = (after::<A>(record, &[*act, *other]), after::<A>(record, &[*other, *act]));
+                self.same("commute", &(record, act, other), one, two)
+            })?;
         }
         Ok(())
     }
+
+    fn laws<A: Drawn>(&self, dice: &mut Dice) -> Result<(), LawFault> {
+        let table: Vec<_> = (0..=dice.below(MOST_RECORDS)).map(|_| A::draw_record(dice)).collect();
+        let decided = |_| {
+            let request = A::draw_request(dice, table.len() as u32);
+            self.decided::<A>(&table, &request).map(|decided| (request, decided))
+        };
+        let all: Vec<_> = (0..REQUESTS).map(decided).collect::<Result<_, _>>()?;
+        all.iter().try_for_each(|(request, first)| {
+            self.same("decides_again", request, &self.decided::<A>(&table, request)?, first)
+        })?;
+        let split: Vec<_> = all.into_iter().filter(|(request, _)| A::splits(request)).collect();
+        table.iter().enumerate().try_for_each(|(key, record)| {
+            let acts = split.iter().flat_map(|(_, (_, acts))| acts).filter(|(at, _)| *at == key);
+            self.acts_merge::<A>(record, &acts.map(|(_, act)| *act).collect::<Vec<_>>())
+        })?;
+        split.iter().try_for_each(|(_, (_, acts))| {
+            let mut left = table.clone();
+            acts.iter().for_each(|(key, act)| A::apply(&mut left[*key], *act));
+            split.iter().try_for_each(|(request, before)| {
+                self.same("decides_after_acts", request, &self.decided::<A>(&left, request)?, before)
+            })
+        })
+    }
 }
 
-/// Draws records and requests, so many times, and compares: an act on a slice that is merged with the act on the record,
-/// acts in both orders, a decision with that by what is fixed, and what is fixed before and after an act. The first law
-/// that does not hold is the error. The same seed draws the same.
+/// Draws tables and requests, in so many rounds, and looks whether each law holds of them; the error is the first that
+/// does not. The same seed draws the same.
 pub fn law_test<A: Drawn>(rounds: u32, seed: u64) -> Result<(), LawFault> {
     let mut dice = Dice(seed);
     (0..rounds).try_for_each(|round| Round(round).laws::<A>(&mut dice))

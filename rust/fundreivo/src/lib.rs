@@ -4,9 +4,20 @@
 //! phases, where each worker has a *slice* of its own of every hot record; the slices are merged
 //! when the phase ends. A run leaves its **history**: one serial order that explains each reply.
 //!
-//! - [`auction`] is the auction of RUBiS: items, bids, comments, purchases and views.
 //! - [`engine`] runs transactions of your own, each on up to four records.
 //! - [`law_test`] tests what the engine asks of them.
+//! - [`auction`] is the auction of RUBiS: items, bids, comments, purchases and views.
+//!
+//! # Transactions of your own
+//!
+//! Two workers add to one counter, and a third moves amounts to another. Additions split, moves do not.
+//! This is `examples/counters.rs`: `cargo run --example counters -p fundreivo`.
+//!
+//! ```
+#![doc = include_str!("../examples/counters.rs")]
+//! ```
+//!
+//! # An auction
 //!
 //! ```
 //! use fundreivo::auction::{Facts, ItemId, Name, OpeningBook, Opening, Policy, Quantity, Reply, Request, run};
@@ -28,22 +39,26 @@
 //! # Ok::<(), fundreivo::auction::RunFault>(())
 //! ```
 //!
-//! # What is proved
+//! # What is proved, and what is not
 //!
 //! The crates below this one are written in Rattle, Rust with contracts, and proved there. Here is
-//! the same text without contracts, compiled by rustc over a library of its own: that is tested to
-//! be the same program, and not proved. Their pages keep each contract, for reading.
+//! the same text without contracts, compiled by rustc over a library of its own: tested to be the
+//! same program, not proved. Nor is this crate.
 //!
-//! **Their functions trust their callers**: what a `requires` asks is not looked at in Rust, and
-//! where one guards a slot that threads share, breaking it is undefined behaviour without a word of
-//! `unsafe`. So nothing below is public through this crate, which looks at what it is given and
-//! answers an error. It has no `unsafe`. Two of its calls look at nothing: [`engine::Few::and`]
-//! panics on a fifth key, and [`engine::Few::at`] answers the last value for a place past the end.
-//! What only you can know (that acts of yours do not overflow, that slices merge to the same
-//! record) is for [`law_test`] and [`engine::check_history`].
+//! Of an application of yours nothing is proved. [`law_test`] looks for faults in its laws, and
+//! [`engine::check_history`] shows of one history that it replays on one thread. That numbers of
+//! yours do not overflow is yours to see.
+//!
+//! **The crates below trust their callers**: nothing looks at what a `requires` asks, and where one
+//! guards a slot that threads share, breaking it is undefined behaviour without a word of `unsafe`.
+//! So none of their functions can be called through this crate. It has no `unsafe`, and ends misuse
+//! in an error or a panic. A panic of an application comes back as a panic of the call that led
+//! there, whatever the thread.
 #![forbid(unsafe_code)]
 #![deny(missing_docs)]
 
+mod application;
 pub mod auction;
 pub mod engine;
 pub mod law_test;
+mod windows;

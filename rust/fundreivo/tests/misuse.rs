@@ -4,6 +4,7 @@
 use fundreivo::auction::{self, ItemId, Opened, Opening, OpeningBook, Request, read_scripts, run_watched};
 use fundreivo::engine::*;
 use fundreivo::law_test::Dice;
+use std::iter::repeat_n;
 use std::panic::{AssertUnwindSafe, catch_unwind, panic_any};
 use std::sync::atomic::{AtomicU64, Ordering::Relaxed};
 
@@ -24,17 +25,17 @@ impl Application for Sums {
     type Reply = u64;
     type Act = u64;
     fn keys(request: &u32) -> Few<u32> {
-        if sometimes(1) { Few::two(u32::MAX, *request) } else { Few::one(*request) }
+        if sometimes(1) { Few::from_iter([u32::MAX, *request]) } else { Few::from_iter([*request]) }
     }
     fn look(held: &Vec<u64>) -> u64 {
         held[0]
     }
-    fn decide(_: &u32, looks: &Few<u64>) -> Decision<u64, u64> {
+    fn decide(_: &u32, looks: &[u64]) -> (u64, Few<u64>) {
         if sometimes(2) {
             panic_any("in decide");
         }
-        let acts = if sometimes(3) { (0..5).fold(Few::none(), Few::and) } else { Few::one(1) };
-        Decision { reply: looks.at(if sometimes(4) { 9 } else { 0 }), acts }
+        let acts = if sometimes(3) { 5 } else { 1 + usize::from(sometimes(11)) };
+        (looks[if sometimes(4) { 9 } else { 0 }], repeat_n(1, acts).collect())
     }
     fn splits(_: &u32) -> bool {
         !sometimes(5)
@@ -55,20 +56,14 @@ impl Application for Sums {
         held[if sometimes(8) { 2 } else { 0 }] += *slice
     }
 }
-impl Checkable for Sums {
-    fn is_same_reply(_: &u64, _: &u64) -> bool {
-        true
-    }
-}
 impl Loggable for Sums {
-    fn write_line(request: &u32, line: &mut Buffer<u8>) -> Result<bool, AllocError> {
-        line.extend_from_slice(if sometimes(9) { b"\n" } else { b"x" })?;
-        Ok(*request > 0)
+    fn line(request: &u32) -> Option<String> {
+        (*request > 0).then(|| if sometimes(9) { "\n" } else { "x" }.into())
     }
-    fn read_line(_: &[u8]) -> Option<u32> {
+    fn request(_: &str) -> Option<u32> {
         Some(3)
     }
-    fn is_cut_line(_: &[u8]) -> bool {
+    fn may_be_cut(_: &str) -> bool {
         !sometimes(10)
     }
 }
@@ -93,18 +88,21 @@ fn engine(dice: &mut Dice) -> Result<(), String> {
     lines.swap_remove(0).worker = odd(dice) as u32;
     let path = std::env::temp_dir().join(format!("fundreivo_misuse_{}", std::process::id()));
     let name = path.to_str().unwrap_or("");
-    let logged = Log::open::<Sums>(name, table.clone()).map(|(mut log, _)| log.put(&outcome.history));
-    let twice = Log::open::<Sums>(name, vec![]);
+    let logged = Log::<Sums>::open(name, table.clone()).map(|(mut log, _)| log.put(&outcome.history));
+    let twice = Log::<Sums>::open(name, vec![]);
     let _ = std::fs::remove_file(&path);
     logged.map_err(|why| why.to_string())?.map_err(|why| why.to_string())?;
     twice.map_err(|why| why.to_string())?;
     check_history(table, &scripts, &lines).map(|_| ()).map_err(|why| why.to_string())
 }
 
-/// Windows that are too many or outlive what they show, and parts that name what is not there. A panic of an application
-/// ends the program there, as is told.
+fn part(requests: Vec<u32>) -> Vec<Entry<u32, u64>> {
+    requests.into_iter().map(|request| Entry { worker: request, index: 0, request, reply: 0 }).collect()
+}
+
+/// Windows that are too many or outlive what they show, and parts that name what is not there, of an application that
+/// is wrong.
 fn windows(dice: &mut Dice) -> Result<(), String> {
-    WRONG.store(0, Relaxed);
     let count = [0, 1, 3, 8][dice.below(4) as usize];
     let (publisher, windows) = Publisher::<Sums>::new(vec![vec![1], vec![2]], count).map_err(|why| why.to_string())?;
     std::thread::scope(move |scope| {
@@ -120,7 +118,7 @@ fn windows(dice: &mut Dice) -> Result<(), String> {
         }
         for _ in 0..20 {
             let request = if dice.below(40) == 0 { odd(dice) as u32 } else { dice.below(2) as u32 };
-            let part = vec![Entry { worker: odd(dice) as u32, index: 0, request, reply: 0 }; dice.below(5) as usize];
+            let part = part(vec![request; dice.below(9) as usize]);
             let published = catch_unwind(AssertUnwindSafe(|| publisher.publish(part)));
             published.map_err(|_| "a panic in publish")?.map_err(|why| why.to_string())?;
         }
@@ -175,13 +173,33 @@ fn texts(dice: &mut Dice) -> Result<(), String> {
     read_scripts(&bytes[..], odd(dice) as u32).map(|_| ()).map_err(|why| why.to_string())
 }
 
+/// A panic in a publish or in a view comes back there, and windows show what they showed.
+fn panics_come_back(wrong: u64) {
+    let panics = |call: &mut dyn FnMut()| assert!(catch_unwind(AssertUnwindSafe(call)).is_err());
+    WRONG.store(wrong, Relaxed);
+    ASKED.store(0, Relaxed);
+    let (mut publisher, mut windows) = Publisher::<Sums>::new(vec![vec![0]; 2], 1).unwrap();
+    publisher.publish(part(vec![0; 10])).unwrap();
+    panics(&mut || publisher.publish(part([0, 1].repeat(50))).unwrap());
+    assert_eq!(publisher.publish(part(vec![0])), Err(WindowFault::Panicked));
+    ASKED.store(96, Relaxed);
+    if wrong == 2 {
+        panics(&mut || assert!(windows[0].answer(0).is_err()));
+    }
+    assert_eq!(windows[0].look(0), Ok(Some(Seen { commits: 10, value: 10 })));
+    drop(publisher);
+    assert_eq!(windows[0].look(0), Err(WindowFault::Ended));
+}
+
 #[test]
 fn misuses_end_in_errors_or_panics() {
+    // In `decide`, and in `apply`.
+    [2, 6].map(panics_come_back);
     std::panic::set_hook(Box::new(|_| {}));
     let mut dice = Dice::new(11);
     let (mut errors, mut panics, mut right) = (0, 0, 0);
     for round in 0..200 {
-        WRONG.store(dice.below(11), Relaxed);
+        WRONG.store(dice.below(12), Relaxed);
         let misuse = [engine, windows, watched, texts][round % 4];
         match catch_unwind(AssertUnwindSafe(|| misuse(&mut dice))) {
             Ok(Ok(())) => right += 1,

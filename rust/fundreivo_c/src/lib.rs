@@ -15,7 +15,7 @@ fn answer(words: &[&CStr], input: &[u8]) -> (i32, Vec<u8>) {
     let mut output = Vec::new();
     match perform(&words, input, &mut output) {
         Ok(()) => (0, output),
-        Err(fault) => (i32::from(fault.status()), fault.to_string().into_bytes()),
+        Err(fault) => (fault.status.into(), fault.text.into_bytes()),
     }
 }
 
