@@ -5,10 +5,11 @@ the sources, and writes the same bytes.
     tests/rust.py [NATIVE] [--inputs 300] [--seed N]
 
 NATIVE is a build of the Rattle sources to compare with, or else that of `rt ci`; if there is none, the program is held
-against the model of tests/lib alone. It needs cargo with Rust 1.89, and the crates of docs/RUST.md.
+against the model of tests/lib alone. Without what docs/RUST.md says, only what rust/export.py writes is looked at.
 """
 
 import itertools
+import os
 import random
 import re
 import shutil
@@ -19,14 +20,15 @@ from argparse import Namespace
 from pathlib import Path
 
 from lib.model import Outcome
-from lib.program import BUILT, CRATES, EXAMPLES, ROOT, TESTS, Tally, build_shim, described, executable, parser_of, run
+from lib.program import BUILT, CRATES, DOCUMENTS, EXAMPLES, ROOT, TESTS, Tally
+from lib.program import build_shim, described, executable, parser_of, run
 from lib.refusing import Refusing
 from lib.sessions import FIRST, requests
 from refused_memory import cases
 
 RUST = ROOT / "rust"
-BUILT_BY_CARGO = RUST / "out/target/release/rubis_auction"
-LEAST_RUST = (1, 89)
+OUT = RUST / "out"
+BUILT_BY_CARGO = OUT / "target/release/rubis_auction"
 # Texts that are no Rust and that the exporter does not know, each with what it says.
 STRANGE = {
     "fn f() {\n    union();\n}\n": "2: `union` cannot be exported here",
@@ -46,17 +48,34 @@ WORDS = (
 FEW_CASES = 6
 
 
+def built_by(*words: str, **env: str) -> subprocess.CompletedProcess[str]:
+    """What rust/build says, of a workspace that is written."""
+    env = os.environ | {"AS_IS": "1"} | env
+    return subprocess.run([RUST / "build", *words], capture_output=True, text=True, env=env)
+
+
 def reason_to_skip() -> str | None:
-    """Why nothing can be built here."""
-    if not shutil.which("cargo"):
-        return "there is no cargo"
-    said = subprocess.run(["cargo", "--version"], capture_output=True, text=True).stdout
-    found = re.match(r"cargo (\d+)\.(\d+)", said)
-    if not found or tuple(map(int, found.groups())) < LEAST_RUST:
-        return f"cargo is older than {LEAST_RUST[0]}.{LEAST_RUST[1]}: {said.strip()}"
-    got = subprocess.run([RUST / "build", "metadata", "--format-version", "1"], capture_output=True, text=True)
-    lacks = re.search(r"error: ((?:no matching package|failed to (?:get|select|download)).*)", got.stderr)
-    return lacks[1] if got.returncode and lacks else None
+    """Why nothing can be built here: a line of rust/build."""
+    got = built_by("metadata", "--no-deps", "--format-version", "1")
+    is_told = got.returncode and got.stderr.startswith("rust/build: ")
+    return got.stderr.strip() if is_told else None
+
+
+def says_what_to_install(tally: Tally) -> None:
+    """machines without crates of others, without cargo or with an old one: a line says what to install"""
+    with tempfile.TemporaryDirectory() as folder:
+        got = built_by("test", CRATES=folder, CARGO_HOME=folder)
+        command = re.search(r"`(apt-get install (?:librust-[a-z-]+-dev ?)+)`, or `rust/build fetch`", got.stderr)
+        tally.check(got.returncode == 1 and got.stderr.count("\n") == 1 and command is not None, f"no crates: {got}")
+        told = (DOCUMENTS / "RUST.md").read_text()
+        tally.check(command is None or f"    {command[1]}\n" in told, f"docs/RUST.md has {command}")
+        for script, said in (("exit 1", "there is no cargo: "), ("echo cargo 1.85.1 x", "cargo 1.85.1 is too old: ")):
+            cargo = Path(folder, "cargo")
+            cargo.write_text(f"#!/bin/sh\n{script}\n")
+            cargo.chmod(0o755)
+            got = built_by("test", PATH=f"{folder}:{os.environ['PATH']}")
+            wanted = f"rust/build: {said}install Rust 1.89 or later, by https://rustup.rs\n"
+            tally.check((got.returncode, got.stderr) == (1, wanted), f"`{script}` as cargo: {got}")
 
 
 def refuses(tally: Tally) -> None:
@@ -64,7 +83,7 @@ def refuses(tally: Tally) -> None:
     sys.path.insert(0, str(RUST))
     from export import Source
 
-    with tempfile.TemporaryDirectory(dir=RUST / "out") as folder:
+    with tempfile.TemporaryDirectory(dir=OUT) as folder:
         for text, wanted in STRANGE.items():
             path = Path(folder) / "strange.rt"
             path.write_text(text)
@@ -77,21 +96,69 @@ def refuses(tally: Tally) -> None:
 
 def exports(tally: Tally) -> None:
     """exported crates: none has `unsafe`, and public contracts stand in their docs"""
-    crates = {path: path.read_text() for path in (RUST / "out/crates").rglob("*.rs")}
+    crates = {path: path.read_text() for path in (OUT / "crates").rglob("*.rs")}
     tally.check(len(crates) == len(list(CRATES.glob("*/src/**/*.rt"))), "a file for each of the sources")
     for path, text in crates.items():
         tally.check(not re.search(r"(?m)^(?!\s*//).*\bunsafe\b", text), f"{path}: `unsafe`")
     for path in CRATES.glob("*/src/**/*.rt"):
         # The clauses of functions that begin a line by `pub fn`, each by the first word that it has of its own.
         wanted = re.findall(r"(?m)^ *pub fn [^{;]*?\n *((?:requires|ensures)\b[^{]*\{)", path.read_text())
-        text = crates[RUST / "out/crates" / path.relative_to(CRATES).with_suffix(".rs")]
+        text = crates[OUT / "crates" / path.relative_to(CRATES).with_suffix(".rs")]
         tally.check(all(f"/// {clause}" in text for clause in wanted), f"{path}: a contract that is not in the docs")
 
 
+def source_line(path: str, number: int) -> str:
+    """The file and line of the source from which a line of the workspace is."""
+    if not path.startswith("crates/"):
+        return f"rust/{path.replace('/src/lib.rs', '.rs') if path.startswith('shims/') else path}:{number}"
+    source = Path(path).with_suffix(".rt")
+    there, here = ([line.strip() for line in file.read_text().splitlines()] for file in (OUT / path, ROOT / source))
+    before = there[:number].count(there[number - 1])
+    same = [at for at, line in enumerate(here, 1) if line == there[number - 1]]
+    return f"{source}:{same[before - 1]}" if before <= len(same) else f"{source}, as rust/out/{path}:{number}"
+
+
+def faults_of(said: str) -> list[str]:
+    """The faults that rustc found, each with the file and line of the source."""
+    found = re.findall(r"(?m)^error(?:\[E\d+\])?: (.*)\n +--> ([^:]+):(\d+)", said)
+    return [f"{source_line(path, int(number))}: {why}" for why, path, number in found]
+
+
 def builds(tally: Tally, *words: str) -> str:
-    got = subprocess.run([RUST / "build", *words], stdout=subprocess.PIPE, stderr=subprocess.STDOUT, text=True)
-    tally.check(got.returncode == 0, f"rust/build {' '.join(words)}: {got.stdout[-3000:]}")
-    return got.stdout
+    got = built_by(*words)
+    said = got.stdout + got.stderr
+    lines = "\n".join(faults_of(said)) or said[-3000:]
+    tally.check(got.returncode == 0, f"rust/build {' '.join(words)}: {lines}")
+    return said
+
+
+def renamed(tally: Tally, crate: str, folder: str, name: str, users: Path) -> None:
+    """A name of the workspace is another; a crate that uses it is then refused, with each line that does."""
+    for path in (OUT / folder).rglob("*.rs"):
+        path.write_text(path.read_text().replace(name, f"{name}_2"))
+    faults = faults_of(built_by("build", "-p", crate).stderr)
+    wanted = {
+        f"{path.relative_to(ROOT)}:{number}"
+        for path in users.rglob("*.r[st]")
+        for number, line in enumerate(path.read_text().splitlines(), 1)
+        if re.search(rf"\.{name}\(|pub use .*\b{name}\b", line)
+    }
+    tally.check({fault.split(": ")[0] for fault in faults} == wanted, f"no {name}: {faults}, and not {wanted}")
+
+
+def changes(tally: Tally) -> None:
+    """a call that the workspace lacks, and a name that the facade does not find, told with file and line"""
+    renamed(tally, "rubis_load", "shims/rand", "random_range", CRATES / "rubis_load/src")
+    renamed(tally, "fundreivo", "crates/application_check", "HistoryFault", RUST / "fundreivo/src")
+    export(tally)
+
+
+def export(tally: Tally) -> None:
+    """what rust/export.py writes"""
+    got = subprocess.run([sys.executable, "-B", RUST / "export.py"], capture_output=True, text=True)
+    tally.check(got.returncode == 0, f"rust/export.py: {got.stderr}")
+    if got.returncode:
+        tally.finish()
 
 
 def tests(tally: Tally) -> None:
@@ -210,18 +277,18 @@ def main() -> None:
     asked.add_argument("--seed", type=int, default=random.randrange(10**6))
     asked = asked.parse_args()
     tally = Tally()
+    export(tally)
+    for check in (refuses, exports, says_what_to_install):
+        tally.tell(check, tally)
     if why := reason_to_skip():
-        tally.skip("all of rust/", why)
+        tally.skip("what cargo builds", why)
         tally.finish()
     print(f"seed {asked.seed}", flush=True)
     builds(tally)
-    tally.tell(refuses, tally)
-    tally.tell(exports, tally)
     script(tally, "worked.py", BUILT_BY_CARGO)
     tally.tell(same_bytes, tally, asked)
-    tally.tell(refused_memory, tally)
-    tally.tell(other_languages, tally)
-    tally.tell(tests, tally)
+    for check in (refused_memory, other_languages, tests, changes):
+        tally.tell(check, tally)
     tally.finish()
 
 
