@@ -51,9 +51,15 @@ impl<T: ?Sized> Input for T {}
 pub fn writer<P: Print>(_: &P) -> Stream {
     stream(1)
 }
-/// Writes a text to the stream of a number, in pieces, as Rust's own does to errors.
+/// Writes a text to the stream of a number, in one call if it is short.
 pub fn tell<R>(_: &R, number: i32, what: Arguments<'_>) -> Result<()> {
-    stream(number).write_fmt(what)
+    let mut room = [0; 1024];
+    let mut left = &mut room[..];
+    if left.write_fmt(what).is_err() {
+        return stream(number).write_fmt(what);
+    }
+    let filled = 1024 - left.len();
+    stream(number).write_all(&room[..filled])
 }
 /// The same, with the end of a line.
 pub fn tell_line<R>(rt: &R, number: i32, what: Arguments<'_>) -> Result<()> {
