@@ -21,7 +21,7 @@ from pathlib import Path
 
 from lib.model import Outcome
 from lib.program import BUILT, CRATES, DOCUMENTS, EXAMPLES, ROOT, TESTS, Tally
-from lib.program import build_shim, described, executable, parser_of, run
+from lib.program import build_shim, built, described, executable, parser_of, run
 from lib.refusing import Refusing
 from lib.sessions import FIRST, requests
 from refused_memory import cases
@@ -44,6 +44,11 @@ WORDS = (
     "--help -h --version -V --workers --workers=3 3 0 17 --rows --rows=1 --history --hist --reprt --report --log x --"
     " - -q --joined 5 --split= --split=x --threshold=4294967296 --live --help=1 -hV --wrkers --fast --hot -1 --users=9"
 ).split()
+LOADS = (
+    "--requests 3000 --workers 4 --items 50 --skew 100",
+    "--requests 3000 --workers 4 --views 0 --comments 30 --purchases 20 --new-items 50 --seed 7",
+    "--requests 1000 --workers 16 --items 1 --skew 200 --users 3 --categories 1",
+)
 # The cases of refused_memory.py of which each allocation is refused here too.
 FEW_CASES = 6
 
@@ -178,6 +183,13 @@ def script(tally: Tally, name: str, *words: object) -> None:
     tally.check(got.returncode == 0, f"tests/{name} {words}: {got.stdout[-1000:]}{got.stderr[-1000:]}")
 
 
+def same(tally: Tally, name: str, words: list[str], data: bytes = b"") -> bytes:
+    """What a program writes, as its native build does."""
+    got, wanted = (run([program, *words], data) for program in (OUT / "target/release" / name, built(name)))
+    tally.same(f"{name} {' '.join(words)}", got, wanted)
+    return wanted.stdout
+
+
 def words(tally: Tally, native: Path, rng: random.Random) -> None:
     """words that are options, or nearly"""
     with tempfile.TemporaryDirectory() as folder:
@@ -185,6 +197,20 @@ def words(tally: Tally, native: Path, rng: random.Random) -> None:
             drawn = [rng.choice(WORDS) for _ in range(rng.randint(1, 4))]
             got, wanted = (run([program, *drawn], cwd=folder) for program in (BUILT_BY_CARGO, native))
             tally.same(f"words {drawn}", got, wanted)
+
+
+def loads(tally: Tally) -> None:
+    """loads, and verdicts on their histories, also with a line too many"""
+    with tempfile.TemporaryDirectory() as folder:
+        for load in map(str.split, LOADS):
+            data, options = same(tally, "rubis_load", load), [*load[2:4], "--users", "1000", "--categories", "100"]
+            history = Path(folder, "history")
+            for more in (b"", b"0 1 0 0 item 0.0\n"):
+                history.write_bytes(run([BUILT_BY_CARGO, *options, "--history"], data).stdout + more)
+                said = same(tally, "rubis_check", [*options, "--history", str(history)], data)
+                tally.check((said == b"the history replays\n") == (not more), f"rubis_check, {more!r}: {said!r}")
+    for name, word in itertools.product(("rubis_load", "rubis_check"), WORDS):
+        same(tally, name, [word])
 
 
 def perform(log: Path, drawn: list[str], *programs: Path) -> tuple[list[Outcome], bytes]:
@@ -268,6 +294,8 @@ def same_bytes(tally: Tally, asked: Namespace) -> None:
     script(tally, "compare_programs.py", native, BUILT_BY_CARGO, "--inputs", asked.inputs, "--seed", asked.seed)
     tally.tell(words, tally, native, random.Random(asked.seed))
     tally.tell(logs, tally, native, random.Random(asked.seed))
+    if all(built(name).exists() for name in ("rubis_load", "rubis_check")):
+        tally.tell(loads, tally)
 
 
 def main() -> None:

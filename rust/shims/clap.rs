@@ -1,6 +1,5 @@
 //! Of `clap` what the programs use, in the words of `clap` 4.5: long options, their values, help and version. Debian has
 //! 4.0, which words them otherwise; and no release of Rust's crate can be refused memory.
-//# strsim
 use kit::alloc::{AllocError, Global};
 use kit::string::String;
 use kit::vec::Vec;
@@ -214,7 +213,7 @@ impl<'a> Command<'a> {
     // The same, with the option that is most like it.
     fn unknown(&self, word: &str) -> Error {
         let longs = self.args.iter().map(|arg| arg.long).chain(["help", "version"]);
-        let likeness = |long: &&str| strsim::jaro(word.strip_prefix("--").unwrap_or(""), long);
+        let likeness = |long: &&str| likeness(word.strip_prefix("--").unwrap_or(""), long);
         let like = longs.filter(|long| likeness(long) > 0.7);
         match like.max_by(|one, other| likeness(one).total_cmp(&likeness(other))) {
             Some(long) => {
@@ -224,6 +223,30 @@ impl<'a> Command<'a> {
             None => self.unexpected(word),
         }
     }
+}
+
+// How alike a word and a long name are, from 0 to 1, as Jaro has it: no word of 128 letters is like one of ten. The order
+// of the sum decides whether some are above 0.7.
+fn likeness(word: &str, long: &str) -> f64 {
+    let (letters, names) = (word.chars().count(), long.as_bytes());
+    if letters >= 128 {
+        return 0.0;
+    }
+    let range = (letters.max(names.len()) / 2).saturating_sub(1);
+    // Which letters of each have one of the other.
+    let (mut of_word, mut of_long) = (0u128, 0u128);
+    for (at, letter) in word.chars().enumerate() {
+        let mut near = at.saturating_sub(range)..names.len().min(at + range + 1);
+        if let Some(place) = near.find(|place| names[*place] as char == letter && of_long >> place & 1 == 0) {
+            of_word |= 1 << at;
+            of_long |= 1 << place;
+        }
+    }
+    let had = word.chars().enumerate().filter(|(at, _)| of_word >> at & 1 == 1).map(|(_, letter)| letter);
+    let has = names.iter().enumerate().filter(|(at, _)| of_long >> at & 1 == 1).map(|(_, name)| *name as char);
+    let moved = had.zip(has).filter(|(one, other)| one != other).count() / 2;
+    let all = of_word.count_ones() as f64;
+    if all == 0.0 { 0.0 } else { (all / letters as f64 + all / names.len() as f64 + (all - moved as f64) / all) / 3.0 }
 }
 
 // What was read of the words so far.

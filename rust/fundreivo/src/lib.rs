@@ -43,7 +43,7 @@
 //!
 //! The crates below this one are written in Rattle, Rust with contracts, and proved there. Here is
 //! the same text without contracts, compiled by rustc over a library of its own: tested to be the
-//! same program, not proved. Nor is this crate.
+//! same program, not proved. Nor is this crate. A *Contract* on a page is what is proved there.
 //!
 //! Of an application of yours nothing is proved. [`law_test`] looks for faults in its laws, and
 //! [`engine::check_history`] shows of one history that it replays on one thread. That numbers of

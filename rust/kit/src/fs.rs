@@ -7,6 +7,7 @@ use ::std::io::{self, Read, Seek, SeekFrom, Write};
 use ::std::os::fd::AsRawFd;
 
 /// Leave to reach files.
+#[doc(hidden)]
 pub trait Files {
     type File;
     fn canonicalize(&self, alloc: Global, path: &str) -> io::Result<String>;

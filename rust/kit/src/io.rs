@@ -41,6 +41,7 @@ rights! {
     Eprint
 }
 /// Leave to read standard input.
+#[doc(hidden)]
 pub trait Input {
     fn reader(&self) -> Stream {
         stream(0)

@@ -11,10 +11,11 @@
 pub use ::std as rust;
 pub use ::std::*;
 
-// Leaves to do something, which whoever is asked for has: nothing of a runtime is left.
+// Leave to do something, which every value gives: nothing of a runtime is left. Hidden, or else each page would have it.
 macro_rules! rights {
     ($($(#[$about:meta])* $right:ident)*) => {$(
         $(#[$about])*
+        #[doc(hidden)]
         pub trait $right {}
         impl<T: ?Sized> $right for T {}
     )*};
@@ -57,6 +58,7 @@ pub mod marker {
         Drop
     }
     /// What contracts see of a type; there is nothing of it here.
+    #[doc(hidden)]
     pub trait Model {}
     /// The name that a contract gives a value; there is nothing of it here.
     pub struct Brand<const N: usize = 0>;

@@ -6,6 +6,7 @@ use crate::io::{Stream, stream};
 pub use crate::time::Clock;
 
 /// Leave to allocate.
+#[doc(hidden)]
 pub trait Alloc {
     type A;
     fn alloc(&self) -> Self::A;

@@ -7,6 +7,7 @@ pub use ::std::sync::*;
 use atomic::{AtomicUsize, Ordering};
 
 /// Leave to wait.
+#[doc(hidden)]
 pub trait Wait {
     fn forever(&self) -> ::std::iter::Repeat<()> {
         ::std::iter::repeat(())
