@@ -4,7 +4,9 @@ import ctypes
 import os
 from pathlib import Path
 
-_PLACES = (Path(__file__).parent, Path(__file__).parents[1] / "out/target/release")
+_AT = Path(__file__).resolve()
+# Beside this file, and where rust/build has it, or cargo in an archive.
+_PLACES = (_AT.parent, _AT.parents[1] / "out/target/release", _AT.parents[1] / "target/release")
 _BUILT = (place / "libfundreivo_c.so" for place in _PLACES)
 _LIBRARY = ctypes.CDLL(os.environ.get("FUNDREIVO") or str(next(filter(Path.exists, _BUILT), "libfundreivo_c.so")))
 _RUN, _FREE = _LIBRARY.fundreivo_run, _LIBRARY.fundreivo_free
