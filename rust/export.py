@@ -334,7 +334,8 @@ def export(new: Path) -> int:
         export_crate(new / "crates" / name, name, needs)
     if shutil.which("rustfmt"):
         plain = ["rustfmt", "--edition", "2024", "--config", "max_width=100,use_small_heuristics=Default"]
-        subprocess.run([*plain, *new.rglob("*.rs")], check=True)
+        # It may have no toolchain. Where it does not take what was written, rustc says why.
+        subprocess.run([*plain, *new.rglob("*.rs")], capture_output=True)
     for name in OWN:
         shutil.copytree(HERE / name, new / name, ignore=shutil.ignore_patterns("__pycache__"))
     paths = [f'{name} = {{ path = "{name}" }}' for name in OWN]
