@@ -38,8 +38,9 @@ REWRITINGS = (
     (r"fn fmt<W: (?:fmt::)?Write>\(&self, f: &mut (?:fmt::)?Formatter<W>\)",
      "fn fmt(&self, f: &mut std::fmt::Formatter<'_>)"),
     (r"fn clone\(&self\) -> Result<(.*), AllocError> \{\s*Ok\(\*self\)", r"fn clone(&self) -> \1 { *self"),
-    # Rust has methods of these names with other parameters.
+    # Rust has functions of these names with other parameters.
     (r"\.(expect|expect_err)\((&?rt|self\.rt),", r".\1_rt(\2,"),
+    (r"(\bFile::open|\bfs::(?:symlink_)?metadata|\.open)\((?:rt|self\.files), ", r"\1("),
     (r"\.(to_owned|collect|lines)\(alloc\)", r".\1_in(alloc)"),
     (r"\.(read_until|read_to_string)\(", r".\1_in("),
     # A module within a file does not see what the file imports.

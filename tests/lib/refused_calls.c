@@ -122,6 +122,10 @@ int ftruncate(int file, off_t size) {
     return original(file, size);
 }
 
+int ftruncate64(int file, off_t size) {
+    return ftruncate(file, size);
+}
+
 int flock(int file, int how) {
     int (*original)(int, int) = dlsym(RTLD_NEXT, "flock");
     if (limit("LOCK_FAILS") > 0) {

@@ -7,7 +7,6 @@ use ::std::io::{Error, ErrorKind, Result};
 use ::std::sync::atomic::{AtomicPtr, AtomicUsize, Ordering};
 
 unsafe extern "C" {
-    fn ftruncate(fd: c_int, len: i64) -> c_int;
     fn clock_gettime(clock: c_int, time: *mut [i64; 2]) -> c_int;
     fn realpath(path: *const u8, found: *mut u8) -> *const u8;
     fn signal(number: c_int, how: usize) -> usize;
@@ -20,20 +19,6 @@ unsafe extern "C" {
     fn pthread_join(thread: usize, gives: *mut *mut u8) -> c_int;
 }
 
-/// Cuts a file off, or makes it longer.
-pub fn truncate(fd: i32, len: u64) -> Result<()> {
-    let len = i64::try_from(len).map_err(|_| ErrorKind::InvalidInput)?;
-    loop {
-        // SAFETY: it touches no memory.
-        if unsafe { ftruncate(fd, len) } == 0 {
-            return Ok(());
-        }
-        let why = Error::last_os_error();
-        if why.kind() != ErrorKind::Interrupted {
-            return Err(why);
-        }
-    }
-}
 /// The time since some beginning.
 pub fn clock() -> Result<::std::time::Duration> {
     const MONOTONIC: c_int = 1;
