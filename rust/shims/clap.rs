@@ -3,22 +3,20 @@
 use kit::alloc::{AllocError, Global};
 use kit::string::String;
 use kit::vec::Vec;
-use std::fmt::{self, Write};
+use std::fmt::{self, Display, Write};
 use std::str::FromStr;
 
 pub mod builder {
-    use std::marker::PhantomData;
-    /// What a value's text has to be.
-    #[derive(Clone, Copy)]
+    /// What a value's text has to be: any text, a number of a range, which is read with a sign, or one of 64 bits.
+    #[derive(Clone, Copy, Default)]
     pub enum ValueParser<'a> {
-        Text(PhantomData<&'a ()>),
-        /// A number of this range, which is read with a sign.
+        #[default]
+        Text,
         Signed(i64, i64),
-        /// Any number of 64 bits.
-        Unsigned,
+        Unsigned(std::marker::PhantomData<&'a ()>),
     }
-    impl ValueParser<'_> {
-        pub fn range(self, range: std::ops::RangeInclusive<i64>) -> Self {
+    impl<'a> ValueParser<'a> {
+        pub fn range(self, range: std::ops::RangeInclusive<i64>) -> ValueParser<'a> {
             ValueParser::Signed(*range.start(), *range.end())
         }
     }
@@ -30,12 +28,12 @@ macro_rules! value_parser {
         $crate::builder::ValueParser::Signed(0, u32::MAX as i64)
     };
     (u64) => {
-        $crate::builder::ValueParser::Unsigned
+        $crate::builder::ValueParser::Unsigned(::std::marker::PhantomData)
     };
 }
 pub mod parser {
     /// Where a value is from.
-    #[derive(Clone, Copy, Debug, PartialEq, Eq)]
+    #[derive(Clone, Copy, PartialEq)]
     pub enum ValueSource {
         DefaultValue,
         CommandLine,
@@ -43,21 +41,20 @@ pub mod parser {
 }
 use parser::ValueSource;
 pub mod error {
-    /// The one kind that the programs tell from others.
-    #[derive(Clone, Copy, Debug, PartialEq, Eq)]
+    #[derive(PartialEq)]
     pub enum ErrorKind {
+        Words,
         OutOfMemory,
-        Told,
     }
 }
 use error::ErrorKind;
 
-/// Why words give no matches, or the help or version that they ask for: a text for the user, or no memory for one.
+/// Why words give no matches: a text for the user, or none for want of memory.
 #[derive(Debug)]
 pub struct Error(Option<String>);
 impl Error {
     pub fn kind(&self) -> ErrorKind {
-        self.0.as_ref().map_or(ErrorKind::OutOfMemory, |_| ErrorKind::Told)
+        if self.0.is_some() { ErrorKind::Words } else { ErrorKind::OutOfMemory }
     }
 }
 impl From<AllocError> for Error {
@@ -65,34 +62,35 @@ impl From<AllocError> for Error {
         Error(None)
     }
 }
-impl From<fmt::Error> for Error {
-    fn from(_: fmt::Error) -> Error {
-        Error(None)
-    }
-}
-impl fmt::Display for Error {
+impl Display for Error {
     fn fmt(&self, f: &mut fmt::Formatter<'_>) -> fmt::Result {
         f.write_str(self.0.as_deref().unwrap_or("error: out of memory\n"))
     }
 }
-impl std::error::Error for Error {}
 
-macro_rules! setters {
-    ($($name:ident: $type:ty),*) => {$(
-        pub fn $name(mut self, $name: $type) -> Self {
-            self.$name = $name;
-            self
-        }
-    )*};
-}
-
-#[derive(Clone, Copy, PartialEq, Eq)]
+#[derive(Clone, Copy, Default, PartialEq)]
 pub enum ArgAction {
+    #[default]
     Set,
     SetTrue,
 }
 
+macro_rules! setters {
+    ($type:ident $($name:ident: $value:ty,)*) => {
+        impl<'a> $type<'a> {
+            $(pub fn $name(mut self, value: $value) -> Self {
+                self.$name = value.into();
+                self
+            })*
+        }
+    };
+}
+setters!(Arg long: &'a str, action: ArgAction, value_parser: ValueParser<'a>, default_value: &'a str,
+    value_name: &'a str, help: &'a str, required: bool,);
+setters!(Command version: &'a str, about: &'a str, override_usage: &'a str, after_help: &'a str,);
+
 /// An option.
+#[derive(Default)]
 pub struct Arg<'a> {
     id: &'a str,
     long: &'a str,
@@ -105,29 +103,20 @@ pub struct Arg<'a> {
 }
 impl<'a> Arg<'a> {
     pub fn new(_: Global, id: &'a str) -> Arg<'a> {
-        let value_parser = ValueParser::Text(Default::default());
-        let action = ArgAction::Set;
-        Arg { id, long: id, action, value_parser, default_value: None, value_name: id, help: "", required: false }
-    }
-    setters!(long: &'a str, action: ArgAction, value_parser: ValueParser<'a>, value_name: &'a str, help: &'a str, required: bool);
-    pub fn default_value(mut self, value: &'a str) -> Self {
-        self.default_value = Some(value);
-        self
+        Arg { id, long: id, value_name: id, ..Arg::default() }
     }
     fn takes_value(&self) -> bool {
         self.action == ArgAction::Set
     }
-    // How wide it is shown.
+    // How wide its name and that of its value are.
     fn width(&self) -> usize {
         2 + self.long.len() + if self.takes_value() { 3 + self.value_name.len() } else { 0 }
     }
 }
-impl fmt::Display for Arg<'_> {
+impl Display for Arg<'_> {
     fn fmt(&self, f: &mut fmt::Formatter<'_>) -> fmt::Result {
-        match self.action {
-            ArgAction::Set => write!(f, "--{} <{}>", self.long, self.value_name),
-            ArgAction::SetTrue => write!(f, "--{}", self.long),
-        }
+        write!(f, "--{}", self.long)?;
+        if self.takes_value() { write!(f, " <{}>", self.value_name) } else { Ok(()) }
     }
 }
 
@@ -143,15 +132,14 @@ pub struct Command<'a> {
 }
 impl<'a> Command<'a> {
     pub fn new(alloc: Global, name: &'a str) -> Command<'a> {
-        Command { alloc, name, version: "", about: "", override_usage: "", after_help: "", args: Vec::new(alloc) }
+        let args = Vec::new(alloc);
+        Command { alloc, name, version: "", about: "", override_usage: "", after_help: "", args }
     }
-    setters!(version: &'a str, about: &'a str, override_usage: &'a str, after_help: &'a str);
-    pub fn arg(mut self, arg: Arg<'a>) -> Result<Command<'a>, AllocError> {
-        self.args.push(arg)?;
+    pub fn args(mut self, args: impl IntoIterator<Item = Arg<'a>>) -> Result<Command<'a>, AllocError> {
+        for arg in args {
+            self.args.push(arg)?;
+        }
         Ok(self)
-    }
-    pub fn args(self, args: impl IntoIterator<Item = Arg<'a>>) -> Result<Command<'a>, AllocError> {
-        args.into_iter().try_fold(self, Command::arg)
     }
     /// What the words say, the first of which is the program's name.
     pub fn try_get_matches_from_mut(&mut self, words: &'a [String]) -> Result<ArgMatches<'a>, Error> {
@@ -161,66 +149,60 @@ impl<'a> Command<'a> {
         self.check_required(&given)?;
         let mut found = Vec::with_capacity(self.alloc, self.args.len())?;
         for (at, arg) in self.args.iter().enumerate() {
-            let said = given.iter().find(|given| given.0 == at).map(|given| given.1);
+            let said = given.iter().find(|given| given.0 == at).map(|given| (given.1, ValueSource::CommandLine));
             let usual = if arg.takes_value() { arg.default_value } else { Some("false") };
-            let source = if said.is_some() { ValueSource::CommandLine } else { ValueSource::DefaultValue };
-            if let Some(text) = said.or(usual) {
+            if let Some((text, source)) = said.or(usual.map(|text| (text, ValueSource::DefaultValue))) {
                 found.push_reserved((arg.id, text, source));
             }
         }
-        Ok(ArgMatches { found })
+        Ok(ArgMatches(found))
     }
 
-    fn help(&self) -> Result<String, Error> {
-        let mut text = String::formatted(
-            self.alloc,
-            format_args!("{}\n\nUsage: {}\n\nOptions:\n", self.about, self.override_usage),
-        )?;
+    // The help, with the options in two columns.
+    fn write_help(&self, text: &mut String) -> fmt::Result {
         let width = self.args.iter().map(Arg::width).max().unwrap_or(0).max("--version".len());
-        for arg in self.args.iter() {
+        write!(text, "{}\n\nUsage: {}\n\nOptions:\n", self.about, self.override_usage)?;
+        for arg in &self.args {
             write!(text, "      {arg}{:1$}  {2}", "", width - arg.width(), arg.help)?;
-            if let Some(usual) = arg.default_value {
-                write!(text, " [default: {usual}]")?;
+            match arg.default_value {
+                Some(usual) => writeln!(text, " [default: {usual}]")?,
+                None => writeln!(text)?,
             }
-            text.push_str("\n")?;
         }
-        write!(text, "  -h, {:width$}  Print help\n  -V, {:width$}  Print version\n", "--help", "--version")?;
-        if !self.after_help.is_empty() {
-            write!(text, "\n{}\n", self.after_help)?;
-        }
-        Ok(text)
+        writeln!(text, "  -h, {:width$}  Print help", "--help")?;
+        writeln!(text, "  -V, {:width$}  Print version", "--version")?;
+        if self.after_help.is_empty() { Ok(()) } else { writeln!(text, "\n{}", self.after_help) }
     }
     fn refusal(&self, has_usage: bool, why: fmt::Arguments<'_>) -> Error {
-        let usage = if has_usage { ("\n\nUsage: ", self.override_usage) } else { ("", "") };
-        let told = format_args!("error: {why}{}{}\n\nFor more information, try '--help'.\n", usage.0, usage.1);
-        Error(String::formatted(self.alloc, told).ok())
+        let (head, usage) = if has_usage { ("\n\nUsage: ", self.override_usage) } else { ("", "") };
+        let end = "For more information, try '--help'.";
+        Error(String::formatted(self.alloc, format_args!("error: {why}{head}{usage}\n\n{end}\n")).ok())
     }
     fn check_required(&self, given: &[(usize, &str)]) -> Result<(), Error> {
-        let mut missing = String::new(self.alloc);
+        let mut missing = String::default();
         for (at, arg) in self.args.iter().enumerate() {
             if arg.required && !given.iter().any(|given| given.0 == at) {
-                write!(missing, "\n  {arg}")?;
+                write!(missing, "\n  {arg}").map_err(|_| AllocError)?;
             }
         }
-        if missing.is_empty() {
-            return Ok(());
-        }
-        Err(self.refusal(true, format_args!("the following required arguments were not provided:{missing}")))
+        let why = format_args!("the following required arguments were not provided:{missing}");
+        if missing.is_empty() { Ok(()) } else { Err(self.refusal(true, why)) }
     }
-    fn unexpected(&self, word: &str) -> Error {
+    fn unexpected(&self, word: &dyn Display) -> Error {
         self.refusal(true, format_args!("unexpected argument '{word}' found"))
     }
-    // The same, with the option that is most like it.
     fn unknown(&self, word: &str) -> Error {
-        let longs = self.args.iter().map(|arg| arg.long).chain(["help", "version"]);
-        let likeness = |long: &&str| likeness(word.strip_prefix("--").unwrap_or(""), long);
-        let like = longs.filter(|long| likeness(long) > 0.7);
-        match like.max_by(|one, other| likeness(one).total_cmp(&likeness(other))) {
-            Some(long) => {
-                let tip = format_args!("tip: a similar argument exists: '--{long}'");
-                self.refusal(true, format_args!("unexpected argument '{word}' found\n\n  {tip}"))
+        let mut best = (0.7, None);
+        for long in self.args.iter().map(|arg| arg.long).chain(["help", "version"]) {
+            let likeness = likeness(&word[2..], long);
+            if likeness > 0.7 && likeness >= best.0 {
+                best = (likeness, Some(long));
             }
-            None => self.unexpected(word),
+        }
+        let tip = "tip: a similar argument exists:";
+        match best.1 {
+            Some(long) => self.refusal(true, format_args!("unexpected argument '{word}' found\n\n  {tip} '--{long}'")),
+            None => self.unexpected(&word),
         }
     }
 }
@@ -274,83 +256,69 @@ impl<'a> Reading<'_, 'a> {
             let why = format_args!("the argument '{arg}' cannot be used multiple times");
             return Err(self.command.refusal(true, why));
         }
-        if arg.takes_value() {
-            self.check(arg, value)?;
-        }
+        self.check(arg, value)?;
         Ok(self.given.push((at, value)).map_err(AllocError::from)?)
     }
     fn check(&self, arg: &Arg<'a>, value: &str) -> Result<(), Error> {
-        let refuse = |why: fmt::Arguments<'_>| {
+        let refuse = |why: &dyn Display| {
             Err(self.command.refusal(false, format_args!("invalid value '{value}' for '{arg}': {why}")))
         };
         match arg.value_parser {
-            ValueParser::Text(_) => Ok(()),
-            ValueParser::Unsigned => u64::from_str(value).map(|_| ()).or_else(|why| refuse(format_args!("{why}"))),
+            ValueParser::Text => Ok(()),
+            ValueParser::Unsigned(_) => u64::from_str(value).map(drop).or_else(|why| refuse(&why)),
             ValueParser::Signed(least, greatest) => match i64::from_str(value) {
                 Ok(number) if least <= number && number <= greatest => Ok(()),
-                Ok(number) => refuse(format_args!("{number} is not in {least}..={greatest}")),
-                Err(why) => refuse(format_args!("{why}")),
+                Ok(number) => refuse(&format_args!("{number} is not in {least}..={greatest}")),
+                Err(why) => refuse(&why),
             },
         }
     }
     fn shown(&mut self, is_help: bool) -> Error {
-        let command = self.command;
-        let version = format_args!("{} {}\n", command.name, command.version);
-        let made = self.resolve().and_then(|()| match is_help {
-            true => command.help(),
-            false => Ok(String::formatted(command.alloc, version)?),
-        });
-        made.map_or_else(|why| why, |text| Error(Some(text)))
+        if let Err(why) = self.resolve() {
+            return why;
+        }
+        let Command { name, version, .. } = self.command;
+        let mut text = String::default();
+        let written = if is_help { self.command.write_help(&mut text) } else { writeln!(text, "{name} {version}") };
+        Error(written.ok().map(|()| text))
     }
     fn read_long(&mut self, word: &'a str) -> Result<(), Error> {
         let (name, value) = word[2..].split_once('=').map_or((&word[2..], None), |(name, value)| (name, Some(value)));
         let command = self.command;
-        let many = |what: &dyn fmt::Display, value: &str| {
+        let many = |what: &dyn Display, value: &str| {
             let why = format_args!("unexpected value '{value}' for '{what}' found; no more were expected");
             Err(command.refusal(true, why))
         };
-        if name == "help" || name == "version" {
-            return match value {
-                Some(value) => many(&format_args!("--{name}"), value),
-                None => Err(self.shown(name == "help")),
-            };
-        }
         let Some(at) = command.args.iter().position(|arg| arg.long == name) else {
-            return Err(command.unknown(&word[..2 + name.len()]));
+            return match (name, value) {
+                ("help" | "version", Some(value)) => many(&format_args!("--{name}"), value),
+                ("help" | "version", None) => Err(self.shown(name == "help")),
+                _ => Err(command.unknown(&word[..2 + name.len()])),
+            };
         };
-        match (command.args[at].takes_value(), value) {
-            (false, Some(value)) => many(&command.args[at], value),
-            (takes_value, value) => {
-                self.resolve()?;
-                match value.or(if takes_value { None } else { Some("true") }) {
-                    Some(value) => self.take(at, value),
-                    None => {
-                        self.pending = Some((at, None));
-                        Ok(())
-                    }
-                }
-            }
+        let arg = &command.args[at];
+        match value {
+            Some(value) if !arg.takes_value() => return many(arg, value),
+            _ => self.resolve()?,
         }
+        if arg.takes_value() && value.is_none() {
+            self.pending = Some((at, None));
+            return Ok(());
+        }
+        self.take(at, value.unwrap_or("true"))
     }
     fn read(&mut self, words: &'a [String]) -> Result<(), Error> {
         let mut are_values = false;
-        for word in words.iter().skip(1) {
-            let word = word.as_str();
-            if !are_values && word == "--" {
-                are_values = true;
-            } else if !are_values && word.starts_with("--") {
-                self.read_long(word)?;
-            } else if let (false, Some(letter)) =
-                (are_values, word.strip_prefix('-').and_then(|rest| rest.chars().next()))
-            {
-                return Err(match letter {
-                    'h' | 'V' => self.shown(letter == 'h'),
-                    _ => self.command.refusal(true, format_args!("unexpected argument '-{letter}' found")),
-                });
-            } else if let (false, Some((_, value @ None))) = (are_values, &mut self.pending) {
-                *value = Some(word);
-            } else {
-                return Err(self.command.unexpected(word));
+        for word in words.iter().skip(1).map(String::as_str) {
+            let letter = word.strip_prefix('-').and_then(|rest| rest.chars().next());
+            match (&mut self.pending, letter) {
+                _ if are_values => return Err(self.command.unexpected(&word)),
+                (_, Some('-')) if word == "--" => are_values = true,
+                (_, Some('-')) => self.read_long(word)?,
+                (_, Some(letter @ ('h' | 'V'))) => return Err(self.shown(letter == 'h')),
+                (_, Some(letter)) => return Err(self.command.unexpected(&format_args!("-{letter}"))),
+                (Some((_, value @ None)), None) => *value = Some(word),
+                (_, None) => return Err(self.command.unexpected(&word)),
             }
         }
         self.resolve()
@@ -358,12 +326,10 @@ impl<'a> Reading<'_, 'a> {
 }
 
 /// What words say.
-pub struct ArgMatches<'a> {
-    found: Vec<(&'a str, &'a str, ValueSource)>,
-}
+pub struct ArgMatches<'a>(Vec<(&'a str, &'a str, ValueSource)>);
 impl<'a> ArgMatches<'a> {
     fn of(&self, id: &str) -> Option<&(&'a str, &'a str, ValueSource)> {
-        self.found.iter().find(|found| found.0 == id)
+        self.0.iter().find(|found| found.0 == id)
     }
     pub fn get_one<T: FromStr>(&self, id: &str) -> Option<T> {
         self.of(id)?.1.parse().ok()
