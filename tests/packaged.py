@@ -240,6 +240,29 @@ def manifests(tally: Tally, clone: Clone) -> None:
         )
 
 
+def workspace(tally: Tally, clone: Clone) -> None:
+    """the crates as ordinary Rust, as rust/export.py writes them, which cargo takes in the versions of Cargo.lock"""
+    shutil.rmtree(clone.folder / "rust")
+    clone.copy("rust")
+    clone.git("add", "-A")
+    clone.git("commit", "-q", "-m", "Rust")
+    got = clone.package(clone.into / "rust")
+    if b"SKIPPED" in got.stderr:
+        tally.skip("the crates as ordinary Rust", got.stderr.decode().strip())
+        return
+    folder = unpacked(Path(got.stdout.decode().rstrip("\n")), clone.folder.with_name("rust")) / "rust"
+    wanted = clone.folder.with_name("exported")
+    run([sys.executable, "-B", ROOT / "rust" / "export.py", wanted])
+    there = files_below(folder)
+    there.pop("Cargo.lock")
+    tally.check(there == files_below(wanted), f"rust/ has other files: {there.keys() ^ files_below(wanted).keys()}")
+    crates = os.environ.get("CRATES", "/usr/share/cargo/registry")
+    debian = ["--config", "debian.toml", "--config", f'source.debian.directory="{crates}"']
+    command = ["cargo", "metadata", "--locked", "--offline", "--format-version", "1"]
+    outcomes = [run([*command, *words], cwd=folder) for words in ([], debian)]
+    tally.check(any(got.status == 0 and b'"name":"fundreivo"' in got.stdout for got in outcomes), f"cargo: {outcomes}")
+
+
 def without_crates(tally: Tally, clone: Clone) -> None:
     """an archive without ordinary Rust, if cargo does not find the crates of others"""
     (clone.folder / "rust" / "build").write_text(LACKS)
@@ -310,7 +333,7 @@ def main() -> None:
         tally.finish()
     with tempfile.TemporaryDirectory() as folder:
         clone = Clone(Path(folder) / "clone")
-        for check in (make_archive, files, programs, same_bytes, manifests, without_crates, logs, states):
+        for check in (make_archive, files, programs, same_bytes, manifests, workspace, without_crates, logs, states):
             tally.tell(check, tally, clone)
     tally.finish()
 
