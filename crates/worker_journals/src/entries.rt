@@ -133,6 +133,10 @@ impl<'a> EntryRef<'a> {
         ensures { result ≡ written_by self.now }
     {
         let (head, _sides) = self.head();
+        // What a view asks for is not read: it lies elsewhere.
+        if !head.reply.answers_splittable() {
+            return None;
+        }
         head.reply.object_written(self.worker(), &self.request())
     }
 

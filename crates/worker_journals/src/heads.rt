@@ -1,7 +1,8 @@
 //! What a journal keeps of each commit in its place: all that is small. The rest lies in side
 //! lists.
-ghost use Rattle.std.specs.Prelude.{◌≡◌};
+ghost use Rattle.std.specs.Prelude.{ℕ, ◌≡◌, false, None};
 ghost use Rattle.auction_rows.specs.{Choosing.{written_by}, History.{commit}};
+ghost use Rattle.auction_rows.specs.declared.requests.Request.{Request};
 ghost use Rattle.auction_rows.specs.StoreReplies.{is_refusal, store_reply};
 ghost use Rattle.worker_journals.specs.{Shown.{ShownLists}, inner.Sides.{reply_from}};
 
@@ -72,6 +73,18 @@ impl ShortReply {
         ensures { (lists : ShownLists) → result ≡ is_refusal (reply_from lists self) }
     {
         matches!(self, ShortReply::Refused(_))
+    }
+
+    /// Whether the reply answers a splittable store: with another one no entry writes an object.
+    #[inline(always)]
+    pub(crate) fn answers_splittable(self) -> bool
+        ensures { result ≡ false → (lists : ShownLists) (worker : ℕ) (request : Request) →
+            written_by (commit worker request (reply_from lists self)) ≡ None }
+    {
+        matches!(
+            self,
+            ShortReply::ItemStored(_) | ShortReply::BidStored(_) | ShortReply::CommentStored(_)
+        )
     }
 
     /// The object that a request of a worker writes, to which this is the reply, if it is an
