@@ -1,5 +1,5 @@
 -- One more commit: what the heads before it say stays.
-use Rattle.std.proofs.Common.{◌≡◌, ◌<◌, ◌≤◌, ◌+◌, ℕ, List, [], ◌∷◌, ◌++◌, map, length, take, drop, refl, sym, ap, ◌∙◌, subst, arith, length-append, length-drop}
+use Rattle.std.proofs.Common.{◌≡◌, ◌<◌, ◌≤◌, ◌+◌, ◌-◌, ℕ, List, [], ◌∷◌, ◌++◌, map, length, take, drop, refl, sym, ap, ◌∙◌, subst, arith, append-nil, inl, inr, length-append, length-drop}
 use Rattle.std.proofs.lemmas.List.{get_or_append_left, drop-append-le, take-append-le, map-append, length-map}
 use Rattle.std.specs.List.{AllByRecursion}
 use Rattle.phase_laws.proofs.OrderLemmas.{all_push, all-weaker}
@@ -9,11 +9,11 @@ use Rattle.auction_rows.specs.declared.requests.Request.{Request}
 use Rattle.auction_rows.specs.declared.{replies.Reply.Reply, rows.Entry.Entry}
 use Rattle.worker_journals.proofs.JournalLemmas.{lawful_after}
 use Rattle.worker_journals.specs.Journals.{JournalView, IsOfScript, ComesAfter, IsLawfulJournal, closed_journal, seen, with_commit}
-use Rattle.worker_journals.specs.Shown.{ShownLists, shown_in}
+use Rattle.worker_journals.specs.Shown.{ShownLists, nothing_shown, shown_in}
 use Rattle.worker_journals.specs.declared.heads.ShortReply.{ShortReply}
 use Rattle.worker_journals.specs.inner.Entries.{entry_from, HasHead, shown, IsKept}
 use Rattle.worker_journals.specs.inner.HeadLists.{AskedHead, IsHeadOf}
-use Rattle.worker_journals.specs.inner.Sides.{SideLists, reply_from, HasReply, SaysReply, with_reply_of, with_shown, user_reply}
+use Rattle.worker_journals.specs.inner.Sides.{SideLists, HasKept, HasReply, SaysReply, reply_from, user_reply, with_shown}
 use Rattle.worker_journals.specs.declared.heads.ShortReply.TheVariants as told
 
 part_stays : {X : Type 0} (xs more : List X) (place count : ℕ) → place + count ≤ length xs →
@@ -47,13 +47,33 @@ abbrev entry_by : ℕ → ℕ → AskedHead → Reply → Entry
 entry_by phase worker head reply =
     record { phase = phase; number = head.head.number; worker = worker; index = head.head.index; request = head.request; reply = reply }
 
-module _ (phase worker : ℕ) (sides : SideLists) (reply : Reply) where
+-- the side lists after one commit more, with this at the end of each list
+abbrev with_more : SideLists → ShownLists → SideLists
+with_more sides more = record { lists = with_shown sides.lists more; left = sides.left - 1 }
+
+-- nothing more at the end of each list
+with_nothing : (lists : ShownLists) → with_shown lists nothing_shown ≡ lists
+with_nothing lists = λ i. record {
+  items = append-nil lists.items i;
+  users = append-nil lists.users i;
+  bids = append-nil lists.bids i;
+  latest = append-nil lists.latest i;
+}
+
+-- one commit more keeps something at the end of each list, be it nothing
+grown_by : (sides after : SideLists) (reply : Reply) → HasKept sides reply after → (more : ShownLists) × (after ≡ with_more sides more)
+grown_by sides after reply kept = elim kept.lists [
+  | inl same ↦ (nothing_shown, λ i. record { lists = (same ∙ sym (with_nothing sides.lists)) i; left = kept.left i })
+  | inr shown ↦ (shown_in reply, λ i. record { lists = shown i; left = kept.left i })
+]
+
+module _ (phase worker : ℕ) (sides : SideLists) (more : ShownLists) where
   abbrev after : SideLists
-  after = with_reply_of sides reply
+  after = with_more sides more
 
   head_stays : (head : AskedHead) → HasHead sides head → HasHead after head × (entry_from phase worker after head ≡ entry_from phase worker sides head)
   head_stays head h =
-      let answered = reply_stays sides.lists (shown_in reply) head.head.reply h in
+      let answered = reply_stays sides.lists more head.head.reply h in
       (answered.within, ap (entry_by phase worker head) answered.is)
 
   heads_stay : (heads : List AskedHead) → AllByRecursion (HasHead sides) heads →
@@ -64,7 +84,7 @@ module _ (phase worker : ℕ) (sides : SideLists) (reply : Reply) where
       ∙ ap (λ es. entry_from phase worker sides head ∷ es) (heads_stay heads all.1)
 
   -- a head that says the commit, at the end of the heads
-  module _ (heads : List AskedHead) (head : AskedHead) (capacity : ℕ) (kept : IsKept phase worker heads capacity sides) (some : 0 < sides.left)
+  module _ (heads : List AskedHead) (head : AskedHead) (reply : Reply) (capacity : ℕ) (kept : IsKept phase worker heads capacity sides) (some : 0 < sides.left)
       (answered : SaysReply after.lists head.head.reply reply) where
     abbrev said : Entry
     said = entry_by phase worker head reply
@@ -93,23 +113,29 @@ module _ (phase worker : ℕ) (sides : SideLists) (reply : Reply) where
 -- the same, of a journal that shows this, and side lists and heads that are equal to these
 module _ (phase worker : ℕ) (heads new : List AskedHead) (capacity capacity' : ℕ) (sides sides' : SideLists) (head : AskedHead) (reply : Reply)
     (kept : IsKept phase worker heads capacity sides) (some : 0 < sides.left) (pushed : new ≡ heads ++ head ∷ []) (same : capacity' ≡ capacity)
-    (grown : sides' ≡ with_reply_of sides reply)
+    (has_kept : HasKept sides reply sides')
     (answered : SaysReply sides'.lists head.head.reply reply) where
-  answered' : SaysReply (with_reply_of sides reply).lists head.head.reply reply
+  abbrev more' : ShownLists
+  more' = (grown_by sides sides' reply has_kept).0
+
+  grown : sides' ≡ with_more sides more'
+  grown = (grown_by sides sides' reply has_kept).1
+
+  answered' : SaysReply (with_more sides more').lists head.head.reply reply
   answered' = subst (λ (s : SideLists). SaysReply s.lists head.head.reply reply) grown answered
 
   pub pushed_shown : (journal : JournalView) → shown phase worker heads sides ≡ journal →
       shown phase worker new sides' ≡ with_commit journal head.head.number head.head.index head.request reply
   pushed_shown journal is =
       ap (λ hs. shown phase worker hs sides') pushed ∙ ap (λ s. shown phase worker (heads ++ head ∷ []) s) grown
-      ∙ shown_after phase worker sides reply heads head capacity kept some answered'
+      ∙ shown_after phase worker sides more' heads head reply capacity kept some answered'
       ∙ ap (λ j. with_commit j head.head.number head.head.index head.request reply) is
 
   pub pushed_kept : (journal : JournalView) → shown phase worker heads sides ≡ journal → ComesAfter journal.entries head.head.number →
       IsKept phase worker new capacity' sides'
   pushed_kept journal is comes =
       let after = subst (λ (j : JournalView). ComesAfter j.entries head.head.number) (sym is) comes in
-      let here = kept_after phase worker sides reply heads head capacity kept some answered' after in
+      let here = kept_after phase worker sides more' heads head reply capacity kept some answered' after in
       subst (λ hs. IsKept phase worker hs capacity' sides') (sym pushed)
       (subst (λ n. IsKept phase worker (heads ++ head ∷ []) n sides') (sym same)
       (subst (λ s. IsKept phase worker (heads ++ head ∷ []) capacity s) (sym grown) here))

@@ -1,10 +1,13 @@
 -- Loops that put the values of a list at the end of another one.
-use Rattle.std.proofs.Common.{◌≡◌, ℕ, zero, suc, ◌+◌, ◌-◌, ◌*◌, ◌^◌, ◌<◌, ◌≤◌, min, List, [], ◌∷◌, ◌++◌, Some, length, take, take_all, drop, get_or, slice_get, arith, refl, ap, subst, sym, ◌∙◌, append_assoc, length-append}
-use Rattle.std.proofs.lemmas.{List.{length-take, take_more}, Option.{get_or_from_slice_get}}
-use Rattle.std.specs.Prelude.{IsSome}
-use Rattle.auction_rows.specs.declared.replies.Reply.{Reply}
-use Rattle.worker_journals.specs.{Shown.{ShownLists}, declared.heads.ShortReply.{ShortReply}}
-use Rattle.worker_journals.specs.inner.Sides.{SaysReply}
+use Rattle.std.proofs.Common.{◌≡◌, ℕ, zero, suc, ◌+◌, ◌-◌, ◌*◌, ◌^◌, ◌<◌, ◌≤◌, min, List, [], ◌∷◌, ◌++◌, Some, length, take, take_all, drop, get_or, slice_get, arith, refl, ap, inl, inr, subst, sym, ◌∙◌, append-nil, append_assoc, length-append, length-drop}
+use Rattle.std.proofs.lemmas.{List.{get_or-drop, length-take, take_more}, Option.{get_or_from_slice_get}}
+use Rattle.std.specs.Prelude.{◌⊎◌, IsSome}
+use Rattle.auction_rows.specs.ItemViews.{item_reply}
+use Rattle.auction_rows.specs.declared.replies.Reply.TheVariants.{BidsSeen, CategorySeen}
+use Rattle.auction_rows.specs.declared.replies.{Reply.Reply, ItemView.ItemView, BidShown.BidShown, ItemShown.ItemShown}
+use Rattle.worker_journals.specs.{Shown.{ShownLists, shown_in}, declared.heads.ShortReply.{ShortReply}}
+use Rattle.worker_journals.specs.declared.heads.UserSeen.{UserSeen as SeenUser}
+use Rattle.worker_journals.specs.inner.Sides.{SideLists, HasKept, SaysReply, with_shown}
 use Rattle.request_scripts.specs.ShortRequests.{HasListRoom}
 
 module _ {X : Type 0} (start shown : List X) (place : ℕ) where
@@ -61,6 +64,55 @@ part_left list start count place read within so_far few =
 -- What says a reply says an equal one.
 pub said_of : (lists : ShownLists) (short : ShortReply) (one other : Reply) → one ≡ other → SaysReply lists short one → SaysReply lists short other
 said_of lists short one other same says = subst (λ (reply : Reply). SaysReply lists short reply) same says
+
+-- What keeps a reply keeps an equal one.
+pub kept_of : (sides after : SideLists) (one other : Reply) → one ≡ other → HasKept sides one after → HasKept sides other after
+kept_of sides after one other same kept = subst (λ (reply : Reply). HasKept sides reply after) same kept
+
+-- one value more of a list from a place on is that of what a view shows
+pub one_alike : {X : Type 0} (list shown : List X) (start place : ℕ) (item value : X) → start + length shown ≤ length list → place < length shown →
+    item ≡ get_or list (start + place) item → slice_get shown place ≡ Some value → item ≡ value →
+    take place (drop start list) ≡ take place shown → take (place + 1) (drop start list) ≡ take (place + 1) shown
+one_alike list shown start place item value room within at there same so_far =
+    let inside : place < length (drop start list) = omega (arith, length-drop start list) in
+    let here : get_or (drop start list) place item ≡ item = get_or-drop start list place item ∙ sym at in
+    let told : get_or shown place item ≡ item = get_or_from_slice_get shown place value item there ∙ sym same in
+    take_more (drop start list) place item inside
+    ∙ ap (λ ys. ys ++ get_or (drop start list) place item ∷ []) so_far
+    ∙ ap (λ v. take place shown ++ v ∷ []) (here ∙ sym told)
+    ∙ sym (take_more shown place item within)
+
+-- ---- what lies in one of the lists already, or is put at its end
+
+module _ (items : List ItemView) (users : List SeenUser) (bids : List BidShown) (latest : List ItemShown) (left left' : ℕ) (sides : SideLists)
+    (is : record { lists = record { items = items; users = users; bids = bids; latest = latest }; left = left } ≡ sides) (less : left' ≡ left - 1) where
+  abbrev here : ShownLists
+  here = record { items = items; users = users; bids = bids; latest = latest }
+
+  -- it is kept there, and all else stays
+  lists_kept : (reply : Reply) (lists : ShownLists) → (lists ≡ here) ⊎ (lists ≡ with_shown here (shown_in reply)) → HasKept sides reply (record { lists = lists; left = left' })
+  lists_kept reply lists kept = subst (λ (s : SideLists). HasKept s reply (record { lists = lists; left = left' })) is (record { lists = kept; left = less })
+
+  pub item_kept : (seen : ItemView) (new : List ItemView) → (new ≡ items) ⊎ (new ≡ items ++ seen ∷ []) →
+      HasKept sides (item_reply seen) (record { lists = record { items = new; users = users; bids = bids; latest = latest }; left = left' })
+  item_kept seen new kept = lists_kept (item_reply seen) _ (elim kept [
+    | inl same ↦ inl (λ i. record { items = same i; users = users; bids = bids; latest = latest })
+    | inr put ↦ inr (λ i. record { items = put i; users = sym (append-nil users) i; bids = sym (append-nil bids) i; latest = sym (append-nil latest) i })
+  ])
+
+  pub bids_kept : (shown new : List BidShown) (reply : Reply) → reply ≡ BidsSeen shown → (new ≡ bids) ⊎ (new ≡ bids ++ shown) →
+      HasKept sides reply (record { lists = record { items = items; users = users; bids = new; latest = latest }; left = left' })
+  bids_kept shown new reply is_shown kept = kept_of _ _ _ _ (sym is_shown) (lists_kept (BidsSeen shown) _ (elim kept [
+    | inl same ↦ inl (λ i. record { items = items; users = users; bids = same i; latest = latest })
+    | inr put ↦ inr (λ i. record { items = sym (append-nil items) i; users = sym (append-nil users) i; bids = put i; latest = sym (append-nil latest) i })
+  ]))
+
+  pub latest_kept : (shown new : List ItemShown) (reply : Reply) → reply ≡ CategorySeen shown → (new ≡ latest) ⊎ (new ≡ latest ++ shown) →
+      HasKept sides reply (record { lists = record { items = items; users = users; bids = bids; latest = new }; left = left' })
+  latest_kept shown new reply is_shown kept = kept_of _ _ _ _ (sym is_shown) (lists_kept (CategorySeen shown) _ (elim kept [
+    | inl same ↦ inl (λ i. record { items = items; users = users; bids = bids; latest = same i })
+    | inr put ↦ inr (λ i. record { items = sym (append-nil items) i; users = sym (append-nil users) i; bids = sym (append-nil bids) i; latest = put i })
+  ]))
 
 -- ---- the room of new lists
 

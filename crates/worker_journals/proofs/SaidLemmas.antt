@@ -1,10 +1,10 @@
--- What a short reply says of values at the end of the side lists.
-use Rattle.std.proofs.Common.{◌≡◌, ◌≤◌, ℕ, List, [], ◌∷◌, ◌++◌, length, take, take_all, drop, sym, ap, ◌∙◌, arith, length-append}
-use Rattle.std.proofs.lemmas.List.{Prefix.{front_rest}, get_or_push}
+-- What a short reply says of values in the side lists.
+use Rattle.std.proofs.Common.{◌≡◌, ◌≤◌, ◌+◌, ℕ, List, [], ◌∷◌, Some, length, slice_get, take, drop, ap, ◌∙◌, arith}
+use Rattle.std.proofs.lemmas.Option.{get_or_from_slice_get, slice_get_within}
 use Rattle.auction_rows.specs.{ItemViews.{item_reply}, declared.limits.TheConstants.{MOST_SHOWN}}
 use Rattle.auction_rows.specs.declared.replies.Reply.TheVariants.{ItemSeen, BidsSeen, CategorySeen}
 use Rattle.auction_rows.specs.declared.replies.{Reply.Reply, ItemView.ItemView, BidShown.BidShown, ItemShown.ItemShown}
-use Rattle.worker_journals.specs.{Shown.{ShownLists, shown_in}, inner.Sides.{SaysReply, item_at}}
+use Rattle.worker_journals.specs.{Shown.{ShownLists, shown_in}, inner.Sides.{SaysReply, no_item}}
 use Rattle.worker_journals.specs.declared.heads.ShortReply.TheVariants as told
 use Rattle.worker_journals.specs.declared.heads.UserSeen.{UserSeen as SeenUser}
 
@@ -19,34 +19,26 @@ only_item reply seen e = absurd (cc)
 pub not_none : {X : Type 0} (xs : List X) (x : X) → [] ≡ xs → xs ≡ x ∷ [] → ⊥
 not_none xs x none one = absurd (cc)
 
-part_at_end : {X : Type 0} (list old shown : List X) (place count : ℕ) → list ≡ old ++ shown → place ≡ length old → count ≡ length shown →
-    take count (drop place list) ≡ shown
-part_at_end list old shown place count kept at all =
-    ap (λ n. take count (drop n list)) at
-    ∙ ap (take count) (front_rest list old shown kept)
-    ∙ take_all count shown (omega (arith, all))
-
 module _ (items : List ItemView) (users : List SeenUser) (bids : List BidShown) (latest : List ItemShown) (reply : Reply) (place : ℕ) where
   abbrev pub lists : ShownLists
   lists = record { items = items; users = users; bids = bids; latest = latest }
 
-  pub says_item : (old : List ItemView) (seen : ItemView) → items ≡ old ++ seen ∷ [] → place ≡ length old → item_reply seen ≡ reply →
-      SaysReply lists (told.ItemSeen place) reply
-  says_item old seen kept at is = record {
-    within = omega (arith, at, ap length kept, length-append old (seen ∷ []));
-    is = ap item_reply (ap (λ xs. item_at xs place) kept ∙ get_or_push old seen _ place (sym at)) ∙ is;
+  pub says_item : (seen : ItemView) → slice_get items place ≡ Some seen → item_reply seen ≡ reply → SaysReply lists (told.ItemSeen place) reply
+  says_item seen there is = record {
+    within = slice_get_within items place seen there;
+    is = ap item_reply (get_or_from_slice_get items place seen no_item there) ∙ is;
   }
 
-  pub says_bids : (old shown : List BidShown) (count : ℕ) → bids ≡ old ++ shown → place ≡ length old → count ≡ length shown → count ≤ MOST_SHOWN →
+  pub says_bids : (shown : List BidShown) (count : ℕ) → place + length shown ≤ length bids → take (length shown) (drop place bids) ≡ shown → count ≡ length shown → count ≤ MOST_SHOWN →
       BidsSeen shown ≡ reply → SaysReply lists (told.BidsSeen count place) reply
-  says_bids old shown count kept at all few is = record {
-    within = (few, omega (arith, at, all, ap length kept, length-append old shown));
-    is = ap BidsSeen (part_at_end bids old shown place count kept at all) ∙ is;
+  says_bids shown count within there all few is = record {
+    within = (few, omega (arith, all, within));
+    is = ap BidsSeen (ap (λ n. take n (drop place bids)) all ∙ there) ∙ is;
   }
 
-  pub says_latest : (old shown : List ItemShown) (count : ℕ) → latest ≡ old ++ shown → place ≡ length old → count ≡ length shown → count ≤ MOST_SHOWN →
+  pub says_latest : (shown : List ItemShown) (count : ℕ) → place + length shown ≤ length latest → take (length shown) (drop place latest) ≡ shown → count ≡ length shown → count ≤ MOST_SHOWN →
       CategorySeen shown ≡ reply → SaysReply lists (told.CategorySeen count place) reply
-  says_latest old shown count kept at all few is = record {
-    within = (few, omega (arith, at, all, ap length kept, length-append old shown));
-    is = ap CategorySeen (part_at_end latest old shown place count kept at all) ∙ is;
+  says_latest shown count within there all few is = record {
+    within = (few, omega (arith, all, within));
+    is = ap CategorySeen (ap (λ n. take n (drop place latest)) all ∙ there) ∙ is;
   }

@@ -8,6 +8,7 @@ mod head_list;
 mod heads;
 mod history;
 mod journal;
+mod lately;
 mod merge;
 mod sides;
 

@@ -1,17 +1,18 @@
 //! What a journal keeps beside its heads.
-ghost use Rattle.std.specs.Prelude.{◌≡◌, ◌+◌, ◌<◌, ◌≤◌, ◌++◌, length, take, drop, option_map, option_to_list, vec_len, vec_capacity, IfOk};
-ghost use Rattle.request_scripts.specs.ShortRequests.{HasListRoom};
+ghost use Rattle.std.specs.Prelude.{◌≡◌, ◌+◌, ◌<◌, ◌≤◌, length, take, drop, option_map, option_to_list, IfOk};
 ghost use Rattle.worker_journals.specs.Shown.{shown_in};
 
 use crate::entries::{Answer, ReplyForm};
 use crate::heads::{ShortReply, UserSeen};
+use crate::lately::{LATELY, Lately, keep_all_shown, keep_shown};
 use auction_rows::{BidShown, ItemShown, ItemView, MOST_SHOWN, Reply, Ten};
 use request_scripts::{SideIndex, emptied, keep_one};
 use std::alloc::{AllocError, Global};
 use std::marker::Model;
 use std::mem::replace;
 
-/// What the views of a journal show, with room for that of `left` commits more.
+/// What the views of a journal show, with room for that of `left` commits more. What was shown
+/// lately is not kept twice.
 #[derive(Drop)]
 pub(crate) struct Sides {
     items: Vec<ItemView>,
@@ -19,6 +20,7 @@ pub(crate) struct Sides {
     bids: Vec<BidShown>,
     latest: Vec<ItemShown>,
     left: usize,
+    lately: Lately,
 }
 
 impl Model for Sides {
@@ -47,7 +49,7 @@ impl Model for Sides {
 
 impl Sides {
     ghost use Rattle.auction_rows.specs.ItemViews.{item_reply};
-    ghost use Rattle.worker_journals.specs.inner.Sides.{HasReply, SaysReply, no_sides, reply_from, with_reply_of};
+    ghost use Rattle.worker_journals.specs.inner.Sides.{HasKept, HasReply, SaysReply, no_sides, reply_from};
 
     /// Empty lists without room.
     pub(crate) fn none(alloc: Global) -> Sides
@@ -59,6 +61,7 @@ impl Sides {
             bids: Vec::new(alloc),
             latest: Vec::new(alloc),
             left: 0,
+            lately: [SideIndex::of(0); LATELY],
         }
     }
 
@@ -77,6 +80,7 @@ impl Sides {
             bids,
             latest,
             left: _,
+            lately,
         } = self;
         // Past 64 bits there is no such room.
         let shown = room.saturating_mul(MOST_SHOWN);
@@ -86,6 +90,7 @@ impl Sides {
             bids: emptied(bids, shown)?,
             latest: emptied(latest, shown)?,
             left: room,
+            lately,
         })
     }
 
@@ -108,6 +113,7 @@ impl Sides {
             bids: close_list(&mut self.bids),
             latest: close_list(&mut self.latest),
             left: 0,
+            lately: self.lately,
         }
     }
 
@@ -116,7 +122,7 @@ impl Sides {
     #[inline(always)]
     pub(crate) fn keep(&mut self, reply: &Answer<'_>) -> ShortReply
         requires { 0 < self.old.left }
-        ensures kept { self.new ≡ with_reply_of self.old reply.now }
+        ensures kept { HasKept self.old reply.now self.new }
         ensures reply { SaysReply self.new.lists result reply.now }
     {
         match reply.form {
@@ -124,30 +130,30 @@ impl Sides {
                 self.left -= 1;
                 ShortReply::of_store(store)
             }
-            ReplyForm::Item(seen) => self.keep_item(*seen),
+            ReplyForm::Item(seen) => self.keep_item(seen),
             ReplyForm::Whole(whole) => self.keep_reply(whole),
         }
     }
 
     // As `keep`, of the view of an item, which shows this.
     #[inline(always)]
-    fn keep_item(&mut self, seen: ItemView) -> ShortReply
+    fn keep_item(&mut self, seen: &ItemView) -> ShortReply
         requires { 0 < self.old.left }
-        ensures kept { self.new ≡ with_reply_of self.old (item_reply seen) }
-        ensures reply { SaysReply self.new.lists result (item_reply seen) }
+        ensures kept { HasKept self.old (item_reply seen.now) self.new }
+        ensures reply { SaysReply self.new.lists result (item_reply seen.now) }
     {
         self.left -= 1;
-        ShortReply::ItemSeen(keep_one(&mut self.items, seen))
+        ShortReply::ItemSeen(keep_shown(&mut self.items, &mut self.lately, seen))
     }
 
     // As `keep`, of a whole reply.
     fn keep_reply(&mut self, reply: &Reply) -> ShortReply
         requires { 0 < self.old.left }
-        ensures kept { self.new ≡ with_reply_of self.old reply.now }
+        ensures kept { HasKept self.old reply.now self.new }
         ensures reply { SaysReply self.new.lists result reply.now }
     {
         if let Some(seen) = item_seen(reply) {
-            return self.keep_item(seen);
+            return self.keep_item(&seen);
         }
         self.left -= 1;
         match reply {
@@ -157,10 +163,12 @@ impl Sides {
             Reply::Bought(id) => ShortReply::Bought(*id),
             Reply::ItemSeen { .. } => unreachable!(),
             Reply::BidsSeen(shown) => {
-                ShortReply::BidsSeen(shown.len() as u8, keep_all(&mut self.bids, shown))
+                let place = keep_all_shown(&mut self.bids, &mut self.lately, shown);
+                ShortReply::BidsSeen(shown.len() as u8, place)
             }
             Reply::CategorySeen(shown) => {
-                ShortReply::CategorySeen(shown.len() as u8, keep_all(&mut self.latest, shown))
+                let place = keep_all_shown(&mut self.latest, &mut self.lately, shown);
+                ShortReply::CategorySeen(shown.len() as u8, place)
             }
             Reply::UserSeen { rating, comments } => {
                 let seen = UserSeen {
@@ -225,21 +233,6 @@ fn close_list<T: Copy>(list: &mut Vec<T>) -> Vec<T>
     }
     list.shrink_to_fit();
     none
-}
-
-// Puts the values that a view shows at the end of a list, and gives the place of the first. It
-// takes no memory.
-fn keep_all<T: Copy>(list: &mut Vec<T>, shown: &Ten<T>) -> SideIndex
-    requires { HasListRoom MOST_SHOWN (vec_len list.old) (vec_capacity list.old) }
-    ensures place { result ≡ vec_len list.old }
-    ensures kept { list.new.items ≡ list.old.items ++ shown.now }
-    ensures capacity { vec_capacity list.new ≡ vec_capacity list.old }
-{
-    let start = SideIndex::of(list.len());
-    for place in 0..shown.len() {
-        list.push_reserved(shown.get(place).unwrap());
-    }
-    start
 }
 
 // The values of a list from a place on, as a view shows them.

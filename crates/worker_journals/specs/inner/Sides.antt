@@ -1,7 +1,7 @@
 -- What a journal keeps beside its heads, and what is said with it.
-use Rattle.std.specs.Prelude.{◌≡◌, ℕ, pos, ◌+◌, ◌-◌, ◌<◌, ◌≤◌, List, [], ◌++◌, ⊤, None, length, take, drop, slice_index_or}
+use Rattle.std.specs.Prelude.{◌≡◌, ℕ, pos, ◌+◌, ◌-◌, ◌<◌, ◌≤◌, ◌⊎◌, List, [], ◌++◌, ⊤, None, length, take, drop, slice_index_or}
 use Rattle.auction_rows.specs.{ItemViews.{item_reply}, declared.limits.TheConstants.{MOST_SHOWN}}
-use Rattle.auction_rows.specs.declared.replies.Reply.TheVariants.{ItemStored, BidStored, CommentStored, Bought, ItemSeen, BidsSeen, CategorySeen, UserSeen, Refused}
+use Rattle.auction_rows.specs.declared.replies.Reply.TheVariants.{ItemStored, BidStored, CommentStored, Bought, BidsSeen, CategorySeen, UserSeen, Refused}
 use Rattle.auction_rows.specs.declared.{replies.Reply.Reply, replies.ItemView.ItemView}
 use Rattle.worker_journals.specs.Shown.{ShownLists, nothing_shown, shown_in}
 use Rattle.worker_journals.specs.declared.heads.ShortReply.{ShortReply}
@@ -10,7 +10,7 @@ use Rattle.worker_journals.specs.declared.heads.UserSeen.{UserSeen as SeenUser}
 
 -- the side lists of a journal
 pub record SideLists : Type 0 where
-  -- what its views show, one view after the other
+  -- what its views show
   pub lists : ShownLists
   -- for how many commits more there is room
   pub left : ℕ
@@ -28,10 +28,13 @@ with_shown lists more = record {
   latest = lists.latest ++ more.latest;
 }
 
--- the side lists after one commit more, with what its reply shows
-abbrev pub with_reply_of : SideLists → Reply → SideLists
-with_reply_of sides reply =
-    record { lists = with_shown sides.lists (shown_in reply); left = sides.left - 1 }
+-- one commit more is kept
+pub record HasKept (sides : SideLists) (reply : Reply) (after : SideLists) : Type 0 where
+  -- the lists stay as they are, or have what the reply shows at their ends
+  pub lists : (after.lists ≡ sides.lists)
+      ⊎ (after.lists ≡ with_shown sides.lists (shown_in reply))
+  -- the commit took a place
+  pub left : after.left ≡ sides.left - 1
 
 -- an item seen that no head says
 abbrev pub no_item : ItemView

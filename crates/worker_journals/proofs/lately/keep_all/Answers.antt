@@ -1,7 +1,7 @@
 use Rattle.std.proofs.Common.{arith, ◌<◌, ◌≤◌, ◌∙◌, length, lt_of_lt_of_le, refl, subst, sym, append-nil}
 use Rattle.std.specs.Prelude.{IsSome}
 use Rattle.worker_journals.proofs.KeptLemmas.{one_more, all_there, room_left, some_there}
-use Rattle.worker_journals.proofs.sides.keep_all.Goals as goal
+use Rattle.worker_journals.proofs.lately.keep_all.Goals as goal
 
 pub loop-place-init : goal.loop-place-init
 loop-place-init g c = record { items = sym (append-nil c.args.list.now.items); capacity = refl }
