@@ -59,6 +59,7 @@ impl<N: PhaseName> Worker<N> {
 
     /// Performs a bid of the quota, as `transact` does. If its item lies in a shard, it is found
     /// there once.
+    #[inline(always)]
     pub fn transact_bid<R: Wait>(
         &mut self,
         rt: &R,
