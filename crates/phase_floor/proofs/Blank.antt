@@ -1,4 +1,4 @@
--- Shards in which nothing is stored.
+-- Shards, and an auction, in which nothing is stored.
 use Rattle.std.proofs.Common.{◌≡◌, ℕ, suc, ◌+◌, ◌*◌, ◌<◌, ◌≤◌, List, [], length, map, replicate, refl, sym, ap, ◌∙◌, subst, arith, unsigned_abs}
 use Rattle.std.proofs.lemmas.{Int.{ints}, List.{length-map}}
 use Rattle.auction_rows.specs.declared.requests.Object.TheVariants.{Item, User}
@@ -12,7 +12,8 @@ use Rattle.phase_permits.specs.Replying.{CountsOf}
 use Rattle.phase_transactions.specs.Workers.{no_counters}
 use Rattle.auction_shards.specs.Making.{IsBlank, AreBlank}
 use Rattle.closing_laws.specs.Standing.{counters_at}
-use Rattle.phase_floor.specs.States.{joined_of, StandsFor, IsWithinMost, IsKept}
+use Rattle.phase_floor.specs.{Adding.{IsStartOf}, NextRun.{lasting}}
+use Rattle.phase_floor.specs.States.{JoinedState, joined_of, StandsFor, IsWithinMost, IsKept}
 
 -- a blank shard may open a phase
 opened_of_blank : (opening : Opening) (count n : ℕ) (state : ShardState) → IsBlank opening count n state → IsInitial count n state
@@ -27,7 +28,7 @@ opened_of_blank opening count n state h = record {
   };
 }
 
-pub none_counted : (workers w : ℕ) → counters_at (replicate workers no_counters) w ≡ no_counters
+none_counted : (workers w : ℕ) → counters_at (replicate workers no_counters) w ≡ no_counters
 none_counted (suc workers) (suc w) = none_counted workers w
 none_counted workers w = refl
 
@@ -61,3 +62,10 @@ module _ (opening : Opening) (limit : ℕ) (shards : List Shard) (counters : Lis
     most = λ w below. subst IsWithinMost (nothing w) (record { stored = omega arith; commits = omega arith });
     of_a_book = λ none. none [] tt tt blank_stands;
   }
+
+-- an auction in which nothing is stored, and that lasts
+pub new_start : (made last : JoinedState) (workers : ℕ) → made.counters ≡ replicate workers no_counters → StandsFor made [] → last ≡ lasting made → IsStartOf last []
+new_start made last workers counted stands is = subst (λ s. IsStartOf s []) (sym is) (record {
+  is_of = record { is_book = tt; own = λ k row low. absurd (omega (arith, low)); stands = stands };
+  counters = λ w below. ap (λ cs. counters_at cs w) counted ∙ none_counted workers w;
+})

@@ -2,4 +2,3 @@ pub mod ErrorLemmas
 pub mod NumberWords
 pub mod OpenedLogs
 pub mod ProgramWords
-pub mod StartLemmas

@@ -1,6 +1,7 @@
 use Rattle.std.proofs.Common.{◌∙◌, [], ap, length, refl, subst, sym}
 use Rattle.std.proofs.lemmas.List.{length-replicate}
-use Rattle.program_opening.{proofs.StartLemmas.{new_start}, specs.Options.{FitsOptions}}
+use Rattle.phase_floor.proofs.Blank.{new_start}
+use Rattle.program_opening.specs.Options.{FitsOptions}
 use Rattle.program_opening.proofs.opening.new_auction.Goals as goal
 
 pub returns-in-Ok-clause-start : goal.returns-in-Ok-clause-start

@@ -1,5 +1,5 @@
 use Rattle.std.proofs.Common.{[]}
-use Rattle.program_opening.proofs.StartLemmas.{new_start}
+use Rattle.phase_floor.proofs.Blank.{new_start}
 use Rattle.text_tests.proofs.logs.opening_tests.auction.Goals as goal
 
 pub returns-in-Ok-clause-start : goal.returns-in-Ok-clause-start
