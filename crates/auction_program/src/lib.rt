@@ -15,5 +15,5 @@ pub use program_opening::{
 };
 pub use program_serving::{
     ErrorPlace, ErrorWriter, LiveTeller, Log, LoggedInput, NoLog, Teller, parts_are_one_history,
-    push_fault_line, serve,
+    serve,
 };

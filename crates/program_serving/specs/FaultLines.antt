@@ -36,7 +36,3 @@ limit_text limit = labelled (codes "more than ") limit ++ codes " requests for a
 abbrev pub answer_line : ℕ → ℕ → List ℕ → List ℕ
 answer_line worker index words =
     decimal worker ++ labelled (codes ",") index ++ codes ",fault " ++ words ++ codes "\n"
-
--- the answer to such a line with this fault
-abbrev pub fault_line : ℕ → ℕ → ReadFault → List ℕ
-fault_line worker index fault = answer_line worker index (fault_text fault)

@@ -1,7 +1,7 @@
 //! The answers to lines that are turned away, which have a fault or are past a limit.
 ghost use Rattle.std.specs.Prelude.{◌≡◌, ◌++◌, IfErr, IfOk, OnOk};
 ghost use Rattle.auction_text.specs.Moved.{gone_by};
-ghost use Rattle.program_serving.specs.FaultLines.{answer_line, cause_text, fault_line, fault_text, record_text};
+ghost use Rattle.program_serving.specs.FaultLines.{answer_line, cause_text, fault_text, record_text};
 ghost use Rattle.program_serving.specs.inner.Sessions.{answer_to, turned_text};
 
 use auction_text::{Before, Cause, MOST_RECORDS, ReadFault};
@@ -97,19 +97,6 @@ fn push_answer(
     push_text(text, b",fault ")?;
     push_turned(text, turned)?;
     push_text(text, b"\n")
-}
-
-/// Adds the answer to a worker's line with a fault: the worker, the index that its next request
-/// will have, and the fault.
-pub fn push_fault_line(
-    text: &mut Vec<u8>,
-    worker: u32,
-    index: u64,
-    fault: ReadFault,
-) -> Result<(), AllocError>
-    ensures { OnOk result (text.new.items ≡ text.old.items ++ fault_line worker index fault) }
-{
-    push_answer(text, worker, index, Turned::Line(fault))
 }
 
 /// The answer to a line that is turned away: none if it names no worker, or no replies are asked

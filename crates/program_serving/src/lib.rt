@@ -10,7 +10,6 @@ mod session;
 mod telling;
 
 pub use error_place::{ErrorPlace, ErrorWriter};
-pub use fault_lines::push_fault_line;
 pub use part_log::{Log, NoLog, Teller};
 pub use session::{LoggedInput, parts_are_one_history, serve};
 pub use telling::LiveTeller;
