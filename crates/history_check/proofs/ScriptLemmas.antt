@@ -81,10 +81,6 @@ mark_made rows worker index row is within below w i =
     let same : row ≡ get_or rows index [] = is ∙ get_or_default rows index row [] within in
     ap (λ r. is_marked (set rows index (set r worker true)) w i) same ∙ marked_next rows worker index within (omega (arith, below, ap length same)) w i
 
-pub unmarked : (rows : List (List Bool)) (worker index : ℕ) (row : List Bool) → row ≡ get_or rows index row → index < length rows
-    → get_or row worker false ≡ is_marked rows worker index
-unmarked rows worker index row is within = ap (λ r. get_or r worker false) (is ∙ get_or_default rows index row [] within)
-
 pub wide_at : (rows : List (List Bool)) (i : ℕ) (row : List Bool) → AreWide rows → i < length rows → row ≡ get_or rows i row → length row ≡ 16
 wide_at rows i row wide less is = ap length (is ∙ get_or_default rows i row [] less) ∙ wide i less
 

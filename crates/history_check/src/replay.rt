@@ -239,7 +239,7 @@ impl Replay {
         }
     }
 
-    // Keeps why a line is wrong, and returns that it is not right.
+    // Remembers why a line is wrong, and returns that it is not right.
     #[cold]
     fn refuse(&mut self, wrong: Wrong) -> bool
         ensures refused { result ≡ false }
@@ -262,7 +262,7 @@ impl Replay {
                 .is_late(commit_id.worker as usize, commit_id.index)
     }
 
-    // Whether a text is that of the reply to a store. If not, it is kept that this reply was due.
+    // Whether a text is that of the reply to a store. Otherwise remembers the reply that was due.
     fn is_stored(&mut self, reply: StoreReply, text: &[u8]) -> bool
         ensures compared { HasCompared result (reply_of reply) text.now self.new }
         ensures others { self.new ≡ record self.old { due = self.new.due; wrong = self.new.wrong } }
@@ -273,7 +273,7 @@ impl Replay {
         self.refuse(Wrong::Due(reply_of(reply)))
     }
 
-    // Whether a text is that of the reply to a view. If not, it is kept that this reply was due.
+    // Whether a text is that of the reply to a view. Otherwise remembers the reply that was due.
     #[inline(never)]
     fn is_seen(&mut self, worker: u32, request: &Request, text: &[u8]) -> bool
         requires { worker < MOST_WORKERS }
@@ -288,8 +288,8 @@ impl Replay {
         self.refuse(Wrong::Due(reply))
     }
 
-    // Performs a request, and returns whether a text is that of the reply. If not, it is kept that
-    // this reply was due.
+    // Performs a request, and returns whether a text is that of the reply. Otherwise remembers the
+    // reply that was due.
     fn is_due(&mut self, worker: u32, request: &Request, text: &[u8]) -> Result<bool, AllocError>
         requires worker { worker < MOST_WORKERS }
         requires room { CanGrow self.old.auction }
