@@ -19,7 +19,7 @@ mod one_shard_tests;
 #[cfg(test)]
 mod part_tests;
 #[cfg(test)]
-mod phase_tests;
+mod quota_tests;
 #[cfg(test)]
 mod refusal_tests;
 #[cfg(test)]
