@@ -15,6 +15,7 @@ pub use Rattle.live_reading.specs.declared.live_lines.Said
 pub use Rattle.live_reading.specs.declared.live_parts.LiveEnd
 pub use Rattle.live_reading.specs.declared.live_parts.LiveInput
 pub use Rattle.live_reading.specs.declared.live_parts.LivePart
+pub use Rattle.record_reading.specs.Causes
 pub use Rattle.record_reading.specs.Fields
 pub use Rattle.record_reading.specs.Kinds
 pub use Rattle.record_reading.specs.Lines

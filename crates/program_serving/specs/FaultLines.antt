@@ -1,20 +1,8 @@
 -- The texts of faults and limits, and the answers to lines that are turned away.
 use Rattle.std.specs.Prelude.{ℕ, List, ◌++◌, codes, decimal}
-use Rattle.auction_text.specs.{Cause.{Cause}, InputLimits.{MOST_RECORDS}, ReadFault.{ReadFault}}
-use Rattle.auction_text.specs.Cause.TheVariants as cause
+use Rattle.auction_text.specs.{Causes.{cause_text}, InputLimits.{MOST_RECORDS}, ReadFault.{ReadFault}}
 use Rattle.auction_text.specs.ReadFault.TheVariants as fault
 use Rattle.byte_texts.specs.Labels.{labelled}
-
-abbrev pub cause_text : Cause → List ℕ
-cause_text cause.Number = codes "not a number"
-cause_text cause.Kind = codes "unknown kind"
-cause_text cause.Late = codes "row after a request"
-cause_text cause.Fields = codes "wrong number of fields"
-cause_text cause.Item = codes "not an item id"
-cause_text cause.Name = codes "not a name"
-cause_text cause.Quantity = codes "not a quantity"
-cause_text cause.Stars = codes "not stars"
-cause_text cause.Long = codes "too long"
 
 -- what is wrong with the record of this number
 abbrev pub record_text : ℕ → List ℕ → List ℕ

@@ -1,10 +1,10 @@
 //! The answers to lines that are turned away, which have a fault or are past a limit.
 ghost use Rattle.std.specs.Prelude.{◌≡◌, ◌++◌, IfErr, IfOk, OnOk};
 ghost use Rattle.auction_text.specs.Moved.{gone_by};
-ghost use Rattle.program_serving.specs.FaultLines.{answer_line, cause_text, fault_text, record_text};
+ghost use Rattle.program_serving.specs.FaultLines.{answer_line, fault_text, record_text};
 ghost use Rattle.program_serving.specs.inner.Sessions.{answer_to, turned_text};
 
-use auction_text::{Before, Cause, MOST_RECORDS, ReadFault};
+use auction_text::{Before, MOST_RECORDS, ReadFault};
 use byte_texts::{WriteFault, push_labelled, push_number, push_text};
 use program_opening::{Fault, Options};
 use std::alloc::{AllocError, Global};
@@ -27,22 +27,6 @@ pub(crate) struct TurnedLine {
     pub(crate) turned: Turned,
 }
 
-fn text_of_cause(cause: Cause) -> &'static [u8]
-    ensures { result.now ≡ cause_text cause }
-{
-    match cause {
-        Cause::Number => b"not a number",
-        Cause::Kind => b"unknown kind",
-        Cause::Late => b"row after a request",
-        Cause::Fields => b"wrong number of fields",
-        Cause::Item => b"not an item id",
-        Cause::Name => b"not a name",
-        Cause::Quantity => b"not a quantity",
-        Cause::Stars => b"not stars",
-        Cause::Long => b"too long",
-    }
-}
-
 // Adds the number of a record, and what is wrong with it.
 fn push_record(text: &mut Vec<u8>, place: u64, words: &[u8]) -> Result<(), AllocError>
     ensures { OnOk result (text.new.items
@@ -58,7 +42,7 @@ fn push_fault(text: &mut Vec<u8>, fault: ReadFault) -> Result<(), AllocError>
     ensures { OnOk result (text.new.items ≡ text.old.items ++ fault_text fault) }
 {
     match fault {
-        ReadFault::Line(place, cause) => push_record(text, place, text_of_cause(cause)),
+        ReadFault::Line(place, cause) => push_record(text, place, cause.text().as_bytes()),
         ReadFault::Worker(place) => push_record(text, place, b"no such worker"),
         ReadFault::Read => push_text(text, b"input cannot be read"),
         ReadFault::Memory => push_text(text, b"no memory"),

@@ -1,5 +1,6 @@
 pub mod inner
 pub mod Asking
+pub mod Causes
 pub mod Fields
 pub mod Kinds
 pub mod Lines

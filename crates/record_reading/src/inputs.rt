@@ -85,34 +85,47 @@ impl CompactInput {
 
 /// What is wrong with a record.
 #[derive(Clone, Copy, Debug, PartialEq, Eq, Drop, Error)]
+#[error("{text}", text = Cause::text(*self))]
 pub enum Cause {
     /// A field is not a number of its type.
-    #[error("not a number")]
     Number,
     /// The second field is not a kind.
-    #[error("unknown kind")]
     Kind,
     /// A row stands after a request.
-    #[error("row after a request")]
     Late,
     /// There are more or fewer fields than the kind has.
-    #[error("wrong number of fields")]
     Fields,
     /// A field is not an item's id.
-    #[error("not an item id")]
     Item,
     /// A field is not a name.
-    #[error("not a name")]
     Name,
     /// A field is not a number from 1 to 1,000,000.
-    #[error("not a quantity")]
     Quantity,
     /// A field is not a number from -5 to 5.
-    #[error("not stars")]
     Stars,
     /// A line has more bytes than are read at a time.
-    #[error("too long")]
     Long,
+}
+
+impl Cause {
+    ghost use Rattle.record_reading.specs.Causes.{cause_text};
+
+    /// Its words in the line of a fault.
+    pub fn text(self) -> &'static str
+        ensures { result.now ≡ cause_text self }
+    {
+        match self {
+            Cause::Number => "not a number",
+            Cause::Kind => "unknown kind",
+            Cause::Late => "row after a request",
+            Cause::Fields => "wrong number of fields",
+            Cause::Item => "not an item id",
+            Cause::Name => "not a name",
+            Cause::Quantity => "not a quantity",
+            Cause::Stars => "not stars",
+            Cause::Long => "too long",
+        }
+    }
 }
 
 /// Why an input gives no scripts. Records are counted from 1.
