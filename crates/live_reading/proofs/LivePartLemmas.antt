@@ -87,14 +87,13 @@ module _ {R : Type 0} (rem : R → Option (List ℕ)) (all : List Said) (taken :
   ]
 
   abbrev its_part : LineStop → LivePart R
-  its_part how = record { input = taken.input; requests = taken.requests; end = end_at how (left_after taken lines) }
+  its_part how = record { input = taken.input; end = end_at how (left_after taken lines) }
 
   -- the part that ends where the taking stopped
   part_at : (how : LineStop) → StopsAt all taken how to → (how ≡ stop.Full → MayEnd taken) → IsLivePart rem taken.workers taken.most all (its_part how)
   part_at stop.Full is some = record {
     said = is.said;
     asked = ask_is taken.workers is.said (asked_of taken.input) is.asked;
-    requests = is.requests;
     few = subst (λ (n : ℕ). n ≤ taken.most) is.requests taken.few;
     few_rows = omega (arith, rows_taken is.said is.asked, taken.few_rows);
     goes_on = (yet_said taken to, (may_end is.said is.requests (rows_taken is.said is.asked) (some refl), (is.front, goes_on_with is.said is.requests)));
@@ -102,7 +101,6 @@ module _ {R : Type 0} (rem : R → Option (List ℕ)) (all : List Said) (taken :
   part_at (stop.Fault fault) is some = record {
     said = is.said;
     asked = ask_is taken.workers is.said (asked_of taken.input) is.asked;
-    requests = is.requests;
     few = subst (λ (n : ℕ). n ≤ taken.most) is.requests taken.few;
     few_rows = omega (arith, rows_taken is.said is.asked, taken.few_rows);
     goes_on = (yet_said taken to, (is.front, goes_on_with is.said is.requests));
@@ -110,7 +108,6 @@ module _ {R : Type 0} (rem : R → Option (List ℕ)) (all : List Said) (taken :
   part_at stop.End is some = record {
     said = is.said;
     asked = ask_is taken.workers is.said (asked_of taken.input) is.asked;
-    requests = is.requests;
     few = subst (λ (n : ℕ). n ≤ taken.most) is.requests taken.few;
     few_rows = omega (arith, rows_taken is.said is.asked, taken.few_rows);
     goes_on = is.front ∙ append-nil (records_said is.said);

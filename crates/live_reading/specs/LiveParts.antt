@@ -68,7 +68,6 @@ pub record IsLivePart {R : Type 0} (remaining : R → Option (List ℕ)) (worker
     (all : List Said) (part : LivePart R) : Type 0 where
   pub said : List Record
   pub asked : asked_of part.input ≡ asked_in workers said
-  pub requests : part.requests ≡ requests_in said
   pub few : requests_in said ≤ most
   pub few_rows : length (rows said) ≤ MOST_ROWS_OF_A_PART
   pub goes_on : GoesOnAfter remaining all said part.end

@@ -43,8 +43,6 @@ pub enum LiveEnd<R> {
 pub struct LivePart<R> {
     /// What its records ask for.
     pub input: CompactInput,
-    /// How many of them are requests.
-    pub requests: u32,
     /// How the input goes on.
     pub end: LiveEnd<R>,
 }
@@ -69,17 +67,13 @@ fn unmarked<R: Read + Drop>(
 
 // The part that was taken, after which the input goes on with these lines.
 fn part_before<R: Drop>(taken: Taken, lines: LineBuffer<R>, stop: LineStop) -> LivePart<R>
-    ensures { result ≡ record {
-      input = taken.input;
-      requests = taken.requests;
-      end = end_at stop (left_after taken lines);
-    } }
+    ensures { result ≡ record { input = taken.input; end = end_at stop (left_after taken lines) } }
 {
     let Taken {
         workers,
         most: _,
         input,
-        requests,
+        requests: _,
         count,
         begun,
     } = taken;
@@ -95,11 +89,7 @@ fn part_before<R: Drop>(taken: Taken, lines: LineBuffer<R>, stop: LineStop) -> L
         LineStop::Fault(fault) => LiveEnd::Fault(fault, left),
         LineStop::End => LiveEnd::All,
     };
-    LivePart {
-        input,
-        requests,
-        end,
-    }
+    LivePart { input, end }
 }
 
 impl<R: Read + Drop> LiveInput<R> {

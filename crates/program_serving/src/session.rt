@@ -159,11 +159,7 @@ fn serve_next<R: Threads + Wait + Sync, I: Read + Drop, L: Log, W: Write, E: Err
     let Some(left) = pass_fault(alloc, teller, options, &served.before, end)? else {
         return Ok(None);
     };
-    let LivePart {
-        input,
-        requests: _,
-        end,
-    } = left.next_part(alloc, most_of_a_part(options, &served.auction))?;
+    let LivePart { input, end } = left.next_part(alloc, most_of_a_part(options, &served.auction))?;
     let part = NextPart { served, input };
     let done = serve_part(rt, alloc, teller, part, options)?;
     tell_past(alloc, teller, options, &done)?;

@@ -7,7 +7,7 @@ use Rattle.live_reading.specs.inner.Taking.{end_at, left_after}
 use Rattle.live_reading.proofs.live_parts.part_before.Goals as goal
 
 abbrev part : {R : Type 0} → Taken → LiveEnd R → LivePart R
-part taken end = record { input = taken.input; requests = taken.requests; end = end }
+part taken end = record { input = taken.input; end = end }
 
 pub returns : goal.returns
 returns g c =
