@@ -1,6 +1,6 @@
 -- The calls that workers commit, and those that wait, are of their scripts.
-use Rattle.std.proofs.Common.{◌≡◌, ◌<◌, ◌∙◌, ℕ, suc, Bool, true, false, not, ◌⊎◌, inl, inr, List, [], ◌∷◌, ◌++◌, Some, map, length, drop, sym, ap, subst, arith}
-use Rattle.std.proofs.lemmas.{Bool.{cases_Bool}, Option.{same_Some}}
+use Rattle.std.proofs.Common.{◌≡◌, ◌<◌, ◌∙◌, ℕ, suc, Bool, true, false, not, ◌⊎◌, inl, inr, List, [], ◌∷◌, ◌++◌, map, length, drop, sym, ap, subst, arith}
+use Rattle.std.proofs.lemmas.Bool.{cases_Bool}
 use Rattle.std.specs.List.{AllByRecursion, filter}
 use Rattle.auction_rows.specs.Phases.{is_put_off}
 use Rattle.auction_rows.specs.declared.{limits.Policy.Policy, requests.Object.Object, requests.Request.Request, rows.Entry.Entry}
@@ -15,10 +15,6 @@ use Rattle.closing_laws.specs.Phases.{journal_of, receipt_at}
 use Rattle.phase_workers.specs.Tasks.{HasDoneTask, task, to_do}
 use Rattle.phase_workers.specs.Working.{calls_from, committed, hot_for, stashed, taken}
 use Rattle.run_phases.specs.inner.Plans.{IsCallOf}
-
--- what holds of the one value holds of the other
-pub of_some : {X : Type 0} (x y : X) → Some x ≡ Some y → (P : X → Type 0) → P x → P y
-of_some x y is P here = subst P (same_Some x y is) here
 
 -- calls from an index on are the script's
 calls_are_of : (first count : ℕ) (script : List Request) → AllByRecursion (IsCallOf script) (calls_from first count script)

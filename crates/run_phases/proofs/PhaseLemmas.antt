@@ -25,9 +25,7 @@ use Rattle.phase_floor.specs.States.{JoinedState, states_of, StandsFor}
 use Rattle.phase_floor.specs.declared.floor.BeginFault.{BeginFault}
 use Rattle.phase_floor.specs.declared.floor.BeginFault.TheVariants.{UnknownHot, TooLong, Memory}
 use Rattle.run_phases.proofs.{AskedLemmas.{all_journals, done_asked}, ScriptLemmas.{past_stashes}}
-use Rattle.run_phases.specs.{Phases.{told, IsMet}, inner.Closed.{HasClosedPhase}}
-use Rattle.job_threads.specs.{Threads.{IsUnstarted}, declared.fault.JobFault.{JobFault}}
-use Rattle.job_threads.specs.declared.fault.JobFault.TheVariants as job
+use Rattle.run_phases.specs.{Phases.{told}, inner.Closed.{HasClosedPhase}}
 use Rattle.run_phases.specs.inner.Plans.{IsCallOf, MayPerform, waiting_in, quota_of}
 use Rattle.run_phases.specs.inner.Serving.{CanPerform, HasBegunPhase, HasEnded}
 use Rattle.phase_workers.proofs.WorkLemmas.{cold_kept, cold_off}
@@ -83,11 +81,6 @@ given_quotas policy scripts phase first given quotas split is at same are w less
     ∙ ap (λ b. min (cond b policy.split_quota policy.joined_quota) (length (script_of scripts w) - first_index policy phase)) (sym is)
 
 -- ---- the answer of a phase
-
--- why no receipts are left is told
-pub unstarted_met : (scripts : List (List Request)) (fault : JobFault) → IsUnstarted (length scripts) fault → IsMet scripts (told fault)
-unstarted_met scripts job.Spawn is = is
-unstarted_met scripts job.Memory is = tt
 
 -- where numbers suffice no worker met their end
 pub none_met_the_end : (takes : Bool) (initial : List ShardState) (given : List Task) (receipts : List WorkerState) → IsFirstFault takes initial given receipts permit.NumberFull →
