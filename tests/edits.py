@@ -20,6 +20,7 @@ from dataclasses import dataclass
 from pathlib import Path
 from subprocess import CompletedProcess
 from tempfile import TemporaryDirectory
+from threading import Thread
 from types import ModuleType
 from typing import Any, Iterator
 
@@ -208,13 +209,16 @@ def changed_since(commit: str, crates: list[Any]) -> list[Any]:
 def stop_if_interrupted(rt: ModuleType) -> None:
     """Has an interruption end all checks, also those to come: each edit that is left is told to be not tried."""
     group = int(subprocess.check_output([*rt.rtlib.guarded(), "cut", "-d ", "-f5", "/proc/self/stat"]))
+    interruptions = {signal.SIGINT, signal.SIGTERM}
 
-    def stop(*_: object) -> None:
+    def stop() -> None:
+        signal.sigwait(interruptions)
         rt.checked = lambda *_: CompletedProcess([], -signal.SIGINT, "interrupted")
         os.killpg(group, signal.SIGKILL)
 
-    for number in (signal.SIGINT, signal.SIGTERM):
-        signal.signal(number, stop)
+    # One that comes just before the main thread waits for a result would wake it only with that result.
+    signal.pthread_sigmask(signal.SIG_BLOCK, interruptions)
+    Thread(target=stop, daemon=True).start()
 
 
 def main() -> None:
