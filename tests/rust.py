@@ -70,13 +70,13 @@ def says_what_to_install(tally: Tally) -> None:
     """machines without cargo, with an old one, or without crates of others: a line says what to install"""
     told = re.search(r"(?m)^    (apt-get install (?:librust-[a-z-]+-dev ?)+)$", (DOCUMENTS / "RUST.md").read_text())
     rust = "install Rust 1.89 or later, by https://rustup.rs"
-    crates = f"`{told and told[1]}`, or `rust/build fetch` fetches them from crates.io"
+    missing = "crates of others are missing, and crates.io is not reached"
     with tempfile.TemporaryDirectory() as folder:
         cargo = Path(folder, "cargo")
         for script, said in (
             ("exit 1", f"there is no cargo: {rust}"),
             ("echo cargo 1.85.1 x", f"cargo 1.85.1 is too old: {rust}"),
-            ('[ "$1" = --version ] && echo cargo 1.99.0 x', f"crates of others are missing: {crates}"),
+            ('[ "$1" = --version ] && echo cargo 1.99.0 x', f"{missing}: `{told and told[1]}`"),
         ):
             cargo.write_text(f"#!/bin/sh\n{script}\n")
             cargo.chmod(0o755)
